@@ -1,0 +1,7 @@
+-- Laws of circles, links and rings.
+pub mod Circles
+pub mod Counting
+pub mod Linking
+pub mod Placing
+pub mod Walking
+pub mod Mapping

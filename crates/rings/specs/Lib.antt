@@ -1,0 +1,7 @@
+-- Definitions of circles, links and rings.
+pub mod Circle
+pub mod Count
+pub mod Links
+pub mod Place
+pub mod Walk
+pub mod Progress

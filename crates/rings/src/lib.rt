@@ -1,0 +1,1 @@
+// Circles and links: definitions and laws for the crates above. No code.
