@@ -1,0 +1,9 @@
+-- Laws of whole numbers and of floats that hold them, lowest first.
+pub mod Size
+pub mod Parts
+pub mod Linear
+pub mod Poly
+pub mod Fractions
+pub mod Floats
+pub mod Bounds
+pub mod Quotient

@@ -1,0 +1,2 @@
+-- What it is for a float to hold a whole number.
+pub mod Num
