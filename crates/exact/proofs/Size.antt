@@ -4,7 +4,7 @@ use mathlib.Core.Bool.{Bool, true, false, cond, true≢false, false≢true}
 use Prim.Native.Nat.{ℕ, zero, suc, _+_, _-_, _*_, _≤_, _<_, _^_}
 use native.Mathlib.Nat.{le-refl, le-trans, le-of-eq, mul-le-mul-left, mul-le-mul-right, lt-of-le-of-lt}
 use native.Mathlib.Omega.{arith}
-use borrow.Author.Tests.{ltb-true, eqb-true, eqb-false, eq-eqb, ne-eqb}
+use borrow.Author.Tests.{ltb-true, eqb-true, eq-eqb, ne-eqb}
 use lib.Dec.{T, ltb, eqb, ltb→lt}
 use lib.IntN.{ℤ, pos, negsuc, negℤ, natAbs, subℕ, _+ℤ_, _-ℤ_, _*ℤ_}
 use mir.Syntax.{Width, w64}
@@ -88,29 +88,6 @@ module _ {p q m n : ℕ} {a b : ℤ} (h : Holds p a m) (k : Holds q b n) (s : T 
   pub mul-holds : Holds (ofZ w64 (toZ w64 p *ℤ toZ w64 q)) (a *ℤ b) (m * n)
   mul-holds = record { is = rw (reads h s, reads k t); within = mul-within a b m n (h .within) (k .within) }
 
--- equal bits, equal numbers
-bits-eqZ : (a b : ℤ) → SFits w64 a → SFits w64 b → eqb (ofZ w64 a) (ofZ w64 b) ≡ eqZ a b
-bits-eqZ (pos a) (pos b) h k = refl
-bits-eqZ (pos a) (negsuc b) h k = ne-eqb a (2 ^ 64 - suc b) (λ e. apart a b (h .sfits) (k .sfits) e)
-  where
-    apart : (a b : ℕ) → a < 2 ^ 63 → b < 2 ^ 63 → a ≡ 2 ^ 64 - suc b → ⊥
-    apart a b h k e = omega arith
-bits-eqZ (negsuc a) (pos b) h k = ne-eqb (2 ^ 64 - suc a) b (λ e. apart a b (h .sfits) (k .sfits) e)
-  where
-    apart : (a b : ℕ) → a < 2 ^ 63 → b < 2 ^ 63 → 2 ^ 64 - suc a ≡ b → ⊥
-    apart a b h k e = omega arith
-bits-eqZ (negsuc a) (negsuc b) h k = go (eqb a b) (eqb-true a b) (eqb-false a b)
-  where
-    same : (a b : ℕ) → a < 2 ^ 63 → b < 2 ^ 63 → 2 ^ 64 - suc a ≡ 2 ^ 64 - suc b → a ≡ b
-    same a b h k e = omega arith
-
-    go : (t : Bool) → (t ≡ true → a ≡ b) → (t ≡ false → a ≡ b → ⊥) → eqb (2 ^ 64 - suc a) (2 ^ 64 - suc b) ≡ t
-    go true y n = eq-eqb (2 ^ 64 - suc a) (2 ^ 64 - suc b) (ap (λ (x : ℕ). 2 ^ 64 - suc x) (y refl))
-    go false y n = ne-eqb (2 ^ 64 - suc a) (2 ^ 64 - suc b) (λ e. n refl (same a b (h .sfits) (k .sfits) e))
-
-pub eq-holds : {p q m n : ℕ} {a b : ℤ} → Holds p a m → Holds q b n → T (ltb m (2 ^ 63)) → T (ltb n (2 ^ 63)) → eqb p q ≡ eqZ a b
-eq-holds {a = a} {b} h k s t = rw (h .is, k .is) (bits-eqZ a b (fits (h .within) s) (fits (k .within) t))
-
 -- ---- the test eqZ
 pub eqZ-true : (a b : ℤ) → eqZ a b ≡ true → a ≡ b
 eqZ-true (pos a) (pos b) e = ap pos (eqb-true a b e)
@@ -134,3 +111,14 @@ ne-eqZ a b f = go (eqZ a b) (eqZ-true a b)
     go : (t : Bool) → (t ≡ true → a ≡ b) → t ≡ false
     go true y = absurd (f (y refl))
     go false y = refl
+
+-- equal bits, equal numbers
+pub bits-eqZ : (w : Width) (a b : ℤ) → SFits w a → SFits w b → eqb (ofZ w a) (ofZ w b) ≡ eqZ a b
+bits-eqZ w a b h k = go (eqZ a b) (eqZ-true a b) (eqZ-false a b)
+  where
+    go : (t : Bool) → (t ≡ true → a ≡ b) → (t ≡ false → a ≡ b → ⊥) → eqb (ofZ w a) (ofZ w b) ≡ t
+    go true y n = eq-eqb (ofZ w a) (ofZ w b) (ap (ofZ w) (y refl))
+    go false y n = ne-eqb (ofZ w a) (ofZ w b) (λ e. n refl (sym (toZ-ofZ h) ∙ ap (toZ w) e ∙ toZ-ofZ k))
+
+pub eq-holds : {p q m n : ℕ} {a b : ℤ} → Holds p a m → Holds q b n → T (ltb m (2 ^ 63)) → T (ltb n (2 ^ 63)) → eqb p q ≡ eqZ a b
+eq-holds {a = a} {b} h k s t = rw (h .is, k .is) (bits-eqZ w64 a b (fits (h .within) s) (fits (k .within) t))

@@ -1,0 +1,60 @@
+-- The definitions computed on document 01's listing: the crossing of its ring, and of the ring with (0,20) for (0,12). Assumes nothing.
+use mathlib.Core.Path.{_≡_, refl}
+use mathlib.Core.Bool.{true, false}
+use mathlib.Core.List.{[], _∷_}
+use Prim.Native.Nat.{ℕ}
+use lib.IntN.{pos, negsuc}
+use lib.Ieee.{round, units, odd, climb, span, size, add, sum, mul, ofInt, toSigned}
+use Rattle.geometry.specs.declared.Point.{Point}
+use Rattle.geometry.specs.Plane.{samePoint, isCollinear, dotProductThreePoints, areaTriangle, areaOutpt, ptsReallyClose, isVerySmallTriangle, removable, strictlyWithin, segmentsIntersect}
+use Rattle.geometry.specs.Crossing.{fractionOf, crossing, coordinateAt, getSegmentIntersectPt, crossingPoint}
+
+abbrev pt : ℕ → ℕ → Point
+pt x y = record { x = pos x; y = pos y }
+
+cross-listing : segmentsIntersect (pt 0 0) (pt 10 10) (pt 10 0) (pt 0 12) ≡ true
+unfolding segmentsIntersect strictlyWithin
+cross-listing = refl
+
+at-listing : crossingPoint (pt 0 0) (pt 10 10) (pt 10 0) (pt 0 12) ≡ pt 5 5
+unfolding getSegmentIntersectPt crossing fractionOf coordinateAt round units odd climb span size add sum mul ofInt toSigned
+at-listing = refl
+
+at-twenty : crossingPoint (pt 0 0) (pt 10 10) (pt 10 0) (pt 0 20) ≡ pt 6 6
+unfolding getSegmentIntersectPt crossing fractionOf coordinateAt round units odd climb span size add sum mul ofInt toSigned
+at-twenty = refl
+
+-- the listing's two doubled areas
+area-piece : areaOutpt (pt 5 5 ∷ pt 0 12 ∷ pt 0 0 ∷ []) ≡ pos 60
+unfolding areaOutpt
+area-piece = refl
+
+area-hole : areaOutpt (pt 10 10 ∷ pt 10 0 ∷ pt 5 5 ∷ []) ≡ negsuc 49
+unfolding areaOutpt
+area-hole = refl
+
+area-hole-triangle : areaTriangle (pt 5 5) (pt 10 10) (pt 10 0) ≡ negsuc 49
+unfolding areaTriangle
+area-hole-triangle = refl
+
+-- "Add (5,0): gone; kept with bit 0", and a spike is removed with either setting
+gone : removable false (pt 0 0) (pt 5 0) (pt 10 0) ≡ true
+unfolding removable isCollinear samePoint dotProductThreePoints
+gone = refl
+
+kept : removable true (pt 0 0) (pt 5 0) (pt 10 0) ≡ false
+unfolding removable isCollinear samePoint dotProductThreePoints
+kept = refl
+
+spike : removable true (pt 0 0) (pt 10 0) (pt 5 0) ≡ true
+unfolding removable isCollinear samePoint dotProductThreePoints
+spike = refl
+
+-- "triangle (0,0) (1,1) (50,0): nothing. (0,0) (2,0) (1,50): kept"
+small : isVerySmallTriangle (pt 0 0) (pt 1 1) (pt 50 0) ≡ true
+unfolding isVerySmallTriangle ptsReallyClose
+small = refl
+
+large : isVerySmallTriangle (pt 0 0) (pt 2 0) (pt 1 50) ≡ false
+unfolding isVerySmallTriangle ptsReallyClose
+large = refl

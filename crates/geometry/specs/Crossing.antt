@@ -1,0 +1,65 @@
+-- Where two edges cross: document 01, "Edge crossing"; `get_segment_intersect_pt` of core.rs. Whole numbers, but for one division, one product and one sum.
+use mathlib.Core.Bool.{Bool, true, false, cond}
+use lib.Dec.{T, leb}
+use lib.IntN.{ℤ, pos, natAbs, _-ℤ_, _*ℤ_}
+use lib.Signed.{leZ}
+use lib.Ieee.{Float, binary64, ofInt, add, mul, round, toSigned}
+use Rattle.exact.specs.Num.{eqZ}
+use Rattle.geometry.specs.declared.Point.{Point}
+use Rattle.geometry.specs.declared.EdgePair.{EdgePair}
+use Rattle.geometry.specs.declared.Crossing.{Crossing}
+use Rattle.geometry.specs.declared.Crossing.the-variants.{Parallel, Start, End, Inside}
+use Rattle.geometry.specs.Plane.{divisor, alongFirst}
+
+-- the float of a whole number
+abbrev pub float : ℤ → Float
+float z = ofInt binary64 z
+
+-- "The four differences of an edge pair are kept together as floats"
+unfoldable pub edgePair : Point → Point → Point → Point → EdgePair
+edgePair a b c d = record { dx1 = float (b .x -ℤ a .x); dy1 = float (b .y -ℤ a .y); dx2 = float (d .x -ℤ c .x); dy2 = float (d .y -ℤ c .y) }
+
+abbrev pub pick : Bool → Crossing → Crossing → Crossing
+pick true x y = x
+pick false x y = y
+
+-- num / det as a fraction of an edge: at or before its start, at or after its end, or inside, rounded once
+unfoldable pub fractionOf : ℤ → ℤ → Crossing
+fractionOf num det =
+    pick (eqZ det (pos 0)) Parallel
+    (pick (leZ (num *ℤ det) (pos 0)) Start
+    (pick (leb (natAbs det) (natAbs num)) End
+    (Inside (round binary64 false (natAbs num) (natAbs det)))))
+
+-- where the line of the edge from c to d meets the edge from a to b
+unfoldable pub crossing : Point → Point → Point → Point → Crossing
+crossing a b c d = fractionOf (alongFirst a b c d) (divisor a b c d)
+
+-- from a toward b by the fraction t, "then drops toward zero"
+unfoldable pub coordinateAt : ℤ → ℤ → Float → ℤ
+coordinateAt a b t = toSigned 63 (add binary64 (float a) (mul binary64 t (float (b -ℤ a))))
+
+-- the point of the edge from a to b, and ip where there is none
+abbrev pub pointOf : Point → Point → Point → Crossing → Point
+pointOf a b ip Parallel = ip
+pointOf a b ip Start = a
+pointOf a b ip End = b
+pointOf a b ip (Inside t) = record { x = coordinateAt (a .x) (b .x) t; y = coordinateAt (a .y) (b .y) t }
+
+-- `get_segment_intersect_pt`: what it leaves in `ip`. It answers false for parallel edges, where `ip` stays
+unfoldable pub getSegmentIntersectPt : Point → Point → Point → Point → Point → Point
+getSegmentIntersectPt a b c d ip = pointOf a b ip (crossing a b c d)
+
+-- the crossing point of `do_split_op`, whose `ip` begins as the first edge's start
+abbrev pub crossingPoint : Point → Point → Point → Point → Point
+crossingPoint a b c d = getSegmentIntersectPt a b c d a
+
+-- r lies between a and b, ends counted
+pub record Between (a b r : ℤ) : Type 0 where
+  pub low : T (leZ (cond (leZ a b) a b) r)
+  pub high : T (leZ r (cond (leZ a b) b a))
+
+-- "It lies in the first edge's box"
+pub record InBox (a b p : Point) : Type 0 where
+  pub x : Between (a .x) (b .x) (p .x)
+  pub y : Between (a .y) (b .y) (p .y)

@@ -1,0 +1,3 @@
+-- Points, the tests on them, and where two edges cross.
+pub mod Plane
+pub mod Crossing
