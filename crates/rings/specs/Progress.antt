@@ -1,4 +1,5 @@
 -- A closed ring and how far it is: the state of document 01's lone ring but for its offcuts, over any kind of element.
+use mathlib.Core.Bool.{Bool, true, false}
 use mathlib.Core.List.{List, [], map}
 use mathlib.Core.Option.{Option, none}
 use Prim.Native.Nat.{ℕ}
@@ -7,6 +8,13 @@ use Rattle.rings.specs.Circle.{spin}
 -- the step due, or done: document 01's four kinds of step
 pub data Due : Type 0 where
   validity removal triangle split done : Due
+
+abbrev pub isDone : Due → Bool
+isDone validity = false
+isDone removal = false
+isDone triangle = false
+isDone split = false
+isDone done = true
 
 -- the circle from the present place on; how far ahead of it the first point is; the same of the loop's start, none once it was cut away; the step due
 pub record Ring (A : Type 0) : Type 0 where

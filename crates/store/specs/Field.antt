@@ -1,0 +1,79 @@
+-- The layout: every column of the work space by its name, where it begins and how long it is. The only file of definitions with numbers of words.
+use Prim.Native.Nat.{ℕ, _+_, _*_}
+use mathlib.Core.Bool.{Bool, true, false}
+use lib.Dec.{eqb}
+
+-- a point's fields
+pub data PointCol : Type 0 where
+  X Y NEXT PREV REC : PointCol
+
+-- a record's fields: FIRST is its first point, MARK its progress mark, PRESENT its present place, START where its loop began, CUT the record it was cut from
+pub data RecordCol : Type 0 where
+  FLAGS OWNER FIRST MARK PRESENT START CUT : RecordCol
+
+-- the settings, and how many points and records are in use
+pub data Count : Type 0 where
+  SETTINGS POINTS RECORDS : Count
+
+-- a column; there is no other index into the work space
+pub data Field : Type 0 where
+  pt : PointCol → Field
+  rc : RecordCol → Field
+  ct : Count → Field
+
+-- the order of the columns
+abbrev pub pointRank : PointCol → ℕ
+pointRank X = 0
+pointRank Y = 1
+pointRank NEXT = 2
+pointRank PREV = 3
+pointRank REC = 4
+
+abbrev pub recordRank : RecordCol → ℕ
+recordRank FLAGS = 0
+recordRank OWNER = 1
+recordRank FIRST = 2
+recordRank MARK = 3
+recordRank PRESENT = 4
+recordRank START = 5
+recordRank CUT = 6
+
+abbrev pub countRank : Count → ℕ
+countRank SETTINGS = 0
+countRank POINTS = 1
+countRank RECORDS = 2
+
+-- the settings and the counts stand at the front, in a head of this many words; then the points' columns, then the records'
+abbrev pub HEAD : ℕ
+HEAD = 16
+
+-- how many words a column has, and where it begins
+abbrev pub size : Field → ℕ
+size (ct f) = 1
+size (pt f) = 2048
+size (rc f) = 512
+
+abbrev pub base : Field → ℕ
+base (ct f) = countRank f
+base (pt f) = HEAD + 2048 * pointRank f
+base (rc f) = HEAD + 2048 * 5 + 512 * recordRank f
+
+-- the same column
+abbrev pub same : Field → Field → Bool
+same (pt f) (pt g) = eqb (pointRank f) (pointRank g)
+same (pt f) (rc g) = false
+same (pt f) (ct g) = false
+same (rc f) (pt g) = false
+same (rc f) (rc g) = eqb (recordRank f) (recordRank g)
+same (rc f) (ct g) = false
+same (ct f) (pt g) = false
+same (ct f) (rc g) = false
+same (ct f) (ct g) = eqb (countRank f) (countRank g)
+
+-- the fixed length of a work space: all columns
+abbrev pub LENGTH : ℕ
+LENGTH = HEAD + 2048 * 5 + 512 * 7
+
+-- no point, no record
+abbrev pub NONE : ℕ
+NONE = 65535

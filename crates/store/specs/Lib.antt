@@ -1,0 +1,5 @@
+-- The work space: layout, words as a store, the code's columns, soundness.
+pub mod Field
+pub mod Column
+pub mod Words
+pub mod Sound

@@ -1,0 +1,95 @@
+-- A sound store: what the tests of a handed work space decide. Stated once, for opening, steps and writing out; its rings are computed from the links.
+use Prim.Native.Nat.{ℕ, zero, suc, _%_, _≤_, _<_}
+use mathlib.Core.Path.{_≡_}
+use mathlib.Core.Logic.{_⊎_}
+use mathlib.Core.Bool.{Bool, false, cond}
+use mathlib.Core.List.{List, []}
+use lib.Dec.{eqb}
+use Rattle.rings.specs.Count.{sumTo, occ}
+use Rattle.rings.specs.Links.{Linked}
+use Rattle.rings.specs.Place.{place, orZero}
+use Rattle.rings.specs.Progress.{Ring, Due, validity, removal, triangle, split, done, isDone, resting, gone}
+use Rattle.rings.specs.Walk.{walk}
+use Rattle.store.specs.Field.{pt, rc, ct, X, Y, NEXT, PREV, REC, FLAGS, OWNER, FIRST, MARK, PRESENT, START, POINTS, RECORDS, NONE}
+use Rattle.store.specs.Words.{Store}
+
+abbrev pub pts : Store → ℕ
+pts s = s (ct POINTS) 0
+
+abbrev pub recs : Store → ℕ
+recs s = s (ct RECORDS) 0
+
+abbrev pub ringless : Store → ℕ → Bool
+ringless s i = eqb (s (rc FIRST) i) NONE
+
+-- the ring of record i, from its first point
+abbrev pub ringAt : Store → ℕ → List ℕ
+ringAt s i = cond (ringless s i) [] (walk (s (pt NEXT)) (s (rc FIRST) i))
+
+abbrev pub isOpen : Store → ℕ → Bool
+isOpen s i = eqb (s (rc FLAGS) i % 2) 1
+
+-- the meaning of a progress mark, and back
+abbrev pub dueOf : ℕ → Due
+dueOf zero = validity
+dueOf (suc zero) = removal
+dueOf (suc (suc zero)) = triangle
+dueOf (suc (suc (suc zero))) = split
+dueOf (suc (suc (suc (suc n)))) = done
+
+abbrev pub markOf : Due → ℕ
+markOf validity = 0
+markOf removal = 1
+markOf triangle = 2
+markOf split = 3
+markOf done = 4
+
+abbrev pub dueAt : Store → ℕ → Due
+dueAt s i = dueOf (s (rc MARK) i)
+
+pub record Closed (s : Store) (i : ℕ) : Type 0 where
+  pub known : i < recs s
+  pub ringed : ringless s i ≡ false
+  pub closed : isOpen s i ≡ false
+
+-- a point that a ring may have
+pub record PointIn (s : Store) (k : ℕ) : Type 0 where
+  pub below : k < pts s
+  pub x-in : s (pt X) k ≤ 2097152
+  pub y-in : s (pt Y) k ≤ 2097152
+  pub record-in : s (pt REC) k < recs s
+
+-- a sound record
+pub record Good (s : Store) (i : ℕ) : Type 0 where
+  pub linked : Linked (s (pt NEXT)) (s (pt PREV)) (ringAt s i)
+  pub points-in : (k : ℕ) → 0 < occ k (ringAt s i) → PointIn s k
+  pub owner : (s (rc OWNER) i ≡ NONE) ⊎ (s (rc OWNER) i < recs s)
+  pub meant : Closed s i → s (rc MARK) i ≤ 4
+  pub going : Closed s i → isDone (dueAt s i) ≡ false → 0 < occ (s (rc PRESENT) i) (ringAt s i)
+
+-- how often k is on a ring
+abbrev pub total : Store → ℕ → ℕ
+total s k = sumTo (recs s) (λ i. occ k (ringAt s i))
+
+pub record Sound (s : Store) : Type 0 where
+  pub few-points : pts s ≤ 2048
+  pub few-records : recs s ≤ 512
+  pub good : (i : ℕ) → i < recs s → Good s i
+  pub once : (k : ℕ) → total s k ≤ 1
+
+-- ---- the lone ring of a record, by indices: in a loop from the present place, else from the first point
+
+abbrev pub looping : Store → ℕ → Due → Ring ℕ
+looping s i d =
+    let c : List ℕ = walk (s (pt NEXT)) (s (rc PRESENT) i) in
+    record { circle = c; first = orZero (place (s (rc FIRST) i) c); start = place (s (rc START) i) c; due = d }
+
+abbrev pub loneDue : Store → ℕ → Due → Ring ℕ
+loneDue s i validity = resting validity (walk (s (pt NEXT)) (s (rc FIRST) i))
+loneDue s i removal = looping s i removal
+loneDue s i triangle = resting triangle (walk (s (pt NEXT)) (s (rc FIRST) i))
+loneDue s i split = looping s i split
+loneDue s i done = resting done (walk (s (pt NEXT)) (s (rc FIRST) i))
+
+abbrev pub loneAt : Store → ℕ → Ring ℕ
+loneAt s i = cond (ringless s i) gone (loneDue s i (dueAt s i))

@@ -1,0 +1,93 @@
+// The work space: every word is read and written by its column's name.
+ghost use mathlib.Core.Path.{_≡_};
+ghost use Prim.Native.Nat.{ℕ, _+_, _<_, _≤_, _^_};
+ghost use lib.ListN.{length, getD};
+ghost use Rattle.store.specs.Field.{size, base, LENGTH};
+ghost use Rattle.store.specs.Words.{cell, put};
+ghost use Rattle.store.specs.Column.{fieldOf};
+
+// The columns: the only index into the work space.
+pub enum Col {
+    X,
+    Y,
+    Next,
+    Prev,
+    Rec,
+    Flags,
+    Owner,
+    First,
+    Mark,
+    Present,
+    Start,
+    Cut,
+    Settings,
+    Points,
+    Records,
+}
+
+// The settings and the counts stand in the head; then the points' columns, then the records'.
+const HEAD: usize = 16;
+
+const POINTS: usize = 2048;
+
+const RECORDS: usize = 512;
+
+const AFTER: usize = HEAD + POINTS * 5;
+
+// Where a column begins.
+fn base_of(c: Col) -> usize
+    ensures { λ r. ⌜ r ≡ base (fieldOf c) ⌝ }
+{
+    match c {
+        Col::X => HEAD + POINTS * 0,
+        Col::Y => HEAD + POINTS * 1,
+        Col::Next => HEAD + POINTS * 2,
+        Col::Prev => HEAD + POINTS * 3,
+        Col::Rec => HEAD + POINTS * 4,
+        Col::Flags => AFTER + RECORDS * 0,
+        Col::Owner => AFTER + RECORDS * 1,
+        Col::First => AFTER + RECORDS * 2,
+        Col::Mark => AFTER + RECORDS * 3,
+        Col::Present => AFTER + RECORDS * 4,
+        Col::Start => AFTER + RECORDS * 5,
+        Col::Cut => AFTER + RECORDS * 6,
+        Col::Settings => 0,
+        Col::Points => 1,
+        Col::Records => 2,
+    }
+}
+
+// Which word is number i of a column.
+fn word_of(c: Col, i: usize) -> usize
+    requires { ⌜ i < size (fieldOf c) ⌝ }
+    ensures { λ r. ⌜ (r ≡ base (fieldOf c) + i) × (r < LENGTH) ⌝ }
+{
+    let b = base_of(c);
+    b + i
+}
+
+// One word.
+fn load(w: &[u32], k: usize) -> usize
+    requires { ⌜ k < length (now w) ⌝ }
+    ensures { λ r. ⌜ (r ≡ getD (now (w .entry)) k 0) × (r < 2 ^ 32) ⌝ }
+{
+    w[k] as usize
+}
+
+// Word i of a column.
+pub fn get(w: &[u32], c: Col, i: usize) -> usize
+    requires { ⌜ (LENGTH ≤ length (now w)) × (i < size (fieldOf c)) ⌝ }
+    ensures { λ r. ⌜ (r ≡ cell (fieldOf c) (now (w .entry)) i) × (r < 2 ^ 32) ⌝ }
+{
+    let k = word_of(c, i);
+    load(w, k)
+}
+
+// The same, stored.
+pub fn set(w: &mut [u32], c: Col, i: usize, v: usize)
+    requires { ⌜ (LENGTH ≤ length (now w)) × (i < size (fieldOf c)) × (v < 2 ^ 32) ⌝ }
+    ensures { λ _. ⌜ now (w .exit) ≡ put (fieldOf c) (now (w .entry)) i v ⌝ }
+{
+    let k = word_of(c, i);
+    w[k] = v as u32;
+}
