@@ -26,7 +26,7 @@ turn-back (x ∷ xs) = go x xs
     go y [] = refl
     go y (z ∷ ys) = ap (λ (r : List ℕ). y ∷ r) (go z ys)
 
-spin-past : (a : List ℕ) (b : List ℕ) → spin (length a) (a ++ b) ≡ b ++ a
+pub spin-past : (a : List ℕ) (b : List ℕ) → spin (length a) (a ++ b) ≡ b ++ a
 spin-past [] b = sym (append-nil b)
 spin-past (x ∷ a) b = ap (spin (length a)) (append-assoc a b (x ∷ [])) ∙ spin-past a (b ++ (x ∷ [])) ∙ append-assoc b (x ∷ []) a
 

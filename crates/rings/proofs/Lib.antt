@@ -5,3 +5,8 @@ pub mod Linking
 pub mod Placing
 pub mod Walking
 pub mod Mapping
+pub mod Members
+pub mod Splicing
+pub mod Inserting
+pub mod Tables
+pub mod Orbits

@@ -9,7 +9,7 @@ use Rattle.rings.specs.Links.{All, Seg, Linked}
 use Rattle.rings.proofs.Circles.{turn-back, initOf-snoc}
 
 module _ (nx pv : ℕ → ℕ) where
-  seg-join : (a : List ℕ) (b : ℕ) (c : List ℕ) → Seg nx pv (a ++ (b ∷ [])) → Seg nx pv (b ∷ c) → Seg nx pv (a ++ (b ∷ c))
+  pub seg-join : (a : List ℕ) (b : ℕ) (c : List ℕ) → Seg nx pv (a ++ (b ∷ [])) → Seg nx pv (b ∷ c) → Seg nx pv (a ++ (b ∷ c))
   seg-join [] b c s t = t
   seg-join (x ∷ []) b c s t = (s .0, s .1, t)
   seg-join (x ∷ y ∷ a) b c s t = (s .0, s .1, seg-join (y ∷ a) b c (s .2) t)
@@ -51,7 +51,7 @@ All-snoc Q (x ∷ l) p a q = (a .0, All-snoc Q l p (a .1) q)
 
 -- nx, pv before; nx′, pv′ after
 module _ (nx pv nx′ pv′ : ℕ → ℕ) where
-  seg-keep : (a : ℕ) (l : List ℕ) → Seg nx pv (a ∷ l) → All (λ z. nx′ z ≡ nx z) (initOf a l) → All (λ z. pv′ z ≡ pv z) l → Seg nx′ pv′ (a ∷ l)
+  pub seg-keep : (a : ℕ) (l : List ℕ) → Seg nx pv (a ∷ l) → All (λ z. nx′ z ≡ nx z) (initOf a l) → All (λ z. pv′ z ≡ pv z) l → Seg nx′ pv′ (a ∷ l)
   seg-keep a [] s h k = tt
   seg-keep a (b ∷ r) s h k = (h .0 ∙ s .0, k .0 ∙ s .1, seg-keep b r (s .2) (h .1) (k .1))
 

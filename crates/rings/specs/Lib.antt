@@ -5,3 +5,5 @@ pub mod Links
 pub mod Place
 pub mod Walk
 pub mod Progress
+pub mod Relink
+pub mod Table
