@@ -37,13 +37,13 @@ module _ {A : Type 0} where
   rest [] = []
   rest (x ∷ xs) = xs
 
-  -- one or three points: the point before is the second after
-  abbrev pub trine : List A → Bool
-  trine [] = true
-  trine (a ∷ []) = true
-  trine (a ∷ b ∷ []) = false
-  trine (a ∷ b ∷ c ∷ []) = true
-  trine (a ∷ b ∷ c ∷ d ∷ r) = false
+  -- one or three points (or none): the point before is the second after, `prev == next.next`
+  abbrev pub oneOrThree : List A → Bool
+  oneOrThree [] = true
+  oneOrThree (a ∷ []) = true
+  oneOrThree (a ∷ b ∷ []) = false
+  oneOrThree (a ∷ b ∷ c ∷ []) = true
+  oneOrThree (a ∷ b ∷ c ∷ d ∷ r) = false
 
   -- the circle after a cut, of the circle seen from the point before it: the two points after the first are gone
   abbrev pub cutCircle : Bool → A → List A → List A
