@@ -1,0 +1,4 @@
+-- Laws and theorems of the lone ring.
+pub mod Acting
+pub mod Stepping
+pub mod Alone

@@ -1,0 +1,78 @@
+-- A step of the forest seen from outside: it was carried out, or it was refused and nothing changed; and its answer, exactly.
+use mathlib.Core.Path.{_≡_, refl, sym, ap, _∙_}
+use mathlib.Core.Logic.{_⊎_, inl, inr, _↔_}
+use mathlib.Core.List.{List}
+use mathlib.Core.Option.{Option}
+use mathlib.Core.Bool.{Bool, true, false, cond, _&&_, true≢false}
+use Prim.Native.Nat.{ℕ, _+_, _≤_, _<_}
+use native.Mathlib.Omega.{arith}
+use lib.ListN.{length}
+use lib.Dec.{leb}
+use borrow.Author.Tests.{leb-true, leb-false}
+use Rattle.lone.specs.Forest.{Machine, State, toList, Entry, ringless, openRing, closedRing, Answer, ok, full, outOfTurn, Forest, isOk}
+use Rattle.lone.specs.Forest.{at, carryOut, answerTo, answer, stepForest}
+use Rattle.lone.specs.Order.{NoneOrDone, TakesPast, Exactly}
+
+module _ {S X : Type 0} (M : Machine S) (lp lr : ℕ) where
+  pub record Accepted (F : Forest S X) (i : ℕ) : Type 0 where
+    pub who : Option ℕ
+    pub state : State S
+    pub here : at (F .entries) i ≡ closedRing who state
+    pub unfinished : M .over (state .now) ≡ false
+    pub fits-points : F .points + M .takes (state .now) ≤ lp
+    pub fits-records : length (F .entries) + length (toList (M .cuts (state .now))) ≤ lr
+    pub says : answer M lp lr F i ≡ ok
+    pub becomes : stepForest M lp lr F i ≡ carryOut M F i who state
+
+  pub record Refused (F : Forest S X) (i : ℕ) : Type 0 where
+    pub says : isOk (answer M lp lr F i) ≡ false
+    pub becomes : stepForest M lp lr F i ≡ F
+
+  pub view : (F : Forest S X) (i : ℕ) → Accepted F i ⊎ Refused F i
+  unfolding answer stepForest
+  view F i = go (at (F .entries) i) refl
+    where
+      last : (q : Option ℕ) (L : State S) → at (F .entries) i ≡ closedRing q L → M .over (L .now) ≡ false → (b c : Bool) → leb (F .points + M .takes (L .now)) lp ≡ b
+          → leb (length (F .entries) + length (toList (M .cuts (L .now)))) lr ≡ c → Accepted F i ⊎ Refused F i
+      last q L e v true true h k = inl (record { who = q; state = L; here = e; unfinished = v; fits-points = leb-true _ _ h; fits-records = leb-true _ _ k; says = rw (e, v, h, k); becomes = rw (e, v, h, k) })
+      last q L e v true false h k = inr (record { says = rw (e, v, h, k); becomes = rw (e, v, h, k) })
+      last q L e v false c h k = inr (record { says = rw (e, v, h); becomes = rw (e, v, h) })
+
+      more : (q : Option ℕ) (L : State S) → at (F .entries) i ≡ closedRing q L → (b : Bool) → M .over (L .now) ≡ b → Accepted F i ⊎ Refused F i
+      more q L e true v = inr (record { says = rw (e, v); becomes = rw (e, v) })
+      more q L e false v = last q L e v _ _ refl refl
+
+      go : (e : Entry S X) → at (F .entries) i ≡ e → Accepted F i ⊎ Refused F i
+      go ringless h = inr (record { says = rw h; becomes = rw h })
+      go (openRing x) h = inr (record { says = rw h; becomes = rw h })
+      go (closedRing q L) h = more q L h _ refl
+
+  -- the three answers, each with what it says of the entry
+  module _ (a : Answer) (e : Entry S X) (p r : ℕ) where
+    says-out : a ≡ outOfTurn → NoneOrDone M e → Exactly M lp lr a e p r
+    says-out h d = record { twelve = (λ k. d, λ k. h); ten = (λ k. let z : _≡_ {A = ℕ} 0 1 = cc in absurd (omega arith), λ k. absurd (k .0 d)); neither = (λ k. let z : _≡_ {A = ℕ} 0 1 = cc in absurd (omega arith), λ k. absurd (k .0 d)) }
+
+    says-full : a ≡ full → ¬ NoneOrDone M e → TakesPast M lp lr e p r → Exactly M lp lr a e p r
+    says-full h n t = record { twelve = (λ k. let z : _≡_ {A = ℕ} 0 1 = cc in absurd (omega arith), λ k. absurd (n k)); ten = (λ k. (n, t), λ k. h); neither = (λ k. let z : _≡_ {A = ℕ} 0 1 = cc in absurd (omega arith), λ k. absurd (k .1 t)) }
+
+    says-ok : a ≡ ok → ¬ NoneOrDone M e → ¬ TakesPast M lp lr e p r → Exactly M lp lr a e p r
+    says-ok h n t = record { twelve = (λ k. let z : _≡_ {A = ℕ} 0 1 = cc in absurd (omega arith), λ k. absurd (n k)); ten = (λ k. let z : _≡_ {A = ℕ} 0 1 = cc in absurd (omega arith), λ k. absurd (t (k .1))); neither = (λ k. (n, t), λ k. h) }
+
+  -- the answers are what document 01 says, exactly
+  pub exactly : (e : Entry S X) (p r : ℕ) → Exactly M lp lr (answerTo M lp lr e p r) e p r
+  exactly ringless p r = says-out outOfTurn ringless p r refl tt
+  exactly (openRing x) p r = says-out outOfTurn (openRing x) p r refl tt
+  exactly (closedRing q L) p r = go _ _ _ refl refl refl
+    where
+      fits : M .over (L .now) ≡ false → p + M .takes (L .now) ≤ lp → r + length (toList (M .cuts (L .now))) ≤ lr → ¬ TakesPast {X = X} M lp lr (closedRing q L) p r
+      fits v h k (inl t) = omega arith
+      fits v h k (inr t) = omega arith
+
+      live : M .over (L .now) ≡ false → ¬ (M .over (L .now) ≡ true)
+      live v e = true≢false (sym e ∙ v)
+
+      go : (a b c : Bool) → M .over (L .now) ≡ a → leb (p + M .takes (L .now)) lp ≡ b → leb (r + length (toList (M .cuts (L .now)))) lr ≡ c → Exactly {X = X} M lp lr (answerTo {X = X} M lp lr (closedRing q L) p r) (closedRing q L) p r
+      go true b c v h k = says-out _ (closedRing q L) p r (rw v) v
+      go false true true v h k = says-ok _ (closedRing q L) p r (rw (v, h, k)) (live v) (fits v (leb-true _ _ h) (leb-true _ _ k))
+      go false true false v h k = says-full _ (closedRing q L) p r (rw (v, h, k)) (live v) (inr (leb-false _ _ k))
+      go false false c v h k = says-full _ (closedRing q L) p r (rw (v, h)) (live v) (inl (leb-false _ _ h))

@@ -1,0 +1,6 @@
+-- The lone ring, in the order in which to read it.
+pub mod Ring
+pub mod Lone
+pub mod Path
+pub mod Forest
+pub mod Order

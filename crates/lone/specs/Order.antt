@@ -1,0 +1,65 @@
+-- What demand 3 says of the forest: after every list of steps each record is where its lone ring is alone, counts and answers included.
+use mathlib.Core.Path.{_≡_}
+use mathlib.Core.Logic.{_⊎_, _↔_}
+use mathlib.Core.List.{List, [], _∷_, _++_, map}
+use mathlib.Core.Option.{Option, none, some}
+use mathlib.Core.Bool.{Bool, true}
+use Prim.Native.Nat.{ℕ, _+_, _≤_, _<_}
+use lib.ListN.{length, getElem?}
+use Rattle.rings.specs.Progress.{Ring}
+use Rattle.lone.specs.Lone.{Geo, isDone, stepRing, offcutRing, takesRing}
+use Rattle.lone.specs.Forest.{Machine, State, initial, toList, Entry, ringless, openRing, closedRing, Opened, Answer, ok, full, outOfTurn, Forest, naming}
+use Rattle.lone.specs.Forest.{enter, at, cutFrom, offcutsOf, rank, allTaken, allCut, stepsState, stepsEntry, answer, answerTo, runForest}
+
+-- the lone ring as a machine of the forest
+unfoldable pub machine : {P : Type 0} → Geo P → Machine (Ring P)
+machine G = record { over = λ R. isDone (R .due); takes = takesRing G; next = stepRing G; cuts = offcutRing G }
+
+module _ {S X : Type 0} (M : Machine S) where
+  -- record j was cut from record `from`, and is the offcut of j's rank among those cut from it, stepped g j times from its start: "a ring's
+  -- offcuts, by rising record number, have its lone ring's offcuts in cutting order, each from its start"
+  pub record IsOffcut (es : List (Entry S X)) (g : ℕ → ℕ) (j : ℕ) : Type 0 where
+    pub from : ℕ
+    pub seed : S
+    pub before : from < j
+    pub cut-as : getElem? (offcutsOf (at es from)) (rank es from j) ≡ some seed
+    pub is : at es j ≡ closedRing (some from) (stepsState M (g j) (initial seed))
+
+  -- os: what opening left; es: the records now; g: how many steps on each record were not refused
+  pub record Alone (os : List (Opened S X)) (es : List (Entry S X)) (g : ℕ → ℕ) : Type 0 where
+    pub longer : length os ≤ length es
+    pub idle : (j : ℕ) → length es ≤ j → g j ≡ 0
+    -- "A ring that opening left closed has the lone ring fed with it"; "open rings are as opening left them"
+    pub opened : (j : ℕ) → j < length os → at es j ≡ stepsEntry M (g j) (at (map enter os) j)
+    pub offcut : (j : ℕ) → length os ≤ j → j < length es → IsOffcut es g j
+    -- "as many offcuts"
+    pub as-many : (p : ℕ) → naming p (map cutFrom es) ≡ length (offcutsOf (at es p))
+
+  -- no lone ring, or a done one
+  abbrev pub NoneOrDone : Entry S X → Type 0
+  NoneOrDone ringless = Unit {0}
+  NoneOrDone (openRing x) = Unit {0}
+  NoneOrDone (closedRing q L) = M .over (L .now) ≡ true
+
+  module _ (lp lr : ℕ) where
+    -- the lone ring's step would take a count past its limit, of p points and r records used
+    abbrev pub TakesPast : Entry S X → ℕ → ℕ → Type 0
+    TakesPast ringless p r = ⊥
+    TakesPast (openRing x) p r = ⊥
+    TakesPast (closedRing q L) p r = (lp < p + M .takes (L .now)) ⊎ (lr < r + length (toList (M .cuts (L .now))))
+
+    -- "A further step is refused with 12 exactly when its record has no lone ring or a done one; else with 10 exactly when the lone ring's step
+    -- would take a count past 2,048 or 512; else not at all"
+    pub record Exactly (a : Answer) (e : Entry S X) (p r : ℕ) : Type 0 where
+      pub twelve : (a ≡ outOfTurn) ↔ NoneOrDone e
+      pub ten : (a ≡ full) ↔ ((¬ NoneOrDone e) × TakesPast e p r)
+      pub neither : (a ≡ ok) ↔ ((¬ NoneOrDone e) × (¬ TakesPast e p r))
+
+    -- document 01's bullets of a forest, from what opening left and p₀ points; "Counts of points and records are those at opening plus all that
+    -- the lone rings took"
+    pub record Independent (os : List (Opened S X)) (p₀ : ℕ) (F : Forest S X) (g : ℕ → ℕ) : Type 0 where
+      pub alone : Alone os (F .entries) g
+      pub points-used : F .points ≡ p₀ + allTaken (F .entries)
+      pub records-used : length (F .entries) ≡ length os + allCut (F .entries)
+      pub answers : (i : ℕ) → answer M lp lr F i ≡ answerTo M lp lr (at (F .entries) i) (p₀ + allTaken (F .entries)) (length os + allCut (F .entries))
+      pub exactly : (i : ℕ) → Exactly (answer M lp lr F i) (at (F .entries) i) (p₀ + allTaken (F .entries)) (length os + allCut (F .entries))
