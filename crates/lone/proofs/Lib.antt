@@ -2,3 +2,4 @@
 pub mod Acting
 pub mod Stepping
 pub mod Alone
+pub mod Table

@@ -4,3 +4,4 @@ pub mod Lone
 pub mod Path
 pub mod Forest
 pub mod Order
+pub mod Table
