@@ -1,0 +1,70 @@
+// The oracle's commands. Each reads a job on standard input unless README.md says otherwise.
+include!(concat!(env!("OUT_DIR"), "/clipper/modules.rs"));
+
+mod answer;
+mod batch;
+mod check;
+mod guard;
+mod job;
+mod model;
+mod oracle;
+mod read;
+mod real;
+mod show;
+mod text;
+
+use std::io::{Read, Write};
+
+const USAGE: &str = "usage: oracle list|tray|opened|acts|show|text|batch, see tests/oracle/README.md";
+
+fn input() -> Result<Vec<u8>, String> {
+    let mut bytes = Vec::new();
+    std::io::stdin().read_to_end(&mut bytes).map_err(|why| format!("cannot read the input: {why}"))?;
+    Ok(bytes)
+}
+
+fn output(bytes: &[u8]) -> Result<(), String> {
+    std::io::stdout().write_all(bytes).map_err(|why| format!("cannot write: {why}"))
+}
+
+fn number<T: std::str::FromStr>(word: &str) -> Result<T, String> {
+    word.parse().map_err(|_| format!("not a number in range: {word}"))
+}
+
+fn run(words: &[&str]) -> Result<(), String> {
+    match words {
+        ["list"] => output(oracle::Oracle::default().answer(&input()?).listing().as_bytes()),
+        ["list", "--tray", length] => {
+            let length = number(length)?;
+            output(oracle::Oracle::default().answer(&input()?).within(length).listing().as_bytes())
+        }
+        ["tray"] => match oracle::Oracle::default().answer(&input()?) {
+            answer::Answer::Refused(number) => Err(format!("the job is refused with {number}, so it has no tray")),
+            answer => output(&answer.tray()),
+        },
+        ["opened"] => output(show::opened(&input()?).as_bytes()),
+        ["acts"] => output(show::acts(&input()?).as_bytes()),
+        ["steps", records @ ..] => {
+            let records: Result<Vec<usize>, String> = records.iter().map(|word| number(word)).collect();
+            output(show::steps(&input()?, &records?).as_bytes())
+        }
+        ["show"] => output(text::show(&input()?).as_bytes()),
+        ["text"] => {
+            let words = String::from_utf8(input()?).map_err(|_| "a job as text is not UTF-8".to_string())?;
+            output(&text::parse(&words)?)
+        }
+        ["batch"] => batch::batch(None),
+        ["batch", "--tray", length] => batch::batch(Some(number(length)?)),
+        ["child"] => guard::child(),
+        _ => Err(USAGE.into()),
+    }
+}
+
+fn main() {
+    let words: Vec<String> = std::env::args().skip(1).collect();
+    let words: Vec<&str> = words.iter().map(String::as_str).collect();
+    if let Err(line) = run(&words) {
+        eprintln!("oracle: {line}");
+        std::process::exit(1);
+    }
+}

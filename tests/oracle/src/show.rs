@@ -1,0 +1,98 @@
+// A job's state as text: the rings after opening, and the model's steps one by one. README.md has the formats.
+use crate::model::forest::Forest;
+use crate::model::lone::{Act, Due};
+use crate::oracle::{forest, open};
+use crate::real;
+
+fn refused(number: u8) -> String {
+    format!("refused {number}\n")
+}
+
+/// Each record's ring after the real `process_horz_joins`, and both counts.
+pub fn opened(bytes: &[u8]) -> String {
+    let opened = match open(bytes) {
+        Err(number) => return refused(number),
+        Ok(opened) => opened,
+    };
+    let state = real::look(&opened.base);
+    let mut out = format!("points {} records {}\n", state.points, state.records.len());
+    for (r, record) in state.records.iter().enumerate() {
+        let flags = record.open as u8 + 2 * record.front as u8;
+        let owner = record.owner.map_or("-".to_string(), |owner| owner.to_string());
+        let ring: String = record.ring.iter().map(|(at, (x, y))| format!(" {at}:{x},{y}")).collect();
+        out += &format!("record {r} flags {flags} owner {owner} ring {}{ring}\n", record.ring.len());
+    }
+    out
+}
+
+fn due_word(due: Due) -> &'static str {
+    match due {
+        Due::Validity => "validity",
+        Due::Removal { .. } => "removal",
+        Due::Triangle => "triangle",
+        Due::Split { .. } => "split",
+        Due::Done => "done",
+    }
+}
+
+fn act_words(act: Act) -> String {
+    match act {
+        Act::Begin => "begin".into(),
+        Act::Discard => "discard".into(),
+        Act::Move => "move".into(),
+        Act::Drop => "drop".into(),
+        Act::DropDiscard => "drop discard".into(),
+        Act::Settle => "settle".into(),
+        Act::Double => "double".into(),
+        Act::Cut { at: (x, y), point, offcut } => {
+            let point = if point { "point" } else { "spliced" };
+            let offcut = if offcut { "offcut" } else { "nothing" };
+            format!("cut {x},{y} {point} {offcut}")
+        }
+    }
+}
+
+/// One step: the record, the step that was due, the act, the step now due.
+fn line(forest: &Forest, record: usize, due: Due, act: Act) -> String {
+    format!("{record} {} {} due {}\n", due_word(due), act_words(act), due_word(forest.due(record)))
+}
+
+/// Both counts and each record's ring by value, from the first in walk order.
+fn rings(forest: &Forest) -> String {
+    let mut out = format!("points {} records {}\n", forest.points, forest.records.len());
+    for record in 0..forest.records.len() {
+        let ring: String = forest.ring(record).iter().map(|(x, y)| format!(" {x},{y}")).collect();
+        out += &format!("record {record} due {} ring {}{ring}\n", due_word(forest.due(record)), forest.ring(record).len());
+    }
+    out
+}
+
+/// The model's acts from opening to done, records rising; a full store ends them with `refused 10`.
+pub fn acts(bytes: &[u8]) -> String {
+    let mut forest = match open(bytes) {
+        Err(number) => return refused(number),
+        Ok(opened) => forest(&opened),
+    };
+    let mut out = String::new();
+    match forest.finish(|forest, record, due, act| out += &line(forest, record, due, act)) {
+        Ok(()) => out + &rings(&forest),
+        Err(number) => out + &refused(number),
+    }
+}
+
+/// The model's answers to a list of steps, then the rings they leave.
+pub fn steps(bytes: &[u8], records: &[usize]) -> String {
+    let mut forest = match open(bytes) {
+        Err(number) => return refused(number),
+        Ok(opened) => forest(&opened),
+    };
+    let mut out = String::new();
+    for &record in records {
+        let due = forest.due(record);
+        out += &match forest.step(record) {
+            Ok(act) => line(&forest, record, due, act),
+            Err(number) => format!("{record} refused {number}\n"),
+        };
+    }
+    out + &rings(&forest)
+}
