@@ -61,4 +61,3 @@ module _ {S X : Type 0} (M : Machine S) where
   pub forest-is : (lp lr : ℕ) (os : List (Opened S X)) (p₀ : ℕ) (s : List ℕ)
       → runForest M lp lr (opening os p₀) s .entries ≡ loneTable M os (accepted M lp lr (opening os p₀) s) (drop (length os) (map cutFrom (runForest M lp lr (opening os p₀) s .entries)))
   forest-is lp lr os p₀ s = table os _ _ (independent M lp lr os p₀ s .alone)
-
