@@ -2,3 +2,4 @@
 pub mod Storing
 pub mod Soundness
 pub mod Keeping
+pub mod Testing

@@ -3,3 +3,6 @@ pub mod Field
 pub mod Column
 pub mod Words
 pub mod Sound
+pub mod Named
+pub mod Tests
+pub mod Marks

@@ -83,6 +83,41 @@ pub fn get(w: &[u32], c: Col, i: usize) -> usize
     load(w, k)
 }
 
+// How many words a column has.
+fn size_of(c: Col) -> usize
+    ensures { λ r. ⌜ r ≡ size (fieldOf c) ⌝ }
+{
+    match c {
+        Col::X => POINTS,
+        Col::Y => POINTS,
+        Col::Next => POINTS,
+        Col::Prev => POINTS,
+        Col::Rec => POINTS,
+        Col::Flags => RECORDS,
+        Col::Owner => RECORDS,
+        Col::First => RECORDS,
+        Col::Mark => RECORDS,
+        Col::Present => RECORDS,
+        Col::Start => RECORDS,
+        Col::Cut => RECORDS,
+        Col::Settings => 1,
+        Col::Points => 1,
+        Col::Records => 1,
+    }
+}
+
+// Word i of a column, and 0 past its end: for words that were not tested yet.
+pub fn read(w: &[u32], c: Col, i: usize) -> usize
+    requires { ⌜ LENGTH ≤ length (now w) ⌝ }
+    ensures { λ r. ⌜ (r ≡ cell (fieldOf c) (now (w .entry)) i) × (r < 2 ^ 32) ⌝ }
+{
+    let n = size_of(c);
+    if i < n {
+        return get(w, c, i);
+    }
+    0
+}
+
 // The same, stored.
 pub fn set(w: &mut [u32], c: Col, i: usize, v: usize)
     requires { ⌜ (LENGTH ≤ length (now w)) × (i < size (fieldOf c)) × (v < 2 ^ 32) ⌝ }
@@ -91,3 +126,5 @@ pub fn set(w: &mut [u32], c: Col, i: usize, v: usize)
     let k = word_of(c, i);
     w[k] = v as u32;
 }
+
+pub mod tests;
