@@ -3,3 +3,6 @@ pub mod Acting
 pub mod Stepping
 pub mod Alone
 pub mod Table
+pub mod Costs
+pub mod Ending
+pub mod Dichotomy

@@ -95,6 +95,12 @@ module _ {S X : Type 0} where
   takenBy (openRing x) = 0
   takenBy (closedRing q L) = L .taken
 
+  -- a fact of the machine, where there is one
+  abbrev pub OfClosed : (S → Type 0) → Entry S X → Type 0
+  OfClosed Q ringless = Unit {0}
+  OfClosed Q (openRing x) = Unit {0}
+  OfClosed Q (closedRing q L) = Q (L .now)
+
   -- the rank of record j among those that name p
   abbrev pub rank : List (Entry S X) → ℕ → ℕ → ℕ
   rank es p j = naming p (take j (map cutFrom es))

@@ -1,6 +1,6 @@
 -- What demand 3 says of the forest: after every list of steps each record is where its lone ring is alone, counts and answers included.
 use mathlib.Core.Path.{_≡_}
-use mathlib.Core.Logic.{_⊎_, _↔_}
+use mathlib.Core.Logic.{_⊎_, _↔_, _≢_}
 use mathlib.Core.List.{List, [], _∷_, _++_, map}
 use mathlib.Core.Option.{Option, none, some}
 use mathlib.Core.Bool.{Bool, true}
@@ -41,6 +41,10 @@ module _ {S X : Type 0} (M : Machine S) where
   NoneOrDone (openRing x) = Unit {0}
   NoneOrDone (closedRing q L) = M .over (L .now) ≡ true
 
+  -- all are done
+  abbrev pub AllDone : List (Entry S X) → Type 0
+  AllDone es = (i : ℕ) → NoneOrDone (at es i)
+
   module _ (lp lr : ℕ) where
     -- the lone ring's step would take a count past its limit, of p points and r records used
     abbrev pub TakesPast : Entry S X → ℕ → ℕ → Type 0
@@ -63,3 +67,12 @@ module _ {S X : Type 0} (M : Machine S) where
       pub records-used : length (F .entries) ≡ length os + allCut (F .entries)
       pub answers : (i : ℕ) → answer M lp lr F i ≡ answerTo M lp lr (at (F .entries) i) (p₀ + allTaken (F .entries)) (length os + allCut (F .entries))
       pub exactly : (i : ℕ) → Exactly (answer M lp lr F i) (at (F .entries) i) (p₀ + allTaken (F .entries)) (length os + allCut (F .entries))
+
+    -- no step after any list is refused with 10, and every list can be carried on until all are done
+    pub record Fits (F : Forest S X) : Type 0 where
+      pub never-full : (s : List ℕ) (i : ℕ) → answer M lp lr (runForest M lp lr F s) i ≢ full
+      pub goes-on : (s : List ℕ) → (t : List ℕ) × AllDone (runForest M lp lr F (s ++ t) .entries)
+
+    -- no list can be carried on so far
+    abbrev pub NeverEnds : Forest S X → Type 0
+    NeverEnds F = (s : List ℕ) → ¬ AllDone (runForest M lp lr F s .entries)
