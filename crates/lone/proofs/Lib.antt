@@ -6,3 +6,6 @@ pub mod Table
 pub mod Costs
 pub mod Ending
 pub mod Dichotomy
+pub mod Turning
+pub mod Keeping
+pub mod Falling

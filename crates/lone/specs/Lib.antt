@@ -5,3 +5,5 @@ pub mod Path
 pub mod Forest
 pub mod Order
 pub mod Table
+pub mod Kept
+pub mod Measure
