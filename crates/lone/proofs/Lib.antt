@@ -9,3 +9,4 @@ pub mod Dichotomy
 pub mod Turning
 pub mod Keeping
 pub mod Falling
+pub mod Measuring
