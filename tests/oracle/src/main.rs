@@ -4,14 +4,20 @@ include!(concat!(env!("OUT_DIR"), "/clipper/modules.rs"));
 mod answer;
 mod batch;
 mod check;
+mod compare;
+mod gen;
 mod guard;
 mod job;
 mod model;
 mod oracle;
 mod read;
 mod real;
+mod rng;
+mod runs;
 mod show;
+mod stats;
 mod text;
+mod vectors;
 
 use std::io::{Read, Write};
 
@@ -55,6 +61,15 @@ fn run(words: &[&str]) -> Result<(), String> {
         }
         ["batch"] => batch::batch(None),
         ["batch", "--tray", length] => batch::batch(Some(number(length)?)),
+        ["job", seed, index] => output(&gen::job(number(seed)?, number(index)?)),
+        ["generate", seed, count] => runs::generate(number(seed)?, number(count)?),
+        ["compare", seed, count, threads] => runs::compare(number(seed)?, number(count)?, number(threads)?, 0),
+        ["compare", seed, count, threads, least] => {
+            runs::compare(number(seed)?, number(count)?, number(threads)?, number(least)?)
+        }
+        ["vectors", "geometry", seed, count] => {
+            output(vectors::geometry(number(seed)?, number(count)?).as_bytes())
+        }
         ["child"] => guard::child(),
         _ => Err(USAGE.into()),
     }

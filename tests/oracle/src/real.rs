@@ -94,6 +94,13 @@ pub fn open(job: &Job) -> Result<(ClipperBase, Joined), u8> {
     Ok((whole, joined))
 }
 
+/// Whether making joins from a job's segments needs more points than there are.
+pub fn needs_points(job: &Job) -> bool {
+    let mut base = set(job);
+    base.call_convert_horz_segs_to_joins();
+    base.outpt_arena.len() > POINTS
+}
+
 /// Whether two states agree in every link and every record.
 fn same(a: &ClipperBase, b: &ClipperBase) -> bool {
     let point = |p: &OutPt| (p.pt.x, p.pt.y, p.next, p.prev, p.outrec);

@@ -60,6 +60,15 @@ impl Forest {
         Ok(act)
     }
 
+    /// Whether an unfinished ring's step needs more points than are left.
+    pub fn lacks_points(&self) -> bool {
+        let points = |entry: &Entry| match entry {
+            Entry::Closed { lone, .. } => lone.decide(self.keep).map_or(0, |act| act.takes().0),
+            _ => 0,
+        };
+        self.records.iter().any(|entry| self.points + points(entry) > POINTS)
+    }
+
     /// Steps every ring to done, records rising, showing each step and the act it was; stops at the first refusal.
     pub fn finish(&mut self, mut show: impl FnMut(&Forest, usize, Due, Act)) -> Result<(), u8> {
         let mut record = 0;

@@ -1,0 +1,193 @@
+// Compares the real one-call run with the stepping model on one job: every ring by value, both counts, the lists.
+use crate::answer::{Answer, SMALL_TRAY};
+use crate::guard::{Guard, Ran};
+use crate::job::{POINTS, RECORDS};
+use crate::model::forest::{Entry, Forest};
+use crate::model::lone::{Act, Due};
+use crate::oracle::{forest, open, Opened};
+use crate::real::{self, FULL};
+use crate::rng::Rng;
+use crate::stats::Stats;
+use crate::{check, read};
+
+/// Document 01's length that always suffices.
+const TRAY: usize = 17_920;
+
+#[derive(Default)]
+pub struct Comparer {
+    guard: Guard,
+    pub stats: Stats,
+}
+
+type Same = Result<(), String>;
+
+fn expect(holds: bool, what: &str) -> Same {
+    if holds {
+        Ok(())
+    } else {
+        Err(what.to_string())
+    }
+}
+
+impl Comparer {
+    /// Compares on one job; an error says what disagrees.
+    pub fn job(&mut self, bytes: &[u8], rng: &mut Rng) -> Same {
+        self.stats.jobs += 1;
+        let opened = match open(bytes) {
+            Err(number) => {
+                self.count_refusal(bytes, number);
+                return Ok(());
+            }
+            Ok(opened) => opened,
+        };
+        expect(opened.job.bytes() == bytes, "an accepted job, written again, is other bytes")?;
+        self.stats.add("join made from segments", opened.joined.made as u64);
+        self.stats.add("join splits a ring", opened.joined.split as u64);
+        self.stats.add("join merges two rings", opened.joined.merged as u64);
+        let start = forest(&opened);
+        let mut done = start.clone();
+        // Acts count only where the job is accepted: an endless job has thousands.
+        let mut acts = Stats::default();
+        match done.finish(|forest, record, due, act| count_act(&mut acts, forest, record, due, act)) {
+            Ok(()) => {
+                self.stats.merge(&acts);
+                self.finished(opened, start, done, rng)
+            }
+            Err(number) => {
+                expect(number == FULL, "a step on an unfinished ring is refused otherwise than as full")?;
+                self.full(opened, start, done, rng)
+            }
+        }
+    }
+
+    fn count_refusal(&mut self, bytes: &[u8], number: u8) {
+        self.stats.refused(number);
+        if number == FULL {
+            let job = read::read(bytes).expect("a job refused as full is readable");
+            check::check(&job).expect("and passes rows 4 to 8");
+            let stage = match real::needs_points(&job) {
+                true => "full: points, while joins are made from segments",
+                false => "full: records, at a join that splits",
+            };
+            self.stats.add(stage, 1);
+        }
+    }
+
+    /// The model finished: the real run must leave the same rings, counts and lists, and so must any other order of steps.
+    fn finished(&mut self, opened: Opened, start: Forest, done: Forest, rng: &mut Rng) -> Same {
+        let mut base = real::copy(&opened.base);
+        real::clean_all(&mut base);
+        let state = real::look(&base);
+        expect(state.points == done.points, "the count of points")?;
+        expect(state.records.len() == done.records.len(), "the count of records")?;
+        for (record, real) in state.records.iter().enumerate() {
+            let ring: Vec<_> = real.ring.iter().map(|(_, at)| *at).collect();
+            expect(ring == done.ring(record), "a record's ring by value")?;
+            expect(real.open == matches!(done.records[record], Entry::Open(_)) || ring.is_empty(), "an open ring")?;
+        }
+        let (closed, open) = real::paths(opened.base);
+        expect((closed.clone(), open.clone()) == done.paths(), "the lists of paths")?;
+        self.stats.add("accepted", 1);
+        self.stats.add("closed path", closed.len() as u64);
+        self.stats.add("open path", open.len() as u64);
+        let answer = Answer::Paths { closed, open };
+        let length = answer.tray().len();
+        expect(length <= TRAY, "a tray of more bytes than always suffice")?;
+        expect(answer.clone().within(length) == answer, "a tray that just fits")?;
+        if length > 0 {
+            expect(answer.within(length - 1) == Answer::Refused(SMALL_TRAY), "a tray one byte short")?;
+            self.stats.refused(SMALL_TRAY);
+        }
+        let other = self.any_order(start, rng);
+        expect(other.points == done.points && other.records.len() == done.records.len(), "counts in another order")?;
+        expect(family(&other) == family(&done), "rings and offcuts in another order")
+    }
+
+    /// The model is full: the real run must need more places or go on for ever, and no order of steps may get past it.
+    fn full(&mut self, opened: Opened, start: Forest, done: Forest, rng: &mut Rng) -> Same {
+        self.stats.refused(FULL);
+        let stage = if done.lacks_points() { "full: points, at a step" } else { "full: records, at a step" };
+        self.stats.add(stage, 1);
+        match self.guard.run(&opened.job) {
+            Ran::Grew => self.stats.add("full: the Rust grows past the guard", 1),
+            Ran::Ended(points, records) => {
+                expect(points > POINTS || records > RECORDS, "full in the model, not in the real run")?;
+                self.stats.add("full: the Rust ends past the limits", 1);
+            }
+        }
+        let other = self.any_order(start, rng);
+        let unfinished = (0..other.records.len()).any(|record| other.due(record) != Due::Done);
+        expect(unfinished, "another order gets past a full store")
+    }
+
+    /// Steps in a random order, wrong record numbers among them, until every ring is done or refuses as full.
+    fn any_order(&mut self, mut forest: Forest, rng: &mut Rng) -> Forest {
+        let mut busy: Vec<usize> = (0..forest.records.len()).collect();
+        busy.push(forest.records.len() + rng.below(3));
+        while !busy.is_empty() {
+            let pick = rng.below(busy.len());
+            let record = busy[pick];
+            let held = forest.records.len();
+            for _ in 0..1 + rng.below(6) {
+                if let Err(number) = forest.step(record) {
+                    if number != FULL {
+                        self.stats.refused(number);
+                    }
+                    busy.swap_remove(pick);
+                    break;
+                }
+            }
+            busy.extend(held..forest.records.len());
+        }
+        forest
+    }
+}
+
+/// Each ring that opening left, with its offcuts in cutting order, and theirs.
+fn family(forest: &Forest) -> Vec<Vec<Vec<(i64, i64)>>> {
+    let mut members: Vec<Vec<usize>> = vec![Vec::new(); forest.records.len()];
+    let mut roots = Vec::new();
+    for (record, entry) in forest.records.iter().enumerate() {
+        match entry {
+            Entry::Closed { cut_from: Some(from), .. } => members[*from].push(record),
+            _ => roots.push(record),
+        }
+    }
+    let line = |root: usize| {
+        let mut out = Vec::new();
+        let mut stack = vec![root];
+        while let Some(record) = stack.pop() {
+            out.push(forest.ring(record));
+            stack.extend(members[record].iter().rev());
+        }
+        out
+    };
+    roots.into_iter().map(line).collect()
+}
+
+fn count_act(stats: &mut Stats, forest: &Forest, record: usize, due: Due, act: Act) {
+    let name = match (due, act) {
+        (Due::Validity, Act::Discard) => "discard at the validity test",
+        (_, Act::Discard) => "discard at the split's area test",
+        (_, Act::Drop) => "drop",
+        (_, Act::DropDiscard) => "discard after a drop",
+        (_, Act::Settle) => "done at the triangle test",
+        (_, Act::Double) if forest.due(record) == Due::Done => "doubling that ends the loop",
+        (_, Act::Double) => "doubling that goes on",
+        (_, Act::Cut { point: true, offcut: true, .. }) => "cut, new ring point, offcut",
+        (_, Act::Cut { point: true, offcut: false, .. }) => "cut, new ring point, no offcut",
+        (_, Act::Cut { point: false, offcut: true, .. }) => "cut, no new ring point, offcut",
+        (_, Act::Cut { point: false, offcut: false, .. }) => "cut, no new ring point, no offcut",
+        _ => return,
+    };
+    stats.add(name, 1);
+    if let Act::Cut { .. } = act {
+        if forest.ring(record).len() == 2 {
+            stats.add("cut that leaves two points", 1);
+        }
+        let started = matches!(due, Due::Split { start: Some(_), .. });
+        if started && matches!(forest.due(record), Due::Split { start: None, .. }) {
+            stats.add("cut that takes the loop's start away", 1);
+        }
+    }
+}

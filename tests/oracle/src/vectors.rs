@@ -1,0 +1,74 @@
+// Cases of the real geometry functions, one a line: `name numbers = result`. README.md has the format.
+use crate::core::{dot_product_three_points, get_segment_intersect_pt, is_collinear, segments_intersect, Point64};
+use crate::engine_fns::{area_triangle, pts_really_close};
+use crate::job::COORDINATE;
+use crate::rng::Rng;
+
+/// A coordinate of one of three kinds: small, near a limit, or anywhere.
+fn coordinate(rng: &mut Rng, kind: usize) -> i64 {
+    let small = rng.from(-6, 6);
+    let value = match kind {
+        0 => small,
+        1 => rng.pick(&[-COORDINATE, COORDINATE, -COORDINATE, COORDINATE, 0]),
+        2 => {
+            let near = small.abs();
+            rng.pick(&[-COORDINATE + near, COORDINATE - near])
+        }
+        3 => rng.from(-COORDINATE, COORDINATE),
+        _ => rng.from(-100, 100),
+    };
+    value as i64
+}
+
+fn points(rng: &mut Rng) -> [Point64; 4] {
+    let kind = rng.below(6);
+    let mut point = || {
+        let kind = if kind == 5 { rng.below(5) } else { kind };
+        Point64::new(coordinate(rng, kind), coordinate(rng, kind))
+    };
+    let mut four = [point(), point(), point(), point()];
+    // One case in four has its third point on the line of the first two, or two points that are one.
+    if rng.one_in(4) {
+        let (a, b) = (four[0], four[1]);
+        let (x, y) = ((a.x + b.x) / 2, (a.y + b.y) / 2);
+        four[2] = rng.pick(&[Point64::new(x, y), a, b]);
+    }
+    four
+}
+
+/// What `get_segment_intersect_pt` shows: parallel, at the start, at the end, or inside, and its point. Where the point inside
+/// falls on an end by truncation, that end is told by the fraction's own sign and size in whole numbers.
+fn crossing(a: Point64, b: Point64, c: Point64, d: Point64) -> String {
+    let mut at = Point64::new(0, 0);
+    if !get_segment_intersect_pt(a, b, c, d, &mut at) {
+        return "parallel".into();
+    }
+    let divisor = (b.y - a.y) * (d.x - c.x) - (d.y - c.y) * (b.x - a.x);
+    let along = ((a.x - c.x) * (d.y - c.y) - (a.y - c.y) * (d.x - c.x)) * divisor.signum();
+    let word = if along <= 0 {
+        "start"
+    } else if along >= divisor.abs() {
+        "end"
+    } else {
+        "inside"
+    };
+    format!("{word} {} {}", at.x, at.y)
+}
+
+pub fn geometry(seed: u64, count: u64) -> String {
+    let mut out = String::new();
+    let text = |points: &[Point64]| points.iter().map(|p| format!(" {} {}", p.x, p.y)).collect::<String>();
+    for index in 0..count {
+        let [a, b, c, d] = points(&mut Rng::of(seed, index));
+        let (two, three, four) = (text(&[a, b]), text(&[a, b, c]), text(&[a, b, c, d]));
+        let dot = dot_product_three_points(a, b, c);
+        let sign = (dot > 0.0) as i32 - (dot < 0.0) as i32;
+        out += &format!("pts_really_close{two} = {}\n", pts_really_close(a, b) as u8);
+        out += &format!("is_collinear{three} = {}\n", is_collinear(a, b, c) as u8);
+        out += &format!("dot_product_three_points{three} = {sign}\n");
+        out += &format!("area_triangle{three} = {}\n", area_triangle(a, b, c) as i64);
+        out += &format!("segments_intersect{four} = {}\n", segments_intersect(a, b, c, d, false) as u8);
+        out += &format!("get_segment_intersect_pt{four} = {}\n", crossing(a, b, c, d));
+    }
+    out
+}
