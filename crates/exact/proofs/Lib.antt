@@ -1,5 +1,6 @@
 -- Laws of whole numbers and of floats that hold them, lowest first.
 pub mod Size
+pub mod Words
 pub mod Parts
 pub mod Linear
 pub mod Poly

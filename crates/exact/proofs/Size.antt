@@ -1,16 +1,15 @@
--- Sizes of whole numbers: a sum, a difference and a product; what fits a width; equality by the bits. Assumes nothing.
+-- Sizes of whole numbers: a sum, a difference and a product; what fits a width; the test of equality. Assumes nothing.
 use mathlib.Core.Path.{_≡_, refl, sym, ap, _∙_}
 use mathlib.Core.Bool.{Bool, true, false, cond, true≢false, false≢true}
 use Prim.Native.Nat.{ℕ, zero, suc, _+_, _-_, _*_, _≤_, _<_, _^_}
-use native.Mathlib.Nat.{le-refl, le-trans, le-of-eq, mul-le-mul-left, mul-le-mul-right, lt-of-le-of-lt}
+use native.Mathlib.Nat.{le-refl, le-trans, le-of-eq, mul-le-mul-left, mul-le-mul-right}
 use native.Mathlib.Omega.{arith}
-use borrow.Author.Tests.{ltb-true, eqb-true, eq-eqb, ne-eqb}
-use lib.Dec.{T, ltb, eqb, ltb→lt}
+use borrow.Author.Tests.{ltb-true, eqb-true, eq-eqb}
+use lib.Dec.{ltb}
 use lib.IntN.{ℤ, pos, negsuc, negℤ, natAbs, subℕ, _+ℤ_, _-ℤ_, _*ℤ_}
-use mir.Syntax.{Width, w64}
-use mir.Val.{SFits, ofZ, toZ, hbits}
-use mir.Facts.{toZ-ofZ}
-use Rattle.exact.specs.Num.{Within, eqZ}
+use mir.Syntax.{Width}
+use mir.Val.{SFits, hbits}
+use Rattle.exact.specs.Num.{eqZ}
 
 size-subℕ : (a b : ℕ) → natAbs (subℕ a b) ≤ a + b
 size-subℕ a b = go (ltb a b) (ltb-true a b)
@@ -54,40 +53,6 @@ fits-size w (negsuc n) h = record { sfits = go n (2 ^ hbits w) h }
     go : (n m : ℕ) → suc n < m → n < m
     go n m h = omega arith
 
--- ---- a local of 64 bits that holds z, of size at most m
-pub record Holds (n : ℕ) (z : ℤ) (m : ℕ) : Type 0 where
-  pub is : n ≡ ofZ w64 z
-  pub within : natAbs z ≤ m
-
-pub field : {z : ℤ} {m : ℕ} → Within m z → Holds (ofZ w64 z) z m
-field h = record { is = refl; within = h .size }
-
-small : {k m : ℕ} → k ≤ m → T (ltb m (2 ^ 63)) → k < 2 ^ 63
-small {k} {m} h t = lt-of-le-of-lt h (ltb→lt m (2 ^ 63) t)
-
-fits : {z : ℤ} {m : ℕ} → natAbs z ≤ m → T (ltb m (2 ^ 63)) → SFits w64 z
-fits {z} h t = fits-size w64 z (small h t)
-
--- what is read back
-pub reads : {n : ℕ} {z : ℤ} {m : ℕ} → Holds n z m → T (ltb m (2 ^ 63)) → toZ w64 n ≡ z
-reads h t = ap (toZ w64) (h .is) ∙ toZ-ofZ (fits (h .within) t)
-
-sum-within : (a b : ℤ) {m n : ℕ} → natAbs a ≤ m → natAbs b ≤ n → natAbs (a -ℤ b) ≤ m + n
-sum-within a b h k = let s = size-sub a b in omega arith
-
-module _ {p q m n : ℕ} {a b : ℤ} (h : Holds p a m) (k : Holds q b n) (s : T (ltb m (2 ^ 63))) (t : T (ltb n (2 ^ 63))) where
-  pub sub-need : T (ltb (m + n) (2 ^ 63)) → SFits w64 (toZ w64 p -ℤ toZ w64 q)
-  sub-need u = rw (reads h s, reads k t) (fits (sum-within a b (h .within) (k .within)) u)
-
-  pub sub-holds : Holds (ofZ w64 (toZ w64 p -ℤ toZ w64 q)) (a -ℤ b) (m + n)
-  sub-holds = record { is = rw (reads h s, reads k t); within = sum-within a b (h .within) (k .within) }
-
-  pub mul-need : T (ltb (m * n) (2 ^ 63)) → SFits w64 (toZ w64 p *ℤ toZ w64 q)
-  mul-need u = rw (reads h s, reads k t) (fits (mul-within a b m n (h .within) (k .within)) u)
-
-  pub mul-holds : Holds (ofZ w64 (toZ w64 p *ℤ toZ w64 q)) (a *ℤ b) (m * n)
-  mul-holds = record { is = rw (reads h s, reads k t); within = mul-within a b m n (h .within) (k .within) }
-
 -- ---- the test eqZ
 pub eqZ-true : (a b : ℤ) → eqZ a b ≡ true → a ≡ b
 eqZ-true (pos a) (pos b) e = ap pos (eqb-true a b e)
@@ -111,14 +76,3 @@ ne-eqZ a b f = go (eqZ a b) (eqZ-true a b)
     go : (t : Bool) → (t ≡ true → a ≡ b) → t ≡ false
     go true y = absurd (f (y refl))
     go false y = refl
-
--- equal bits, equal numbers
-pub bits-eqZ : (w : Width) (a b : ℤ) → SFits w a → SFits w b → eqb (ofZ w a) (ofZ w b) ≡ eqZ a b
-bits-eqZ w a b h k = go (eqZ a b) (eqZ-true a b) (eqZ-false a b)
-  where
-    go : (t : Bool) → (t ≡ true → a ≡ b) → (t ≡ false → a ≡ b → ⊥) → eqb (ofZ w a) (ofZ w b) ≡ t
-    go true y n = eq-eqb (ofZ w a) (ofZ w b) (ap (ofZ w) (y refl))
-    go false y n = ne-eqb (ofZ w a) (ofZ w b) (λ e. n refl (sym (toZ-ofZ h) ∙ ap (toZ w) e ∙ toZ-ofZ k))
-
-pub eq-holds : {p q m n : ℕ} {a b : ℤ} → Holds p a m → Holds q b n → T (ltb m (2 ^ 63)) → T (ltb n (2 ^ 63)) → eqb p q ≡ eqZ a b
-eq-holds {a = a} {b} h k s t = rw (h .is, k .is) (bits-eqZ w64 a b (fits (h .within) s) (fits (k .within) t))

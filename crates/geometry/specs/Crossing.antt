@@ -1,4 +1,5 @@
 -- Where two edges cross: document 01, "Edge crossing"; `get_segment_intersect_pt` of core.rs. Whole numbers, but for one division, one product and one sum.
+use mathlib.Core.Path.{_≡_}
 use mathlib.Core.Bool.{Bool, true, false, cond}
 use lib.Dec.{T, leb}
 use lib.IntN.{ℤ, pos, natAbs, _-ℤ_, _*ℤ_}
@@ -9,7 +10,7 @@ use Rattle.geometry.specs.declared.Point.{Point}
 use Rattle.geometry.specs.declared.EdgePair.{EdgePair}
 use Rattle.geometry.specs.declared.Crossing.{Crossing}
 use Rattle.geometry.specs.declared.Crossing.the-variants.{Parallel, Start, End, Inside}
-use Rattle.geometry.specs.Plane.{divisor, alongFirst}
+use Rattle.geometry.specs.Plane.{InTable, divisor, alongFirst}
 
 -- the float of a whole number
 abbrev pub float : ℤ → Float
@@ -63,3 +64,9 @@ pub record Between (a b r : ℤ) : Type 0 where
 pub record InBox (a b p : Point) : Type 0 where
   pub x : Between (a .x) (b .x) (p .x)
   pub y : Between (a .y) (b .y) (p .y)
+
+-- the crossing point of the edges, and where it lies
+pub record Crossed (a b c d p : Point) : Type 0 where
+  pub is : p ≡ crossingPoint a b c d
+  pub box : InBox a b p
+  pub table : InTable p

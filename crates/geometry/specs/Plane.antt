@@ -44,9 +44,13 @@ unfoldable pub areaOutpt : List Point → ℤ
 areaOutpt [] = pos 0
 areaOutpt (pt ∷ pts) = areaFrom (lastOf pt pts) (pt ∷ pts)
 
+-- a and b differ by under 2
+abbrev pub closeBy : ℤ → ℤ → Bool
+closeBy a b = ltb (natAbs (a -ℤ b)) 2
+
 -- `pts_really_close`: "differ by under 2 in both x and y"
 unfoldable pub ptsReallyClose : Point → Point → Bool
-ptsReallyClose pt1 pt2 = ltb (natAbs (pt1 .x -ℤ pt2 .x)) 2 && ltb (natAbs (pt1 .y -ℤ pt2 .y)) 2
+ptsReallyClose pt1 pt2 = closeBy (pt1 .x) (pt2 .x) && closeBy (pt1 .y) (pt2 .y)
 
 -- `is_very_small_triangle` of three points, of which pt is the one that it is asked of
 unfoldable pub isVerySmallTriangle : Point → Point → Point → Bool

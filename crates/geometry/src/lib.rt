@@ -1,7 +1,12 @@
 // Geometry of rings: the tests on points that core.rs and engine_fns.rs have, and where two edges cross.
 
 ghost use mathlib.Core.Path.{_≡_};
-ghost use Rattle.geometry.specs.Plane.{samePoint};
+ghost use Prim.Native.Nat.{_^_};
+ghost use lib.IntN.{pos, _+ℤ_, _-ℤ_, _*ℤ_};
+ghost use Rattle.exact.specs.Num.{Within};
+ghost use Rattle.geometry.specs.Plane.{InTable, samePoint, isCollinear, dotProductThreePoints, edgeArea, areaTriangle, closeBy, ptsReallyClose, isVerySmallTriangle, removable, segmentsIntersect};
+ghost use Rattle.geometry.specs.Crossing.{edgePair, crossing, getSegmentIntersectPt, Crossed};
+ghost use Rattle.geometry.specs.Floats.{divisorF, alongF, strictlyWithinF, fractionF, Reach, steppedF};
 
 // A point; its coordinates are micrometres.
 pub struct Point {
@@ -30,4 +35,225 @@ pub fn same_point(p: Point, q: Point) -> bool
     ensures { λ r. ⌜ r ≡ samePoint p q ⌝ }
 {
     (p.x == q.x) & (p.y == q.y)
+}
+
+// a - b, for which 64 bits suffice.
+fn diff(a: i32, b: i32) -> i64
+    ensures { λ r. ⌜ r ≡ a -ℤ b ⌝ }
+{
+    a as i64 - b as i64
+}
+
+// a + b, for which 64 bits suffice.
+fn sum(a: i32, b: i32) -> i64
+    ensures { λ r. ⌜ r ≡ a +ℤ b ⌝ }
+{
+    a as i64 + b as i64
+}
+
+// The product of two sums or differences of coordinates.
+fn times(p: i64, q: i64) -> i64
+    requires { ⌜ Within (2 ^ 21) p ⌝ ∗ ⌜ Within (2 ^ 21) q ⌝ }
+    ensures { λ r. ⌜ r ≡ p *ℤ q ⌝ }
+{
+    p * q
+}
+
+// The product of two differences of coordinates.
+fn product(a: i32, b: i32, c: i32, d: i32) -> i64
+    requires { ⌜ Within (2 ^ 20) a ⌝ ∗ ⌜ Within (2 ^ 20) b ⌝ ∗ ⌜ Within (2 ^ 20) c ⌝ ∗ ⌜ Within (2 ^ 20) d ⌝ }
+    ensures { λ r. ⌜ r ≡ (a -ℤ b) *ℤ (c -ℤ d) ⌝ }
+{
+    times(diff(a, b), diff(c, d))
+}
+
+// Whether the three points lie on one line.
+pub fn is_collinear(pt1: Point, shared_pt: Point, pt2: Point) -> bool
+    requires { ⌜ InTable pt1 ⌝ ∗ ⌜ InTable «shared_pt» ⌝ ∗ ⌜ InTable pt2 ⌝ }
+    ensures { λ r. ⌜ r ≡ isCollinear pt1 «shared_pt» pt2 ⌝ }
+{
+    product(shared_pt.x, pt1.x, pt2.y, shared_pt.y)
+        == product(shared_pt.y, pt1.y, pt2.x, shared_pt.x)
+}
+
+// The edge to pt2 times the edge from it.
+pub fn dot_product_three_points(pt1: Point, pt2: Point, pt3: Point) -> i64
+    requires { ⌜ InTable pt1 ⌝ ∗ ⌜ InTable pt2 ⌝ ∗ ⌜ InTable pt3 ⌝ }
+    ensures { λ r. ⌜ r ≡ dotProductThreePoints pt1 pt2 pt3 ⌝ }
+{
+    product(pt2.x, pt1.x, pt3.x, pt2.x) + product(pt2.y, pt1.y, pt3.y, pt2.y)
+}
+
+// One edge's part in a doubled area.
+pub fn edge_area(prev: Point, pt: Point) -> i64
+    requires { ⌜ InTable prev ⌝ ∗ ⌜ InTable pt ⌝ }
+    ensures { λ r. ⌜ r ≡ edgeArea prev pt ⌝ }
+{
+    times(sum(prev.y, pt.y), diff(prev.x, pt.x))
+}
+
+// The doubled area of three points.
+pub fn area_triangle(pt1: Point, pt2: Point, pt3: Point) -> i64
+    requires { ⌜ InTable pt1 ⌝ ∗ ⌜ InTable pt2 ⌝ ∗ ⌜ InTable pt3 ⌝ }
+    ensures { λ r. ⌜ r ≡ areaTriangle pt1 pt2 pt3 ⌝ }
+{
+    edge_area(pt3, pt1) + edge_area(pt1, pt2) + edge_area(pt2, pt3)
+}
+
+// Whether a and b differ by under 2.
+fn close(a: i32, b: i32) -> bool
+    ensures { λ r. ⌜ r ≡ closeBy a b ⌝ }
+{
+    let d = diff(a, b);
+    (-2 < d) & (d < 2)
+}
+
+// Whether two points differ by under 2 in both x and y.
+pub fn pts_really_close(pt1: Point, pt2: Point) -> bool
+    ensures { λ r. ⌜ r ≡ ptsReallyClose pt1 pt2 ⌝ }
+{
+    close(pt1.x, pt2.x) & close(pt1.y, pt2.y)
+}
+
+// Whether two of the three are really close.
+pub fn is_very_small_triangle(prev: Point, pt: Point, next: Point) -> bool
+    ensures { λ r. ⌜ r ≡ isVerySmallTriangle prev pt next ⌝ }
+{
+    pts_really_close(prev, next) | pts_really_close(pt, next) | pts_really_close(pt, prev)
+}
+
+// Whether `clean_collinear` drops pt: it lies in line, and is double, or in-line points go, or it is a spike.
+pub fn removable(preserve: bool, prev: Point, pt: Point, next: Point) -> bool
+    requires { ⌜ InTable prev ⌝ ∗ ⌜ InTable pt ⌝ ∗ ⌜ InTable next ⌝ }
+    ensures { λ r. ⌜ r ≡ removable preserve prev pt next ⌝ }
+{
+    let spike = dot_product_three_points(prev, pt, next) < 0;
+    is_collinear(prev, pt, next) & (same_point(pt, prev) | same_point(pt, next) | !preserve | spike)
+}
+
+// The differences of the edges from a to b and from c to d.
+pub fn edge_pair(a: Point, b: Point, c: Point, d: Point) -> EdgePair
+    requires { ⌜ InTable a ⌝ ∗ ⌜ InTable b ⌝ ∗ ⌜ InTable c ⌝ ∗ ⌜ InTable d ⌝ }
+    ensures { λ r. ⌜ r ≡ edgePair a b c d ⌝ }
+{
+    EdgePair {
+        dx1: b.x as f64 - a.x as f64,
+        dy1: b.y as f64 - a.y as f64,
+        dx2: d.x as f64 - c.x as f64,
+        dy2: d.y as f64 - c.y as f64,
+    }
+}
+
+// The cross product of the two edges.
+fn divisor(e: EdgePair) -> f64
+    ensures { λ r. ⌜ r ≡ divisorF e ⌝ }
+{
+    e.dy1 * e.dx2 - e.dy2 * e.dx1
+}
+
+// The cross product of the edge (dx, dy) and the way from c to a.
+fn along(a: Point, c: Point, dx: f64, dy: f64) -> f64
+    requires { ⌜ InTable a ⌝ ∗ ⌜ InTable c ⌝ }
+    ensures { λ r. ⌜ r ≡ alongF (a .x) (a .y) (c .x) (c .y) dx dy ⌝ }
+{
+    (a.x as f64 - c.x as f64) * dy - (a.y as f64 - c.y as f64) * dx
+}
+
+// Whether t lies strictly between 0 and cp.
+fn strictly_within(t: f64, cp: f64) -> bool
+    ensures { λ r. ⌜ r ≡ strictlyWithinF t cp ⌝ }
+{
+    if t > 0.0 {
+        return t < cp;
+    }
+    if t < 0.0 {
+        return cp < t;
+    }
+    false
+}
+
+// Whether the edges from a to b and from c to d cross at an inner point of both.
+pub fn segments_intersect(a: Point, b: Point, c: Point, d: Point) -> bool
+    requires { ⌜ InTable a ⌝ ∗ ⌜ InTable b ⌝ ∗ ⌜ InTable c ⌝ ∗ ⌜ InTable d ⌝ }
+    ensures { λ r. ⌜ r ≡ segmentsIntersect a b c d ⌝ }
+{
+    let e = edge_pair(a, b, c, d);
+    let cp = divisor(e);
+    if cp == 0.0 {
+        return false;
+    }
+    strictly_within(along(a, c, e.dx2, e.dy2), cp) & strictly_within(along(a, c, e.dx1, e.dy1), cp)
+}
+
+// num / det as a fraction of an edge.
+fn fraction(num: f64, det: f64) -> Crossing
+    ensures { λ r. ⌜ r ≡ fractionF num det ⌝ }
+{
+    if det == 0.0 {
+        return Crossing::Parallel;
+    }
+    let t = num / det;
+    if t <= 0.0 {
+        return Crossing::Start;
+    }
+    if t >= 1.0 {
+        return Crossing::End;
+    }
+    Crossing::Inside(t)
+}
+
+// Where the second edge's line meets the first, by their differences and starts.
+fn crossing_at(e: EdgePair, a: Point, c: Point) -> Crossing
+    requires { ⌜ InTable a ⌝ ∗ ⌜ InTable c ⌝ }
+    ensures { λ r. ⌜ r ≡ fractionF (alongF (a .x) (a .y) (c .x) (c .y) (e .dx2) (e .dy2)) (divisorF e) ⌝ }
+{
+    fraction(along(a, c, e.dx2, e.dy2), divisor(e))
+}
+
+// Where the line of the edge from c to d meets the edge from a to b.
+pub fn edge_crossing(a: Point, b: Point, c: Point, d: Point) -> Crossing
+    requires { ⌜ InTable a ⌝ ∗ ⌜ InTable b ⌝ ∗ ⌜ InTable c ⌝ ∗ ⌜ InTable d ⌝ }
+    ensures { λ r. ⌜ r ≡ crossing a b c d ⌝ }
+{
+    crossing_at(edge_pair(a, b, c, d), a, c)
+}
+
+// From a by the fraction t of the difference d, without what is left of a whole number.
+fn stepped(a: i32, d: f64, t: f64) -> i32
+    requires { ⌜ Reach a d t ⌝ }
+    ensures { λ r. ⌜ r ≡ steppedF a d t ⌝ }
+{
+    std::num::truncating_f64_to_i64(a as f64 + t * d) as i32
+}
+
+// What `get_segment_intersect_pt` leaves in its `ip`, handed in and back by value: parallel edges leave it as it was.
+pub fn get_segment_intersect_pt(
+    ln1a: Point,
+    ln1b: Point,
+    ln2a: Point,
+    ln2b: Point,
+    ip: Point,
+) -> Point
+    requires { ⌜ InTable ln1a ⌝ ∗ ⌜ InTable ln1b ⌝ ∗ ⌜ InTable ln2a ⌝ ∗ ⌜ InTable ln2b ⌝ }
+    ensures { λ r. ⌜ r ≡ getSegmentIntersectPt ln1a ln1b ln2a ln2b ip ⌝ }
+{
+    let e = edge_pair(ln1a, ln1b, ln2a, ln2b);
+    let f = crossing_at(e, ln1a, ln2a);
+    match f {
+        Crossing::Parallel => ip,
+        Crossing::Start => ln1a,
+        Crossing::End => ln1b,
+        Crossing::Inside(t) => Point {
+            x: stepped(ln1a.x, e.dx1, t),
+            y: stepped(ln1a.y, e.dy1, t),
+        },
+    }
+}
+
+// The crossing point of `do_split_op`, whose `ip` begins as the first edge's start.
+pub fn crossing_point(a: Point, b: Point, c: Point, d: Point) -> Point
+    requires { ⌜ InTable a ⌝ ∗ ⌜ InTable b ⌝ ∗ ⌜ InTable c ⌝ ∗ ⌜ InTable d ⌝ }
+    ensures { λ r. ⌜ Crossed a b c d r ⌝ }
+{
+    get_segment_intersect_pt(a, b, c, d, a)
 }

@@ -1,6 +1,6 @@
 -- `geometry::same_point` meets its contract: equal bits are equal numbers. Assumes nothing.
 use mir.Syntax.{w32}
-use Rattle.exact.proofs.Size.{bits-eqZ}
+use Rattle.exact.proofs.Words.{bits-eqZ}
 use Rattle.geometry.specs.Plane.{samePoint}
 use Rattle.geometry.proofs.same_point.Statement.{statement}
 use Rattle.geometry.proofs.same_point.Tie as tie

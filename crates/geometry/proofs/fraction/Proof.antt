@@ -1,0 +1,14 @@
+-- `geometry::fraction` meets its contract. Assumes nothing.
+use Rattle.geometry.specs.Floats.{fractionF}
+use Rattle.geometry.proofs.fraction.Statement.{statement}
+use Rattle.geometry.proofs.fraction.Tie as tie
+
+pub fraction-spec : {M : Type 1} → statement M
+unfolding fractionF
+fraction-spec =
+    tie.close
+    (tie.spec
+    (λ c. rw (c .if1 .taken))
+    (λ c. rw (c .before .if1 .left, c .if2 .taken))
+    (λ c. rw (c .before .before .if1 .left, c .before .if2 .left, c .if3 .taken))
+    (λ c. rw (c .before .before .if1 .left, c .before .if2 .left, c .if3 .left)))

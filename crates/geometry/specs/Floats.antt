@@ -1,0 +1,46 @@
+-- The inner steps of the crossing test and of the crossing, for every float: what the code computes. On points within the limit they are Plane's and Crossing's whole numbers, which proofs/Edges shows.
+use mathlib.Core.Bool.{Bool, false, cond}
+use Prim.Native.Nat.{_^_}
+use lib.IntN.{ℤ, _-ℤ_}
+use lib.Ieee.{Float, binary64, ofBits, add, sub, mul, div, lt, le, eq, toSigned}
+use Rattle.exact.specs.Num.{Within, Whole, Part}
+use Rattle.geometry.specs.declared.EdgePair.{EdgePair}
+use Rattle.geometry.specs.declared.Crossing.{Crossing}
+use Rattle.geometry.specs.declared.Crossing.the-variants.{Parallel, Start, End, Inside}
+use Rattle.geometry.specs.Crossing.{float, pick}
+
+-- 0.0 and 1.0
+abbrev pub zeroF : Float
+zeroF = ofBits binary64 0
+
+abbrev pub oneF : Float
+oneF = ofBits binary64 0x3ff0_0000_0000_0000
+
+-- the cross product of the two edges
+abbrev pub divisorF : EdgePair → Float
+divisorF e = sub binary64 (mul binary64 (e .dy1) (e .dx2)) (mul binary64 (e .dy2) (e .dx1))
+
+-- the cross product of the edge (dx, dy) and the way from (cx, cy) to (ax, ay)
+abbrev pub alongF : ℤ → ℤ → ℤ → ℤ → Float → Float → Float
+alongF ax ay cx cy dx dy =
+    sub binary64 (mul binary64 (sub binary64 (float ax) (float cx)) dy) (mul binary64 (sub binary64 (float ay) (float cy)) dx)
+
+-- t lies strictly between 0 and cp
+unfoldable pub strictlyWithinF : Float → Float → Bool
+strictlyWithinF t cp = cond (lt zeroF t) (lt t cp) (cond (lt t zeroF) (lt cp t) false)
+
+-- num / det as a fraction of an edge
+unfoldable pub fractionF : Float → Float → Crossing
+fractionF num det = pick (eq det zeroF) Parallel (pick (le (div binary64 num det) zeroF) Start (pick (le oneF (div binary64 num det)) End (Inside (div binary64 num det))))
+
+-- from a by the fraction t of d: the product rounded, the sum rounded, then toward zero
+unfoldable pub steppedF : ℤ → Float → Float → ℤ
+steppedF a d t = toSigned 63 (add binary64 (float a) (mul binary64 t d))
+
+-- d leads from the coordinate a to another, and t is a fraction from 0 to 1
+pub record Reach (a : ℤ) (d t : Float) : Type 0 where
+  pub to : ℤ
+  pub from : Within (2 ^ 20) a
+  pub end : Within (2 ^ 20) to
+  pub step : Whole d (to -ℤ a)
+  pub part : Part t
