@@ -3,22 +3,24 @@ use mathlib.Core.Path.{_≡_, refl, sym, ap, _∙_}
 use mathlib.Core.Logic.{_⊎_, inl, inr}
 use mathlib.Core.Bool.{Bool, true, false, _&&_, _||_, true≢false}
 use Prim.Native.Nat.{ℕ, zero, suc, _-_, _*_, _≤_, _<_, _^_, zero-le, suc-le-suc}
-use native.Mathlib.Nat.{mul-one, le-of-lt, mul-pos, zero-mul}
+use native.Mathlib.Nat.{mul-one, one-mul, le-trans, le-of-eq, le-of-lt, mul-pos, zero-mul}
 use native.Mathlib.Omega.{arith}
-use borrow.Author.Tests.{ltb-true, ltb-false, ne-eqb, le-leb, lt-leb, le-ltb}
+use borrow.Author.Tests.{ltb-true, ltb-false, leb-false, ne-eqb, le-leb, lt-leb, lt-ltb, le-ltb}
 use lib.Dec.{T, ltb, leb, eqb, lit<}
 use lib.IntN.{ℤ, pos, negsuc, negℤ, natAbs, _*ℤ_}
 use lib.Signed.{leZ}
 use lib.Ieee.{Float, nan, inf, fin, Format, binary64, up, down, round, div, le, lt, eq, neg, unlike, ofBits}
 use lib.Ieee.Exact.{HasValue}
+use lib.Ieee.Back.{round-whole}
+use lib.Ieee.Positive.{num, den, den-pos}
 use lib.Ieee.Scale.{round-same}
 use lib.Ieee.Order.{round-mono}
 use lib.Ieee.Fits.{down-pos}
 use lib.Ieee.Bits.{is-true}
-use Rattle.exact.proofs.Bounds.{plus, round-plus, le-cross, round-neg}
+use Rattle.exact.proofs.Bounds.{plus, under, round-plus, le-cross, round-neg}
 use Rattle.exact.proofs.Floats.{one-pos}
-use Rattle.exact.proofs.Fractions.{le-is, size-signed, signed-mul}
-use Rattle.exact.specs.Num.{eqZ, signed, Whole}
+use Rattle.exact.proofs.Fractions.{le-is, lt-is, size-signed, signed-mul}
+use Rattle.exact.specs.Num.{eqZ, signed, Exact, Whole, Part}
 
 above : (n u b d : ℕ) → 0 < b → 0 < d → n * u * 1 ≡ b * d → n ≡ 0 → ⊥
 above n u b d B D e z = let p : 0 < b * d = mul-pos B D in let q : n * u ≡ 0 = ap (λ (i : ℕ). i * u) z ∙ zero-mul u in omega arith
@@ -178,3 +180,36 @@ module _ {x y : Float} {u v : ℤ} (p : Whole x u) (q : Whole y v) (h : 0 < natA
 
   pub end-is : leZ (u *ℤ v) (pos 0) ≡ false → le (ofBits binary64 0x3ff0_0000_0000_0000) (div binary64 x y) ≡ leb (natAbs v) (natAbs u)
   end-is e = rw (inside-is e) (end-at (natAbs u) (natAbs v) h b)
+
+-- ---- a proper fraction rounds to a float strictly between 0 and 1
+pub part-round : (n d : ℕ) → 0 < d → n ≤ d → Part (round binary64 false n d)
+part-round n d D h =
+    let x = round binary64 false n d in
+    let u = under x (round binary64 false 1 1) 1 (round-plus binary64 n d) (round-whole binary64 false 1 (omega arith)) (round-mono binary64 n d 1 1 D one-pos (omega arith)) in
+    record { num = num x; den = den x; some = den-pos x; has = u .0; small = le-trans (u .1) (le-of-eq (one-mul (den x))) }
+
+module _ {t : Float} (p : Part t) where
+  value : Exact t (pos (p .num)) (p .den)
+  value = record { sign = false; size = p .num; has = p .has; is = refl }
+
+  zero-value : Exact (ofBits binary64 0) (pos 0) (p .den)
+  zero-value = rw zero-lit (record { sign = false; size = 0; has = (refl, zero-mul (p .den)); is = refl })
+
+  one-value : Exact (ofBits binary64 0x3ff0_0000_0000_0000) (pos (p .den)) (p .den)
+  one-value = rw one-lit (record { sign = false; size = p .den; has = (refl, one-mul (p .den) ∙ sym (mul-one (p .den))); is = refl })
+
+  above-zero : le t (ofBits binary64 0) ≡ false → lt (ofBits binary64 0) t ≡ true
+  above-zero e = lt-is (p .some) zero-value value ∙ lt-ltb 0 (p .num) (leb-false (p .num) 0 (sym (le-is (p .some) value zero-value) ∙ e))
+
+  below-one-lt : le (ofBits binary64 0x3ff0_0000_0000_0000) t ≡ false → lt t (ofBits binary64 0x3ff0_0000_0000_0000) ≡ true
+  below-one-lt e = lt-is (p .some) value one-value ∙ lt-ltb (p .num) (p .den) (leb-false (p .den) (p .num) (sym (le-is (p .some) one-value value) ∙ e))
+
+module _ (n d : ℕ) (N : 0 < n) (h : n < d) (D : d ≤ 2 ^ 53) where
+  some-den : 0 < d
+  some-den = omega arith
+
+  pub round-above : lt (ofBits binary64 0) (round binary64 false n d) ≡ true
+  round-above = above-zero (part-round n d some-den (le-of-lt h)) (start-at n d some-den D false ∙ lt-leb (n * d) 0 (mul-pos N some-den))
+
+  pub round-below : lt (round binary64 false n d) (ofBits binary64 0x3ff0_0000_0000_0000) ≡ true
+  round-below = below-one-lt (part-round n d some-den (le-of-lt h)) (end-at n d some-den D ∙ lt-leb d n h)

@@ -2,20 +2,16 @@
 use mathlib.Core.Path.{_≡_, refl, subst, _∙_}
 use mathlib.Core.Bool.{Bool, true, false}
 use Prim.Native.Nat.{ℕ, _≤_, _<_, _^_}
-use native.Mathlib.Nat.{le-trans, le-of-eq, le-of-lt, one-mul}
+use native.Mathlib.Nat.{le-trans, le-of-lt}
 use native.Mathlib.Omega.{arith}
 use borrow.Author.Tests.{leb-false}
 use lib.Dec.{leb, leb→le}
 use lib.IntN.{ℤ, pos, natAbs, _*ℤ_}
 use lib.Signed.{leZ}
 use lib.Ieee.{Float, binary64, round, div, le}
-use lib.Ieee.Order.{round-mono}
-use lib.Ieee.Back.{round-whole}
-use lib.Ieee.Positive.{num, den, den-pos}
 use Rattle.exact.specs.Num.{Num, Part, eqZ}
-use Rattle.exact.proofs.Floats.{num-zero, num-eq, one-pos}
-use Rattle.exact.proofs.Bounds.{under, round-plus}
-use Rattle.exact.proofs.Quotient.{size-pos, start-is, inside-is, end-is}
+use Rattle.exact.proofs.Floats.{num-zero, num-eq}
+use Rattle.exact.proofs.Quotient.{size-pos, start-is, inside-is, end-is, part-round}
 use Rattle.geometry.specs.declared.Point.{Point}
 use Rattle.geometry.specs.declared.EdgePair.{EdgePair}
 use Rattle.geometry.specs.declared.Crossing.{Crossing}
@@ -52,12 +48,6 @@ unfolding crossing
 crossing-of A B C D p r = r ∙ rw p (fraction-float (num-first A B C D) (num-divisor A B C D) (leb→le (2 ^ 43) (2 ^ 53) tt))
 
 -- ---- a crossing's fraction lies between 0 and 1
-part-round : (n d : ℕ) → 0 < d → n ≤ d → Part (round binary64 false n d)
-part-round n d D h =
-    let x = round binary64 false n d in
-    let u = under x (round binary64 false 1 1) 1 (round-plus binary64 n d) (round-whole binary64 false 1 (omega arith)) (round-mono binary64 n d 1 1 D one-pos (omega arith)) in
-    record { num = num x; den = den x; some = den-pos x; has = u .0; small = le-trans (u .1) (le-of-eq (one-mul (den x))) }
-
 pub part-of : (u v : ℤ) (t : Float) → fractionOf u v ≡ Inside t → Part t
 unfolding fractionOf
 part-of u v t e = go (eqZ v (pos 0)) (leZ (u *ℤ v) (pos 0)) (leb (natAbs v) (natAbs u)) (size-pos v) (leb-false (natAbs v) (natAbs u)) e

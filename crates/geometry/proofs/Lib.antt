@@ -5,3 +5,8 @@ pub mod Edges
 pub mod Fractions
 pub mod Box
 pub mod Crossings
+pub mod Triangles
+pub mod Circles
+pub mod Points
+pub mod Apart
+pub mod Inner

@@ -14,6 +14,11 @@ pub record InTable (p : Point) : Type 0 where
   pub x : Within (2 ^ 20) (p .x)
   pub y : Within (2 ^ 20) (p .y)
 
+-- every point of a list
+abbrev pub AllInTable : List Point → Type 0
+AllInTable [] = Unit {0}
+AllInTable (p ∷ ps) = InTable p × AllInTable ps
+
 -- equality of points, `==` of the Rust
 unfoldable pub samePoint : Point → Point → Bool
 samePoint p q = eqZ (p .x) (q .x) && eqZ (p .y) (q .y)
