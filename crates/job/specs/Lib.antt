@@ -1,3 +1,5 @@
 pub mod Limits
 pub mod Refusal
+pub mod Coordinate
+pub mod Field
 pub mod Job

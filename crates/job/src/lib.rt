@@ -1,9 +1,13 @@
 // A job: its limits, what reading it carries along, its refusals and its fields.
+pub mod field;
 pub mod refusal;
 
+use crate::field::Field;
 ghost use mathlib.Core.Path.{_≡_};
+ghost use Prim.Native.Nat.{_+_, _<_, _^_};
 ghost use Rattle.job.specs.Limits as limit;
-ghost use Rattle.job.specs.Job.{fresh};
+ghost use Rattle.job.specs.Job.{fresh, past, Within};
+ghost use Rattle.job.specs.Coordinate.{offTheTable};
 
 // What reading carries from field to field: how far it is, the last tag (0 before the first field), the settings' bits, and
 // how many fields of each kind there were.
@@ -40,6 +44,62 @@ impl Job {
             segments: 0,
             joins: 0,
         }
+    }
+
+    // Past a field of n bytes.
+    pub fn past(self, f: Field, n: usize) -> Job
+        requires { ⌜ Within self × (self .at + n < 2 ^ 64) ⌝ }
+        ensures { λ r. ⌜ r ≡ past f n self ⌝ }
+    {
+        let mut j = self;
+        j.at = self.at + n;
+        match f {
+            Field::Settings { bits } => {
+                j.last = 1;
+                j.bits = bits;
+                return j;
+            }
+            Field::Point {
+                x: _,
+                y: _,
+                next: _,
+                prev: _,
+                record: _,
+            } => {
+                j.last = 2;
+                j.points = self.points + 1;
+                return j;
+            }
+            Field::Record {
+                flags: _,
+                owner: _,
+                first: _,
+            } => {
+                j.last = 3;
+                j.records = self.records + 1;
+                return j;
+            }
+            Field::Segment { point: _ } => {
+                j.last = 4;
+                j.segments = self.segments + 1;
+                return j;
+            }
+            Field::Join {
+                first: _,
+                second: _,
+            } => {
+                j.last = 5;
+                j.joins = self.joins + 1;
+                return j;
+            }
+        }
+    }
+
+    // Whether a coordinate's word is beyond the limit.
+    pub fn off_the_table(w: u32) -> bool
+        ensures { λ r. ⌜ r ≡ offTheTable w ⌝ }
+    {
+        2 * Job::COORDINATE < w
     }
 }
 

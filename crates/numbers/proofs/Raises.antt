@@ -1,16 +1,13 @@
 -- What a raised word means, for every raise together.
 use mathlib.Core.Path.{_≡_, refl, sym, ap, _∙_}
-use mathlib.Core.Bool.{Bool, true, false, cond}
-use Prim.Native.Nat.{ℕ, zero, suc, _+_, _*_, _-_, _%_, _^_, _<_, _≤_}
+use Prim.Native.Nat.{ℕ, zero, suc, _+_, _*_, _-_, _^_, _<_, _≤_}
 use native.Mathlib.Decide.{decLt}
 use native.Mathlib.Omega.{arith}
 use lib.Dec.{ltb}
-use lib.IntN.{ℤ, natAbs, pos, negsuc, subℕ, _-ℤ_}
+use lib.IntN.{natAbs, pos, negsuc, subℕ, _-ℤ_}
 use borrow.Author.Tests.{lt-ltb, le-ltb}
-use mir.Syntax.{w32, w64}
-use mir.Val.{toZ, SFits}
+use mir.Syntax.{w32}
 use mir.ValLaws.{toZ-pos}
-use lib.Signed.{mag}
 use Rattle.numbers.specs.Raised.{raised, lowered, signed, coordinate}
 
 -- raising and lowering are inverse to each other

@@ -1,0 +1,4 @@
+pub mod Fields
+pub mod Accepted
+pub mod Coordinates
+pub mod Rows
