@@ -2,4 +2,3 @@
 pub mod Storing
 pub mod Soundness
 pub mod Keeping
-pub mod Testing

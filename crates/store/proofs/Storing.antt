@@ -164,3 +164,8 @@ got f w i k r h e q = q ∙ ap (λ (n : ℕ). getD w n 0) e ∙ sym (cell-at f w
 pub stored : (f : Field) (w w′ : List ℕ) (i k v : ℕ) → k ≡ base f + i → w′ ≡ set w k v → w′ ≡ put f w i v
 unfolding put
 stored f w w′ i k v e q = q ∙ ap (λ (n : ℕ). set w n v) e
+
+-- past its end a column reads 0
+pub past-end : (f : Field) (w : List ℕ) (i n : ℕ) → n ≡ size f → n ≤ i → 0 ≡ cell f w i
+unfolding cell
+past-end f w i n e h = rw (le-ltb i (size f) (omega arith))

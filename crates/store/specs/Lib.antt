@@ -4,5 +4,3 @@ pub mod Column
 pub mod Words
 pub mod Sound
 pub mod Named
-pub mod Tests
-pub mod Marks

@@ -1,5 +1,5 @@
 use borrow.Author.Needs.{needs}
-use Rattle.store.proofs.Testing.{past-end}
+use Rattle.store.proofs.Storing.{past-end}
 use Rattle.store.proofs.read.Statement.{statement}
 use Rattle.store.proofs.read.Tie as tie
 use Rattle.store.proofs.read.Reads as reads

@@ -1,0 +1,148 @@
+-- The loops of the tests, one turn at a time: each law's premises are what the callees ensure, and the branches.
+use Prim.Native.Nat.{ℕ, zero, suc, _+_, _-_, _%_, _≤_, _<_}
+use mathlib.Core.Path.{_≡_, refl, ap, _∙_, sym, subst}
+use mathlib.Core.Logic.{_≢_}
+use mathlib.Core.Bool.{Bool, true, false, cond, not, _&&_, _||_}
+use mathlib.Core.List.{List, [], _∷_}
+use native.Mathlib.Omega.{arith}
+use native.Mathlib.Nat.{zero-add}
+use native.Mathlib.Numerals.{sub-one, add-one}
+use lib.Dec.{eqb, ltb}
+use lib.ListN.{length, getD, set, length-set, length-replicate, List·getD-eq-default}
+use borrow.Author.Tests.{eq-eqb, ne-eqb, eqb-true, lt-ltb, le-ltb}
+use Rattle.rings.specs.Count.{one, occ}
+use Rattle.rings.specs.Walk.{run}
+use Rattle.rings.proofs.Counting.{one-here, one-else}
+use Rattle.store.specs.Named.{pointsOf, recordsOf, nextOf, firstOf, flagsOf, progressOf, presentOf, ringOf}
+use Rattle.audit.specs.Tests.{isIn, anyBelow, astray}
+use Rattle.audit.specs.Marks.{Counted, isMarked, markFrom, marksBy, meets, AllMarked}
+
+-- ---- the first number below n that fails
+
+module _ (q : ℕ → Bool) where
+  pub none : anyBelow 0 q ≡ false
+  unfolding anyBelow
+  none = refl
+
+  pub more : (i : ℕ) (b : Bool) → anyBelow i q ≡ false → b ≡ q i → b ≡ false → anyBelow (i + 1) q ≡ false
+  unfolding anyBelow
+  more i b h e f = rw (add-one, h, sym e ∙ f)
+
+  first : (n i : ℕ) (b : Bool) → i < n → b ≡ q i → b ≡ true → true ≡ anyBelow n q
+  unfolding anyBelow
+  first zero i b h e f = absurd (omega arith)
+  first (suc n) i b h e f = go (anyBelow n q) refl (q n) refl (λ l. first n i b l e f)
+    where
+      go : (x : Bool) → anyBelow n q ≡ x → (y : Bool) → q n ≡ y → (i < n → true ≡ anyBelow n q) → true ≡ (x || y)
+      go true a y z r = refl
+      go false a true z r = refl
+      go false a false z r = absurd (clash (omega (arith, not-it)))
+        where
+          not-it : i ≢ n
+          not-it g = let u : true ≡ false = sym f ∙ e ∙ ap q g ∙ z in let v : _≡_ {A = ℕ} 0 1 = cc in omega arith
+
+          clash : i < n → ⊥
+          clash l = let u : true ≡ false = r l ∙ a in let v : _≡_ {A = ℕ} 0 1 = cc in omega arith
+
+  -- c is the count as the code read it
+  pub hit : (n c i : ℕ) (b : Bool) → i < c → c ≡ n → b ≡ q i → b ≡ true → true ≡ anyBelow n q
+  hit n c i b h d e f = first n i b (omega arith) e f
+
+  pub whole : (n c i : ℕ) → c ≤ i → c ≡ n → i ≤ n → anyBelow i q ≡ false → false ≡ anyBelow n q
+  whole n c i h g k e = let d : i ≡ n = omega arith in rw (← d) (sym e)
+
+pub both-yes : (a r x y : Bool) → a ≡ x → a ≡ true → r ≡ y → r ≡ (x && y)
+both-yes a r x y e h g = rw (sym e ∙ h) g
+
+pub both-no : (a x y : Bool) → a ≡ x → a ≡ false → false ≡ (x && y)
+both-no a x y e h = rw (sym e ∙ h)
+
+-- ---- marking
+
+pub unmarked : (ms : List ℕ) (k : ℕ) → 2048 ≤ k → false ≡ isMarked ms k
+unmarked ms k h = rw (le-ltb k 2048 h)
+
+pub marked-at : (ms : List ℕ) (k : ℕ) → k < 2048 → not (eqb (getD ms k 0) 0) ≡ isMarked ms k
+marked-at ms k h = rw (lt-ltb k 2048 h)
+
+module _ (n : ℕ → ℕ) (m p : ℕ) (ms F : List ℕ) where
+  pub mark-out : (k c : ℕ) → c ≡ m → c ≤ p → markFrom k n m ms p ≡ F → ms ≡ F
+  unfolding markFrom
+  mark-out zero c d h e = e
+  mark-out (suc k) c d h e = rw (le-ltb p m (omega arith)) at e
+
+  pub mark-met : (k c : ℕ) → m ≤ 2048 → c ≡ m → p < c → getD ms p 0 ≢ 0 → markFrom k n m ms p ≡ F → ms ≡ F
+  unfolding markFrom
+  mark-met zero c f d l h e = e
+  mark-met (suc k) c f d l h e = rw (lt-ltb p m (omega arith), lt-ltb p 2048 (omega arith), ne-eqb (getD ms p 0) 0 h) at e
+
+  pub mark-on : (k c q : ℕ) → 0 < k → m ≤ 2048 → c ≡ m → p < c → getD ms p 0 ≡ 0 → q ≡ n p → markFrom k n m ms p ≡ F → markFrom (k - 1) n m (set ms p 1) q ≡ F
+  unfolding markFrom
+  mark-on zero c q z f d l h g e = absurd (omega arith)
+  mark-on (suc k) c q z f d l h g e = rw (sub-one, g) (rw (lt-ltb p m (omega arith), lt-ltb p 2048 (omega arith), eq-eqb (getD ms p 0) 0 h) at e)
+
+  pub mark-over : (k : ℕ) → k ≤ 0 → markFrom k n m ms p ≡ F → ms ≡ F
+  unfolding markFrom
+  mark-over zero z e = e
+  mark-over (suc k) z e = absurd (omega arith)
+
+pub marks-more : (w : List ℕ) (i a : ℕ) (ms ms′ : List ℕ) → ms ≡ marksBy w i → a ≡ firstOf w i → ms′ ≡ markFrom 2048 (nextOf w) (pointsOf w) ms a → ms′ ≡ marksBy w (i + 1)
+unfolding marksBy
+marks-more w i a ms ms′ e d g = rw add-one (g ∙ ap (λ (l : List ℕ). markFrom 2048 (nextOf w) (pointsOf w) l a) e ∙ ap (markFrom 2048 (nextOf w) (pointsOf w) (marksBy w i)) d)
+
+pub met-more : (w : List ℕ) (i a : ℕ) (ms : List ℕ) (s b : Bool) → s ≡ anyBelow i (meets w) → ms ≡ marksBy w i → a ≡ firstOf w i → b ≡ isMarked ms a → (s || b) ≡ anyBelow (i + 1) (meets w)
+unfolding anyBelow
+met-more w i a ms s b f e d g = rw (add-one, f, g, e, d)
+
+pub all-marked : (w : List ℕ) (n i : ℕ) (ms : List ℕ) (b : Bool) → n ≤ i → n ≡ recordsOf w → i ≤ recordsOf w → ms ≡ marksBy w i → b ≡ anyBelow i (meets w) → AllMarked w ms b
+all-marked w n i ms b h g k e f = let d : i ≡ recordsOf w = omega arith in record { marks = e ∙ ap (marksBy w) d; shares = f ∙ ap (λ (j : ℕ). anyBelow j (meets w)) d }
+
+-- ---- whether a point is on a ring
+
+module _ (n : ℕ → ℕ) (stop p k : ℕ) (F : Bool) where
+  pub ring-here : (f : ℕ) → 0 < f → p ≡ k → isIn k (run n stop f p) ≡ F → true ≡ F
+  unfolding run
+  ring-here zero z h e = absurd (omega arith)
+  ring-here (suc f) z h e =
+      sym (lt-ltb 0 (occ k (run n stop (suc f) p)) (omega (arith, subst (λ (x : ℕ). one k x ≡ 1) (sym h) (one-here k)))) ∙ e
+
+  pub ring-back : (f q : ℕ) → 0 < f → p ≢ k → q ≡ n p → q ≡ stop → isIn k (run n stop f p) ≡ F → false ≡ F
+  unfolding run
+  ring-back zero q z d g h e = absurd (omega arith)
+  ring-back (suc f) q z d g h e = rw (eq-eqb (n p) stop (sym g ∙ h), one-else k p d) at e
+
+  pub ring-on : (f q : ℕ) → 0 < f → p ≢ k → q ≡ n p → q ≢ stop → isIn k (run n stop f p) ≡ F → isIn k (run n stop (f - 1) q) ≡ F
+  unfolding run
+  ring-on zero q z d g h e = absurd (omega arith)
+  ring-on (suc f) q z d g h e = rw (sub-one, g) (rw (ne-eqb (n p) stop (λ y. h (g ∙ y)), one-else k p d, zero-add) at e)
+
+  pub ring-over : (f : ℕ) → f ≤ 0 → isIn k (run n stop f p) ≡ F → false ≡ F
+  unfolding run
+  ring-over zero z e = e
+  ring-over (suc f) z e = absurd (omega arith)
+
+-- ---- a ring's progress
+
+module _ (w : List ℕ) (i f : ℕ) (ef : f ≡ firstOf w i) where
+  pub astray-bare : f ≡ 65535 → false ≡ astray w i
+  astray-bare h = rw (eq-eqb (firstOf w i) 65535 (sym ef ∙ h))
+
+  module _ (h : f ≢ 65535) (g : ℕ) (eg : g ≡ flagsOf w i) where
+    ringed : eqb (firstOf w i) 65535 ≡ false
+    ringed = ne-eqb (firstOf w i) 65535 (λ z. h (ef ∙ z))
+
+    pub astray-open : g % 2 ≡ 1 → false ≡ astray w i
+    astray-open k = rw (ringed, eq-eqb (flagsOf w i % 2) 1 (ap (λ (x : ℕ). x % 2) (sym eg) ∙ k))
+
+    module _ (k : g % 2 ≢ 1) (d : ℕ) (ed : d ≡ progressOf w i) where
+      shut : eqb (flagsOf w i % 2) 1 ≡ false
+      shut = ne-eqb (flagsOf w i % 2) 1 (λ z. k (ap (λ (x : ℕ). x % 2) eg ∙ z))
+
+      pub astray-mark : 4 < d → true ≡ astray w i
+      astray-mark l = rw (ringed, shut, lt-ltb 4 (progressOf w i) (omega arith))
+
+      pub astray-done : d ≡ 4 → false ≡ astray w i
+      astray-done e = rw (ringed, shut, ← ed, e)
+
+      pub astray-else : (p : ℕ) (b : Bool) → d ≤ 4 → d ≢ 4 → p ≡ presentOf w i → b ≡ isIn p (ringOf w f) → not b ≡ astray w i
+      astray-else p b l n ep eb = rw (ringed, shut, le-ltb 4 (progressOf w i) (omega arith), lt-ltb (progressOf w i) 4 (omega arith), eb, ep, ef)

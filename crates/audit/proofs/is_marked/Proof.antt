@@ -1,0 +1,13 @@
+-- is_marked meets its contract: past the marks there is none.
+use borrow.Author.Needs.{needs}
+use Rattle.audit.proofs.Testing.{unmarked, marked-at}
+use Rattle.audit.proofs.is_marked.Statement.{statement}
+use Rattle.audit.proofs.is_marked.Tie as tie
+
+pub is-marked-spec : {M : Type 1} → statement M
+is-marked-spec =
+    tie.close
+    (tie.spec
+    (λ c. search needs)
+    (λ c. search (needs, marked-at))
+    (λ c. search (needs, unmarked)))

@@ -1,0 +1,32 @@
+-- mark_all meets its contract: after record i the marks are those of the records so far.
+use borrow.Author.Needs.{needs}
+use mathlib.Core.Path.{_≡_, sym}
+use Prim.Native.Nat.{_-_, _≤_}
+use Rattle.store.specs.Named.{recordsOf}
+use Rattle.audit.specs.Tests.{anyBelow}
+use Rattle.audit.specs.Marks.{marksBy, meets}
+use Rattle.audit.proofs.Testing.{none, marks-more, met-more, all-marked}
+use Rattle.audit.proofs.mark_all.Statement.{statement}
+use Rattle.audit.proofs.mark_all.Tie as tie
+
+abbrev Inv-loop : tie.InvT-loop
+Inv-loop w marks₀ n shared₀ i₀ marks shared i = (i ≤ recordsOf w) × (marks ≡ marksBy w i) × (shared ≡ anyBelow i (meets w))
+
+abbrev μ-loop : tie.MeasureT-loop
+μ-loop w marks₀ n shared₀ i₀ marks shared i = recordsOf w - i
+
+pub mark-all-spec : {M : Type 1} → statement M
+mark-all-spec =
+    tie.close
+    (tie.spec
+    Inv-loop
+    μ-loop
+    (λ c κs. search needs)
+    (λ c. (search needs, search needs, sym (none _)))
+    (λ c κs. search needs)
+    (λ c κs. search needs)
+    (λ c κs. search needs)
+    (λ c. search needs)
+    (λ c. search needs)
+    (λ c. (search needs, search marks-more, search met-more))
+    (λ c. search all-marked))

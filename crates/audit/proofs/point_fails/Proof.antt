@@ -1,0 +1,18 @@
+-- point_fails meets its contract.
+use borrow.Author.Needs.{needs}
+use Rattle.audit.proofs.point_fails.Statement.{statement}
+use Rattle.audit.proofs.point_fails.Tie as tie
+
+pub point-fails-spec : {M : Type 1} → statement M
+point-fails-spec =
+    tie.close
+    (tie.spec
+    (λ c. search needs)
+    (λ c κs. search needs)
+    (λ c. cc)
+    (λ c. search needs)
+    (λ c κs. search needs)
+    (λ c. cc)
+    (λ c. search needs)
+    (λ c κs. search needs)
+    (λ c. cc))

@@ -1,0 +1,52 @@
+-- The tests as the code goes through them: one mark for each point, set by the walks, and a test by its name.
+use Prim.Native.Nat.{ℕ, zero, suc, _≤_}
+use mathlib.Core.Path.{_≡_}
+use mathlib.Core.Bool.{Bool, cond, not, _&&_}
+use mathlib.Core.List.{List, [], _∷_}
+use lib.Dec.{eqb, ltb}
+use lib.ListN.{length, getD, set, replicate}
+use Rattle.store.specs.Field.{LENGTH}
+use Rattle.store.specs.Named.{pointsOf, recordsOf, nextOf, firstOf}
+use Rattle.audit.specs.Tests.{anyBelow, offTable, noSuch, loose, noSuchOf, astray}
+use Rattle.audit.specs.declared.PointTest.{PointTest}
+use Rattle.audit.specs.declared.PointTest.the-variants.{Table, Numbers, Links}
+use Rattle.audit.specs.declared.RecordTest.{RecordTest}
+use Rattle.audit.specs.declared.RecordTest.the-variants.{Named, Placed}
+
+-- a work space whose counts are within the limits
+pub record Counted (w : List ℕ) : Type 0 where
+  pub long : LENGTH ≤ length w
+  pub points : pointsOf w ≤ 2048
+  pub records : recordsOf w ≤ 512
+
+-- a marked point: there is one mark for each of the 2,048 points
+abbrev pub isMarked : List ℕ → ℕ → Bool
+isMarked ms k = ltb k 2048 && not (eqb (getD ms k 0) 0)
+
+-- the marks after a walk from a that ends at a number that names no point, or at a marked point
+unfoldable pub markFrom : ℕ → (ℕ → ℕ) → ℕ → List ℕ → ℕ → List ℕ
+markFrom zero next m ms a = ms
+markFrom (suc f) next m ms a = cond (ltb a m && not (isMarked ms a)) (markFrom f next m (set ms a 1) (next a)) ms
+
+-- the marks after the walks from the first points of the records below i
+unfoldable pub marksBy : List ℕ → ℕ → List ℕ
+marksBy w zero = replicate 2048 0
+marksBy w (suc i) = markFrom 2048 (nextOf w) (pointsOf w) (marksBy w i) (firstOf w i)
+
+-- record i's first point was marked by the walks before
+abbrev pub meets : List ℕ → ℕ → Bool
+meets w i = isMarked (marksBy w i) (firstOf w i)
+
+-- what `mark_all` leaves: the marks of every reached point, and whether two records share a ring
+pub record AllMarked (w ms : List ℕ) (r : Bool) : Type 0 where
+  pub marks : ms ≡ marksBy w (recordsOf w)
+  pub shares : r ≡ anyBelow (recordsOf w) (meets w)
+
+abbrev pub fails : PointTest → List ℕ → ℕ → Bool
+fails Table w k = offTable w k
+fails Numbers w k = noSuch w k
+fails Links w k = loose w k
+
+abbrev pub failsOf : RecordTest → List ℕ → ℕ → Bool
+failsOf Named w i = noSuchOf w i
+failsOf Placed w i = astray w i

@@ -1,0 +1,266 @@
+// The tests of a handed work space: read only, linear in points and records.
+use store::Col;
+use store::get;
+use store::read;
+ghost use mathlib.Core.Path.{_≡_};
+ghost use mathlib.Core.Bool.{_&&_, not};
+ghost use Prim.Native.Nat.{ℕ, _+_, _<_, _≤_, _^_};
+ghost use lib.Dec.{eqb};
+ghost use lib.ListN.{length, getD, replicate};
+ghost use Rattle.store.specs.Field.{LENGTH};
+ghost use Rattle.store.specs.Words.{view};
+ghost use Rattle.store.specs.Named.{pointsOf, recordsOf, nextOf, ringOf};
+ghost use Rattle.audit.specs.Tests.{isIn, anyBelow, offTable, noSuch, noSuchOf, namesNone, loose, astray, crowded};
+ghost use Rattle.audit.specs.Marks.{Counted, isMarked, markFrom, marksBy, AllMarked, fails, failsOf};
+
+const NONE: usize = 65535;
+
+// A test of a reached point: its coordinates, its numbers, its links.
+pub enum PointTest {
+    Table,
+    Numbers,
+    Links,
+}
+
+// A test of a record: its numbers, its progress.
+pub enum RecordTest {
+    Named,
+    Placed,
+}
+
+// Whether a count is above its limit.
+fn crowded(w: &[u32]) -> bool
+    requires { ⌜ LENGTH ≤ length (now w) ⌝ }
+    ensures { λ r. ⌜ r ≡ crowded (now (w .entry)) ⌝ }
+{
+    let m = get(w, Col::Points, 0);
+    let n = get(w, Col::Records, 0);
+    (2048 < m) | (512 < n)
+}
+
+// ---- the points reached along next from the first points
+
+// Whether a number is a marked point.
+fn is_marked(marks: &[u8; 2048], k: usize) -> bool
+    ensures { λ r. ⌜ r ≡ isMarked (now (marks .entry)) k ⌝ }
+{
+    if k < 2048 {
+        return marks[k] != 0;
+    }
+    false
+}
+
+// Marks the points from a on, up to a number that names no point or to a marked one.
+fn mark_from(w: &[u32], marks: &mut [u8; 2048], a: usize)
+    requires { ⌜ Counted (now w) ⌝ }
+    ensures { λ _. ⌜ now (marks .exit) ≡ markFrom 2048 (nextOf (now (w .entry))) (pointsOf (now (w .entry))) (now (marks .entry)) a ⌝ }
+{
+    let m = get(w, Col::Points, 0);
+    let mut p = a;
+    let mut left: usize = 2048;
+    while 0 < left {
+        if m <= p {
+            return;
+        }
+        if marks[p] != 0 {
+            return;
+        }
+        marks[p] = 1;
+        p = get(w, Col::Next, p);
+        left -= 1;
+    }
+}
+
+// Marks every reached point; answers whether a first point was marked from an earlier record's.
+fn mark_all(w: &[u32], marks: &mut [u8; 2048]) -> bool
+    requires { ⌜ Counted (now w) × (now marks ≡ marksBy (now w) 0) ⌝ }
+    ensures { λ r. ⌜ AllMarked (now (w .entry)) (now (marks .exit)) r ⌝ }
+{
+    let n = get(w, Col::Records, 0);
+    let mut shared = false;
+    let mut i: usize = 0;
+    while i < n {
+        let a = get(w, Col::First, i);
+        let met = is_marked(marks, a);
+        shared = shared | met;
+        mark_from(w, marks, a);
+        i += 1;
+    }
+    shared
+}
+
+// ---- the tests of a reached point
+
+fn off_table(w: &[u32], k: usize) -> bool
+    requires { ⌜ LENGTH ≤ length (now w) ⌝ }
+    ensures { λ r. ⌜ r ≡ offTable (now (w .entry)) k ⌝ }
+{
+    let x = read(w, Col::X, k);
+    let y = read(w, Col::Y, k);
+    (2097152 < x) | (2097152 < y)
+}
+
+fn no_such(w: &[u32], k: usize) -> bool
+    requires { ⌜ LENGTH ≤ length (now w) ⌝ }
+    ensures { λ r. ⌜ r ≡ noSuch (now (w .entry)) k ⌝ }
+{
+    let m = get(w, Col::Points, 0);
+    let n = get(w, Col::Records, 0);
+    let a = read(w, Col::Next, k);
+    let b = read(w, Col::Prev, k);
+    let r = read(w, Col::Rec, k);
+    !(a < m) | (!(b < m) | !(r < n))
+}
+
+fn loose(w: &[u32], k: usize) -> bool
+    requires { ⌜ LENGTH ≤ length (now w) ⌝ }
+    ensures { λ r. ⌜ r ≡ loose (now (w .entry)) k ⌝ }
+{
+    let a = read(w, Col::Next, k);
+    let b = read(w, Col::Prev, k);
+    let c = read(w, Col::Next, b);
+    let d = read(w, Col::Prev, a);
+    !(c == k) | !(d == k)
+}
+
+fn point_fails(w: &[u32], t: PointTest, k: usize) -> bool
+    requires { ⌜ LENGTH ≤ length (now w) ⌝ }
+    ensures { λ r. ⌜ r ≡ fails t (now (w .entry)) k ⌝ }
+{
+    match t {
+        PointTest::Table => {
+            return off_table(w, k);
+        }
+        PointTest::Numbers => {
+            return no_such(w, k);
+        }
+        PointTest::Links => {
+            return loose(w, k);
+        }
+    }
+}
+
+// Whether the point is marked and fails the test.
+fn marked_fails(w: &[u32], marks: &[u8; 2048], t: PointTest, k: usize) -> bool
+    requires { ⌜ LENGTH ≤ length (now w) ⌝ }
+    ensures { λ r. ⌜ r ≡ (isMarked (now (marks .entry)) k && fails t (now (w .entry)) k) ⌝ }
+{
+    let marked = is_marked(marks, k);
+    if marked {
+        return point_fails(w, t, k);
+    }
+    false
+}
+
+// Whether a marked point fails the test.
+fn any_marked(w: &[u32], marks: &[u8; 2048], t: PointTest) -> bool
+    requires { ⌜ LENGTH ≤ length (now w) ⌝ }
+    ensures { λ r. ⌜ r ≡ anyBelow (pointsOf (now (w .entry))) (λ k. isMarked (now (marks .entry)) k && fails t (now (w .entry)) k) ⌝ }
+{
+    let m = get(w, Col::Points, 0);
+    let mut k: usize = 0;
+    while k < m {
+        let found = marked_fails(w, marks, t, k);
+        if found {
+            return true;
+        }
+        k += 1;
+    }
+    false
+}
+
+// ---- the tests of a record
+
+fn names_none(n: usize, v: usize) -> bool
+    ensures { λ r. ⌜ r ≡ namesNone n v ⌝ }
+{
+    !(v == NONE) & !(v < n)
+}
+
+fn no_such_of(w: &[u32], i: usize) -> bool
+    requires { ⌜ LENGTH ≤ length (now w) ⌝ }
+    ensures { λ r. ⌜ r ≡ noSuchOf (now (w .entry)) i ⌝ }
+{
+    let m = get(w, Col::Points, 0);
+    let n = get(w, Col::Records, 0);
+    let o = read(w, Col::Owner, i);
+    let f = read(w, Col::First, i);
+    let a = names_none(n, o);
+    let b = names_none(m, f);
+    a | b
+}
+
+// Whether k is on the ring that starts at a.
+fn is_on_ring(w: &[u32], a: usize, k: usize) -> bool
+    requires { ⌜ LENGTH ≤ length (now w) ⌝ }
+    ensures { λ r. ⌜ r ≡ isIn k (ringOf (now (w .entry)) a) ⌝ }
+{
+    let mut p = a;
+    let mut left: usize = 2048;
+    while 0 < left {
+        if p == k {
+            return true;
+        }
+        p = read(w, Col::Next, p);
+        if p == a {
+            return false;
+        }
+        left -= 1;
+    }
+    false
+}
+
+fn astray(w: &[u32], i: usize) -> bool
+    requires { ⌜ LENGTH ≤ length (now w) ⌝ }
+    ensures { λ r. ⌜ r ≡ astray (now (w .entry)) i ⌝ }
+{
+    let f = read(w, Col::First, i);
+    if f == NONE {
+        return false;
+    }
+    let g = read(w, Col::Flags, i);
+    if g % 2 == 1 {
+        return false;
+    }
+    let d = read(w, Col::Mark, i);
+    if 4 < d {
+        return true;
+    }
+    if d == 4 {
+        return false;
+    }
+    let p = read(w, Col::Present, i);
+    let on = is_on_ring(w, f, p);
+    !on
+}
+
+fn record_fails(w: &[u32], t: RecordTest, i: usize) -> bool
+    requires { ⌜ LENGTH ≤ length (now w) ⌝ }
+    ensures { λ r. ⌜ r ≡ failsOf t (now (w .entry)) i ⌝ }
+{
+    match t {
+        RecordTest::Named => {
+            return no_such_of(w, i);
+        }
+        RecordTest::Placed => {
+            return astray(w, i);
+        }
+    }
+}
+
+// Whether a record fails the test.
+fn any_record(w: &[u32], t: RecordTest) -> bool
+    requires { ⌜ LENGTH ≤ length (now w) ⌝ }
+    ensures { λ r. ⌜ r ≡ anyBelow (recordsOf (now (w .entry))) (failsOf t (now (w .entry))) ⌝ }
+{
+    let n = get(w, Col::Records, 0);
+    let mut i: usize = 0;
+    while i < n {
+        let found = record_fails(w, t, i);
+        if found {
+            return true;
+        }
+        i += 1;
+    }
+    false
+}
