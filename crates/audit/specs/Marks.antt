@@ -5,6 +5,7 @@ use mathlib.Core.Bool.{Bool, cond, not, _&&_}
 use mathlib.Core.List.{List, [], _∷_}
 use lib.Dec.{eqb, ltb}
 use lib.ListN.{length, getD, set, replicate}
+use Rattle.job.specs.Limits as limit
 use Rattle.store.specs.Field.{LENGTH}
 use Rattle.store.specs.Named.{pointsOf, recordsOf, nextOf, firstOf}
 use Rattle.audit.specs.Tests.{anyBelow, offTable, noSuch, loose, noSuchOf, astray}
@@ -16,12 +17,12 @@ use Rattle.audit.specs.declared.RecordTest.the-variants.{Named, Placed}
 -- a work space whose counts are within the limits
 pub record Counted (w : List ℕ) : Type 0 where
   pub long : LENGTH ≤ length w
-  pub points : pointsOf w ≤ 2048
-  pub records : recordsOf w ≤ 512
+  pub points : pointsOf w ≤ limit.POINTS
+  pub records : recordsOf w ≤ limit.RECORDS
 
 -- a marked point: there is one mark for each of the 2,048 points
 abbrev pub isMarked : List ℕ → ℕ → Bool
-isMarked ms k = ltb k 2048 && not (eqb (getD ms k 0) 0)
+isMarked ms k = ltb k limit.POINTS && not (eqb (getD ms k 0) 0)
 
 -- the marks after a walk from a that ends at a number that names no point, or at a marked point
 unfoldable pub markFrom : ℕ → (ℕ → ℕ) → ℕ → List ℕ → ℕ → List ℕ
@@ -30,8 +31,8 @@ markFrom (suc f) next m ms a = cond (ltb a m && not (isMarked ms a)) (markFrom f
 
 -- the marks after the walks from the first points of the records below i
 unfoldable pub marksBy : List ℕ → ℕ → List ℕ
-marksBy w zero = replicate 2048 0
-marksBy w (suc i) = markFrom 2048 (nextOf w) (pointsOf w) (marksBy w i) (firstOf w i)
+marksBy w zero = replicate limit.POINTS 0
+marksBy w (suc i) = markFrom limit.POINTS (nextOf w) (pointsOf w) (marksBy w i) (firstOf w i)
 
 -- record i's first point was marked by the walks before
 abbrev pub meets : List ℕ → ℕ → Bool

@@ -1,9 +1,10 @@
 -- The tests of a handed work space: document 01, "A step, or writing out after steps, first tests the work space it is handed".
-use Prim.Native.Nat.{ℕ, zero, suc}
+use Prim.Native.Nat.{ℕ, zero, suc, _*_}
 use mathlib.Core.Bool.{Bool, true, false, cond, not, _&&_, _||_}
 use mathlib.Core.List.{List, [], _∷_}
 use lib.Dec.{eqb, ltb}
 use Rattle.rings.specs.Count.{occ}
+use Rattle.job.specs.Limits as limit
 use Rattle.store.specs.Field.{pt, X, Y, NONE}
 use Rattle.store.specs.Words.{view}
 use Rattle.store.specs.Named.{pointsOf, recordsOf, nextOf, prevOf, recOf, ownerOf, firstOf, progressOf, presentOf}
@@ -30,7 +31,7 @@ reach (suc f) next m seen a =
 -- from the first points of the records below i
 unfoldable pub reachedBy : List ℕ → ℕ → List ℕ
 reachedBy w zero = []
-reachedBy w (suc i) = reach 2048 (nextOf w) (pointsOf w) (reachedBy w i) (firstOf w i)
+reachedBy w (suc i) = reach limit.POINTS (nextOf w) (pointsOf w) (reachedBy w i) (firstOf w i)
 
 -- a reached point fails the test
 abbrev pub anyReached : List ℕ → (ℕ → Bool) → Bool
@@ -44,11 +45,11 @@ anyRecord w q = anyBelow (recordsOf w) q
 
 -- "counts (3)"
 abbrev pub crowded : List ℕ → Bool
-crowded w = ltb 2048 (pointsOf w) || ltb 512 (recordsOf w)
+crowded w = ltb limit.POINTS (pointsOf w) || ltb limit.RECORDS (recordsOf w)
 
 -- "coordinates (4)": a word is a coordinate raised by the limit
 abbrev pub offTable : List ℕ → ℕ → Bool
-offTable w k = ltb 2097152 (view w (pt X) k) || ltb 2097152 (view w (pt Y) k)
+offTable w k = ltb (2 * limit.COORDINATE) (view w (pt X) k) || ltb (2 * limit.COORDINATE) (view w (pt Y) k)
 
 -- "numbers (5: next, prev and record"
 abbrev pub noSuch : List ℕ → ℕ → Bool

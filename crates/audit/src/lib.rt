@@ -1,4 +1,5 @@
 // The tests of a handed work space: read only, linear in points and records.
+use job::Job;
 use store::Col;
 use store::get;
 use store::read;
@@ -14,6 +15,9 @@ ghost use Rattle.audit.specs.Tests.{isIn, anyBelow, offTable, noSuch, no
 ghost use Rattle.audit.specs.Marks.{Counted, isMarked, markFrom, marksBy, AllMarked, fails, failsOf};
 
 const NONE: usize = 65535;
+
+// The word of the largest coordinate.
+const FAR: usize = 2 * (Job::COORDINATE as usize);
 
 // A test of a reached point: its coordinates, its numbers, its links.
 pub enum PointTest {
@@ -35,7 +39,7 @@ fn crowded(w: &[u32]) -> bool
 {
     let m = get(w, Col::Points, 0);
     let n = get(w, Col::Records, 0);
-    (2048 < m) | (512 < n)
+    (Job::POINTS < m) | (Job::RECORDS < n)
 }
 
 // ---- the points reached along next from the first points
@@ -44,7 +48,7 @@ fn crowded(w: &[u32]) -> bool
 fn is_marked(marks: &[u8; 2048], k: usize) -> bool
     ensures { λ r. ⌜ r ≡ isMarked (now (marks .entry)) k ⌝ }
 {
-    if k < 2048 {
+    if k < Job::POINTS {
         return marks[k] != 0;
     }
     false
@@ -57,7 +61,7 @@ fn mark_from(w: &[u32], marks: &mut [u8; 2048], a: usize)
 {
     let m = get(w, Col::Points, 0);
     let mut p = a;
-    let mut left: usize = 2048;
+    let mut left: usize = Job::POINTS;
     while 0 < left {
         if m <= p {
             return;
@@ -97,7 +101,7 @@ fn off_table(w: &[u32], k: usize) -> bool
 {
     let x = read(w, Col::X, k);
     let y = read(w, Col::Y, k);
-    (2097152 < x) | (2097152 < y)
+    (FAR < x) | (FAR < y)
 }
 
 fn no_such(w: &[u32], k: usize) -> bool
@@ -196,7 +200,7 @@ fn is_on_ring(w: &[u32], a: usize, k: usize) -> bool
     ensures { λ r. ⌜ r ≡ isIn k (ringOf (now (w .entry)) a) ⌝ }
 {
     let mut p = a;
-    let mut left: usize = 2048;
+    let mut left: usize = Job::POINTS;
     while 0 < left {
         if p == k {
             return true;

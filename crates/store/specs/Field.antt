@@ -2,6 +2,7 @@
 use Prim.Native.Nat.{ℕ, _+_, _*_}
 use mathlib.Core.Bool.{Bool, true, false}
 use lib.Dec.{eqb}
+use Rattle.job.specs.Limits as limit
 
 -- a point's fields
 pub data PointCol : Type 0 where
@@ -50,13 +51,13 @@ HEAD = 16
 -- how many words a column has, and where it begins
 abbrev pub size : Field → ℕ
 size (ct f) = 1
-size (pt f) = 2048
-size (rc f) = 512
+size (pt f) = limit.POINTS
+size (rc f) = limit.RECORDS
 
 abbrev pub base : Field → ℕ
 base (ct f) = countRank f
-base (pt f) = HEAD + 2048 * pointRank f
-base (rc f) = HEAD + 2048 * 5 + 512 * recordRank f
+base (pt f) = HEAD + limit.POINTS * pointRank f
+base (rc f) = HEAD + limit.POINTS * 5 + limit.RECORDS * recordRank f
 
 -- the same column
 abbrev pub same : Field → Field → Bool
@@ -72,7 +73,7 @@ same (ct f) (ct g) = eqb (countRank f) (countRank g)
 
 -- the fixed length of a work space: all columns
 abbrev pub LENGTH : ℕ
-LENGTH = HEAD + 2048 * 5 + 512 * 7
+LENGTH = HEAD + limit.POINTS * 5 + limit.RECORDS * 7
 
 -- no point, no record
 abbrev pub NONE : ℕ

@@ -1,10 +1,11 @@
 -- A sound store: what the tests of a handed work space decide. Stated once, for opening, steps and writing out; its rings are computed from the links.
-use Prim.Native.Nat.{ℕ, zero, suc, _%_, _≤_, _<_}
+use Prim.Native.Nat.{ℕ, zero, suc, _*_, _%_, _≤_, _<_}
 use mathlib.Core.Path.{_≡_}
 use mathlib.Core.Logic.{_⊎_}
 use mathlib.Core.Bool.{Bool, false, cond}
 use mathlib.Core.List.{List, []}
 use lib.Dec.{eqb}
+use Rattle.job.specs.Limits as limit
 use Rattle.rings.specs.Count.{sumTo, occ}
 use Rattle.rings.specs.Links.{Linked}
 use Rattle.rings.specs.Place.{place, orZero}
@@ -55,8 +56,8 @@ pub record Closed (s : Store) (i : ℕ) : Type 0 where
 -- a point that a ring may have
 pub record PointIn (s : Store) (k : ℕ) : Type 0 where
   pub below : k < pts s
-  pub x-in : s (pt X) k ≤ 2097152
-  pub y-in : s (pt Y) k ≤ 2097152
+  pub x-in : s (pt X) k ≤ 2 * limit.COORDINATE
+  pub y-in : s (pt Y) k ≤ 2 * limit.COORDINATE
   pub record-in : s (pt REC) k < recs s
 
 -- a sound record
@@ -72,8 +73,8 @@ abbrev pub total : Store → ℕ → ℕ
 total s k = sumTo (recs s) (λ i. occ k (ringAt s i))
 
 pub record Sound (s : Store) : Type 0 where
-  pub few-points : pts s ≤ 2048
-  pub few-records : recs s ≤ 512
+  pub few-points : pts s ≤ limit.POINTS
+  pub few-records : recs s ≤ limit.RECORDS
   pub good : (i : ℕ) → i < recs s → Good s i
   pub once : (k : ℕ) → total s k ≤ 1
 

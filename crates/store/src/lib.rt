@@ -1,4 +1,5 @@
 // The work space: every word is read and written by its column's name.
+use job::Job;
 ghost use mathlib.Core.Path.{_≡_};
 ghost use Prim.Native.Nat.{ℕ, _+_, _<_, _≤_, _^_};
 ghost use lib.ListN.{length, getD};
@@ -28,29 +29,25 @@ pub enum Col {
 // The settings and the counts stand in the head; then the points' columns, then the records'.
 const HEAD: usize = 16;
 
-const POINTS: usize = 2048;
-
-const RECORDS: usize = 512;
-
-const AFTER: usize = HEAD + POINTS * 5;
+const AFTER: usize = HEAD + Job::POINTS * 5;
 
 // Where a column begins.
 fn base_of(c: Col) -> usize
     ensures { λ r. ⌜ r ≡ base (fieldOf c) ⌝ }
 {
     match c {
-        Col::X => HEAD + POINTS * 0,
-        Col::Y => HEAD + POINTS * 1,
-        Col::Next => HEAD + POINTS * 2,
-        Col::Prev => HEAD + POINTS * 3,
-        Col::Rec => HEAD + POINTS * 4,
-        Col::Flags => AFTER + RECORDS * 0,
-        Col::Owner => AFTER + RECORDS * 1,
-        Col::First => AFTER + RECORDS * 2,
-        Col::Mark => AFTER + RECORDS * 3,
-        Col::Present => AFTER + RECORDS * 4,
-        Col::Start => AFTER + RECORDS * 5,
-        Col::Cut => AFTER + RECORDS * 6,
+        Col::X => HEAD + Job::POINTS * 0,
+        Col::Y => HEAD + Job::POINTS * 1,
+        Col::Next => HEAD + Job::POINTS * 2,
+        Col::Prev => HEAD + Job::POINTS * 3,
+        Col::Rec => HEAD + Job::POINTS * 4,
+        Col::Flags => AFTER + Job::RECORDS * 0,
+        Col::Owner => AFTER + Job::RECORDS * 1,
+        Col::First => AFTER + Job::RECORDS * 2,
+        Col::Mark => AFTER + Job::RECORDS * 3,
+        Col::Present => AFTER + Job::RECORDS * 4,
+        Col::Start => AFTER + Job::RECORDS * 5,
+        Col::Cut => AFTER + Job::RECORDS * 6,
         Col::Settings => 0,
         Col::Points => 1,
         Col::Records => 2,
@@ -88,18 +85,18 @@ fn size_of(c: Col) -> usize
     ensures { λ r. ⌜ r ≡ size (fieldOf c) ⌝ }
 {
     match c {
-        Col::X => POINTS,
-        Col::Y => POINTS,
-        Col::Next => POINTS,
-        Col::Prev => POINTS,
-        Col::Rec => POINTS,
-        Col::Flags => RECORDS,
-        Col::Owner => RECORDS,
-        Col::First => RECORDS,
-        Col::Mark => RECORDS,
-        Col::Present => RECORDS,
-        Col::Start => RECORDS,
-        Col::Cut => RECORDS,
+        Col::X => Job::POINTS,
+        Col::Y => Job::POINTS,
+        Col::Next => Job::POINTS,
+        Col::Prev => Job::POINTS,
+        Col::Rec => Job::POINTS,
+        Col::Flags => Job::RECORDS,
+        Col::Owner => Job::RECORDS,
+        Col::First => Job::RECORDS,
+        Col::Mark => Job::RECORDS,
+        Col::Present => Job::RECORDS,
+        Col::Start => Job::RECORDS,
+        Col::Cut => Job::RECORDS,
         Col::Settings => 1,
         Col::Points => 1,
         Col::Records => 1,
