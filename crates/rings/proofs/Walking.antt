@@ -29,7 +29,7 @@ run-agree n n′ stop (suc f) a h = rw (h a (omega (arith, one-here a))) (ap (λ
     go true e r = refl
     go false e r = r (λ k o. h k (rw e (omega arith)))
 
-run-seg : (n p : ℕ → ℕ) (stop f a : ℕ) (l : List ℕ) → Seg n p (a ∷ l ++ (stop ∷ [])) → occ stop l ≡ 0 → length l < f → run n stop f a ≡ a ∷ l
+pub run-seg : (n p : ℕ → ℕ) (stop f a : ℕ) (l : List ℕ) → Seg n p (a ∷ l ++ (stop ∷ [])) → occ stop l ≡ 0 → length l < f → run n stop f a ≡ a ∷ l
 unfolding run
 run-seg n p stop zero a l s o h = absurd (omega arith)
 run-seg n p stop (suc f) a [] s o h = rw (eq-eqb (n a) stop (s .0))

@@ -1,0 +1,286 @@
+-- A join keeps the invariant: one record for both points gives a second ring with a new record, two records give one ring and empty the second.
+use Prim.Native.Nat.{ℕ, zero, suc, _+_, _≤_, _<_}
+use mathlib.Core.Path.{_≡_, refl, ap, _∙_, sym, subst}
+use mathlib.Core.Logic.{_≢_, _⊎_, inl, inr}
+use mathlib.Core.Bool.{Bool, true, false, cond}
+use mathlib.Core.List.{List, [], _∷_, _++_}
+use native.Mathlib.Omega.{arith}
+use native.Mathlib.Decide.{ℕ-discrete, decLt}
+use borrow.Author.Tests.{eq-eqb, ne-eqb}
+use Rattle.rings.specs.Count.{one, occ}
+use Rattle.rings.specs.Links.{All}
+use Rattle.rings.specs.Walk.{Whole}
+use Rattle.rings.specs.Relink.{Crossed}
+use Rattle.rings.specs.Table.{Table, with, Starts, nowhere, on-it}
+use Rattle.rings.specs.Table as rings
+use Rattle.rings.proofs.Counting.{all-in, in-all}
+use Rattle.rings.proofs.Members.{one-is, occ-append}
+use Rattle.rings.proofs.Splicing.{occ-halves, occ-spliced}
+use Rattle.rings.proofs.Tables.{with-here, with-else, table-cut, total-cut, table-splice, total-splice, Walked, walked, table-walked, total-walked, elsewhere}
+use Rattle.store.specs.Field.{pt, rc, X, Y, NEXT, PREV, REC, OWNER, FIRST, NONE}
+use Rattle.store.specs.Words.{Store}
+use Rattle.store.specs.Sound.{pts, recs, ringAt, total}
+use Rattle.joins.specs.Resolve.{Path, Resolves, Lives}
+use Rattle.joins.specs.Resolved.{Resolved}
+use Rattle.joins.proofs.Resolving.{path-join, path-kept}
+use Rattle.joins.proofs.Homes.{starts, table, lives-on}
+
+-- the ring of record i is a, l.., b, r..; a new record takes b, l..
+pub record Split (s u : Store) (a b i : ℕ) (l r : List ℕ) : Type 0 where
+  pub crossed : Crossed (s (pt NEXT)) (s (pt PREV)) (u (pt NEXT)) (u (pt PREV)) a b
+  pub points : pts u ≡ pts s
+  pub records : recs u ≡ suc (recs s)
+  pub first-new : 0 < occ (u (rc FIRST) (recs s)) (b ∷ l)
+  pub first-own : 0 < occ (u (rc FIRST) i) (a ∷ r)
+  pub first-else : (j : ℕ) → j ≢ i → j ≢ recs s → u (rc FIRST) j ≡ s (rc FIRST) j
+  pub owner-new : u (rc OWNER) (recs s) ≡ i
+  pub owner-else : (j : ℕ) → j ≢ recs s → u (rc OWNER) j ≡ s (rc OWNER) j
+  pub named-new : (k : ℕ) → 0 < occ k (b ∷ l) → u (pt REC) k ≡ recs s
+  pub named-own : (u (pt REC) a ≡ s (pt REC) a) ⊎ (u (pt REC) a ≡ i)
+  pub named-else : (k : ℕ) → occ k (b ∷ l) ≡ 0 → k ≢ a → u (pt REC) k ≡ s (pt REC) k
+  pub xs : (k : ℕ) → u (pt X) k ≡ s (pt X) k
+  pub ys : (k : ℕ) → u (pt Y) k ≡ s (pt Y) k
+
+-- a is on the ring of record i, b on that of record j; j is emptied, and owned by i
+pub record Merged (s u : Store) (a b i j : ℕ) : Type 0 where
+  pub crossed : Crossed (s (pt NEXT)) (s (pt PREV)) (u (pt NEXT)) (u (pt PREV)) a b
+  pub points : pts u ≡ pts s
+  pub records : recs u ≡ recs s
+  pub first-gone : u (rc FIRST) j ≡ NONE
+  pub first-else : (x : ℕ) → x ≢ j → u (rc FIRST) x ≡ s (rc FIRST) x
+  pub owner-gone : u (rc OWNER) j ≡ i
+  pub owner-else : (x : ℕ) → x ≢ j → u (rc OWNER) x ≡ s (rc OWNER) x
+  pub named : (k : ℕ) → u (pt REC) k ≡ s (pt REC) k
+  pub xs : (k : ℕ) → u (pt X) k ≡ s (pt X) k
+  pub ys : (k : ℕ) → u (pt Y) k ≡ s (pt Y) k
+
+module _ (s u : Store) (o : Resolved s) (a b i : ℕ) (l r : List ℕ) (hi : i < recs s) (room : recs s < 512) (fi : s (rc FIRST) i ≢ NONE)
+    (w : Whole (s (pt NEXT)) (s (pt PREV)) (pts s) (a ∷ l ++ b ∷ r)) (occs : (k : ℕ) → occ k (a ∷ l ++ b ∷ r) ≡ occ k (ringAt s i)) (c : Split s u a b i l r) where
+  halves : (k : ℕ) → occ k (a ∷ l ++ b ∷ r) ≡ occ k (b ∷ l) + occ k (a ∷ r)
+  halves k = occ-halves (s (pt NEXT)) (s (pt PREV)) (u (pt NEXT)) (u (pt PREV)) a b (c .crossed) (pts s) k l r
+
+  lives : (k : ℕ) → 0 < occ k (a ∷ l ++ b ∷ r) → Lives s i k
+  lives k h = lives-on s o i k hi (omega (arith, occs k))
+
+  point : (k : ℕ) → 0 < occ k (a ∷ l ++ b ∷ r) → k ≢ NONE
+  point k h e = omega (arith, o .few-points, lives k h .bound)
+
+  some-own : u (rc FIRST) i ≢ NONE
+  some-own = point (u (rc FIRST) i) (omega (arith, halves (u (rc FIRST) i), c .first-own))
+
+  some-new : u (rc FIRST) (recs s) ≢ NONE
+  some-new = point (u (rc FIRST) (recs s)) (omega (arith, halves (u (rc FIRST) (recs s)), c .first-new))
+
+  -- records without points stay so, and those with points too
+  still : (x : ℕ) → x < recs s → s (rc FIRST) x ≡ NONE → (u (rc FIRST) x ≡ NONE) × (u (rc OWNER) x ≡ s (rc OWNER) x)
+  still x h e =
+      let d : x ≢ recs s = λ z. omega arith in
+      (c .first-else x (λ z. fi (ap (s (rc FIRST)) (sym z) ∙ e)) d ∙ e, c .owner-else x d)
+
+  keeps : (x : ℕ) → x < recs s → s (rc FIRST) x ≢ NONE → u (rc FIRST) x ≢ NONE
+  keeps x h e = go (ℕ-discrete x i)
+    where
+      go : Dec (x ≡ i) → u (rc FIRST) x ≢ NONE
+      go (yes z) = λ y. some-own (ap (u (rc FIRST)) (sym z) ∙ y)
+      go (no d) = λ y. e (sym (c .first-else x d (λ z. omega arith)) ∙ y)
+
+  pub split-res : (x q : ℕ) → Resolves s x q → Resolves u x q
+  split-res x q z =
+      record {
+        via = z .via;
+        path = path-kept (s (rc FIRST)) (s (rc OWNER)) (u (rc FIRST)) (u (rc OWNER)) x (z .via) q
+            (all-in (λ y. s (rc FIRST) y ≡ NONE → (u (rc FIRST) y ≡ NONE) × (u (rc OWNER) y ≡ s (rc OWNER) y)) (z .via) (λ y h. still y (in-all (λ m. m < recs s) (z .via) y (z .low) h))) (z .path);
+        low = all-in (λ y. y < recs u) (z .via) (λ y h. omega (arith, c .records, in-all (λ m. m < recs s) (z .via) y (z .low) h));
+        real = omega (arith, z .real, c .records);
+        some = keeps q (z .real) (z .some);
+      }
+
+  own : (k : ℕ) → 0 < occ k (a ∷ r) → Resolves u (u (pt REC) k) i
+  own k h = go (ℕ-discrete k a) (c .named-own)
+    where
+      old : u (pt REC) k ≡ s (pt REC) k → Resolves u (u (pt REC) k) i
+      old e = rw e (split-res (s (pt REC) k) i (lives k (omega (arith, halves k)) .res))
+
+      go : Dec (k ≡ a) → (u (pt REC) a ≡ s (pt REC) a) ⊎ (u (pt REC) a ≡ i) → Resolves u (u (pt REC) k) i
+      go (no d) e = old (c .named-else k (omega (arith, w .once k, halves k)) d)
+      go (yes z) (inl e) = old (rw z e)
+      go (yes z) (inr e) = record { via = []; path = rw z e; low = tt; real = omega (arith, c .records); some = some-own }
+
+  new : (k : ℕ) → 0 < occ k (b ∷ l) → Resolves u (u (pt REC) k) (recs s)
+  new k h = record { via = []; path = c .named-new k h; low = tt; real = omega (arith, c .records); some = some-new }
+
+  -- a point of another ring is in neither half
+  other : (j k : ℕ) → j < recs s → j ≢ i → 0 < occ k (ringAt s j) → Resolves u (u (pt REC) k) j
+  other j k h d y =
+      let z : occ k (a ∷ l ++ b ∷ r) ≡ 0 = occs k ∙ elsewhere (s (pt NEXT)) (s (pt PREV)) (pts s) (recs s) (ringAt s) (table s o) j i k h hi d y in
+      rw (c .named-else k (omega (arith, halves k)) (λ e. omega (arith, one-is k a e))) (split-res (s (pt REC) k) j (o .home j k h y))
+
+  after : ℕ → List ℕ
+  after = with (with (ringAt s) i (a ∷ r)) (recs s) (b ∷ l)
+
+  i-old : i ≢ recs s
+  i-old e = omega arith
+
+  start : (j : ℕ) → j < suc (recs s) → Starts (u (rc FIRST) j) (after j)
+  unfolding after
+  start j h = go (ℕ-discrete j (recs s)) (ℕ-discrete j i)
+    where
+      go : Dec (j ≡ recs s) → Dec (j ≡ i) → Starts (u (rc FIRST) j) (with (with (ringAt s) i (a ∷ r)) (recs s) (b ∷ l) j)
+      go (yes e) f = rw (eq-eqb j (recs s) e) (subst (λ (x : ℕ). Starts (u (rc FIRST) x) (b ∷ l)) (sym e) (on-it some-new (c .first-new)))
+      go (no d) (yes f) = rw (ne-eqb j (recs s) d, eq-eqb j i f) (subst (λ (x : ℕ). Starts (u (rc FIRST) x) (a ∷ r)) (sym f) (on-it some-own (c .first-own)))
+      go (no d) (no f) = rw (ne-eqb j (recs s) d, ne-eqb j i f) (subst (λ (x : ℕ). Starts x (ringAt s j)) (sym (c .first-else j f d)) (starts s j))
+
+  cut : Table (u (pt NEXT)) (u (pt PREV)) (pts s) (suc (recs s)) after
+  unfolding after
+  cut = table-cut (s (pt NEXT)) (s (pt PREV)) (pts s) (recs s) (ringAt s) (table s o) (u (pt NEXT)) (u (pt PREV)) a b (c .crossed) i hi l r w occs
+
+  cut-total : (k : ℕ) → rings.total after (suc (recs s)) k ≡ total s k
+  unfolding after
+  cut-total k = total-cut (s (pt NEXT)) (s (pt PREV)) (pts s) (recs s) (ringAt s) (table s o) (u (pt NEXT)) (u (pt PREV)) a b (c .crossed) i hi l r w occs k
+
+  -- what each record's ring has now
+  pub split-occs : (j : ℕ) → j < suc (recs s) → (k : ℕ) → occ k (ringAt u j) ≡ occ k (with (with (ringAt s) i (a ∷ r)) (recs s) (b ∷ l) j)
+  unfolding after
+  split-occs j h k = walked (u (pt NEXT)) (u (pt PREV)) (pts s) (o .few-points) (u (rc FIRST) j) (after j) (cut .whole j h) (start j h) .occs k
+
+  pub split-resolved : Resolved u
+  split-resolved =
+      record {
+        few-points = rw (c .points) (o .few-points);
+        few-records = omega (arith, c .records);
+        whole = λ j h. rw (c .points) (t .whole j (omega (arith, c .records)));
+        home = λ j k h y. homes j k (omega (arith, c .records)) y;
+        placed = λ k h. rw (c .records) (omega (arith, sums k, cut-total k, o .placed k (omega (arith, c .points))));
+        x-in = λ k h. rw (c .xs k) (o .x-in k (omega (arith, c .points)));
+        y-in = λ k h. rw (c .ys k) (o .y-in k (omega (arith, c .points)));
+        owner-in = λ j h. owners j h (ℕ-discrete j (recs s));
+      }
+    where
+      t : Table (u (pt NEXT)) (u (pt PREV)) (pts s) (suc (recs s)) (ringAt u)
+      t = table-walked (u (pt NEXT)) (u (pt PREV)) (pts s) (o .few-points) (u (rc FIRST)) (suc (recs s)) after cut start
+
+      sums : (k : ℕ) → rings.total (ringAt u) (suc (recs s)) k ≡ rings.total after (suc (recs s)) k
+      sums k = total-walked (u (pt NEXT)) (u (pt PREV)) (pts s) (o .few-points) (u (rc FIRST)) (suc (recs s)) after cut start k
+
+      homes : (j k : ℕ) → j < suc (recs s) → 0 < occ k (ringAt u j) → Resolves u (u (pt REC) k) j
+      homes j k h y = go (ℕ-discrete j (recs s)) (ℕ-discrete j i)
+        where
+          x : 0 < occ k (with (with (ringAt s) i (a ∷ r)) (recs s) (b ∷ l) j)
+          x = omega (arith, split-occs j h k)
+
+          go : Dec (j ≡ recs s) → Dec (j ≡ i) → Resolves u (u (pt REC) k) j
+          go (yes e) f = subst (Resolves u (u (pt REC) k)) (sym e) (new k (rw (eq-eqb j (recs s) e) at x))
+          go (no d) (yes f) = subst (Resolves u (u (pt REC) k)) (sym f) (own k (rw (ne-eqb j (recs s) d, eq-eqb j i f) at x))
+          go (no d) (no f) = other j k (omega arith) f (rw (ne-eqb j (recs s) d, ne-eqb j i f) at x)
+
+      owners : (j : ℕ) → j < recs u → Dec (j ≡ recs s) → (u (rc OWNER) j ≡ NONE) ⊎ (u (rc OWNER) j < recs u)
+      owners j h (yes e) = inr (subst (λ (x : ℕ). u (rc OWNER) x < recs u) (sym e) (rw (c .owner-new) (omega (arith, c .records))))
+      owners j h (no d) = rw (c .owner-else j d) (more (o .owner-in j (omega (arith, c .records))))
+        where
+          more : (s (rc OWNER) j ≡ NONE) ⊎ (s (rc OWNER) j < recs s) → (s (rc OWNER) j ≡ NONE) ⊎ (s (rc OWNER) j < recs u)
+          more (inl e) = inl e
+          more (inr e) = inr (omega (arith, c .records))
+
+module _ (s u : Store) (o : Resolved s) (a b i j : ℕ) (l r : List ℕ) (ij : i ≢ j) (hi : i < recs s) (hj : j < recs s) (fi : s (rc FIRST) i ≢ NONE) (fj : s (rc FIRST) j ≢ NONE)
+    (w : Whole (s (pt NEXT)) (s (pt PREV)) (pts s) (a ∷ l)) (v : Whole (s (pt NEXT)) (s (pt PREV)) (pts s) (b ∷ r))
+    (ones : (k : ℕ) → occ k (a ∷ l) ≡ occ k (ringAt s i)) (twos : (k : ℕ) → occ k (b ∷ r) ≡ occ k (ringAt s j)) (c : Merged s u a b i j) where
+  -- records without points stay so; of those with points, all but j keep them
+  empty : (x : ℕ) → s (rc FIRST) x ≡ NONE → (u (rc FIRST) x ≡ NONE) × (u (rc OWNER) x ≡ s (rc OWNER) x)
+  empty x e =
+      let d : x ≢ j = λ z. fj (ap (s (rc FIRST)) (sym z) ∙ e) in
+      (c .first-else x d ∙ e, c .owner-else x d)
+
+  way : (x t : ℕ) (z : Resolves s x t) → Path (u (rc FIRST)) (u (rc OWNER)) x (z .via) t
+  way x t z =
+      path-kept (s (rc FIRST)) (s (rc OWNER)) (u (rc FIRST)) (u (rc OWNER)) x (z .via) t
+      (all-in (λ y. s (rc FIRST) y ≡ NONE → (u (rc FIRST) y ≡ NONE) × (u (rc OWNER) y ≡ s (rc OWNER) y)) (z .via) (λ y h. empty y)) (z .path)
+
+  -- what came to another record still does
+  merge-res : (x t : ℕ) → t ≢ j → Resolves s x t → Resolves u x t
+  merge-res x t d z = record { via = z .via; path = way x t z; low = rw (c .records) (z .low); real = rw (c .records) (z .real); some = λ e. z .some (sym (c .first-else t d) ∙ e) }
+
+  -- what came to j goes on to i, its taker
+  taken : (x : ℕ) → Resolves s x j → Resolves u x i
+  taken x z =
+      record {
+        via = z .via ++ (j ∷ []);
+        path = path-join (u (rc FIRST)) (u (rc OWNER)) x (z .via) j (j ∷ []) i (way x j z) (refl, c .first-gone, c .owner-gone);
+        low = rw (c .records) (all-in (λ y. y < recs s) (z .via ++ (j ∷ [])) lows);
+        real = rw (c .records) hi;
+        some = λ e. fi (sym (c .first-else i ij) ∙ e);
+      }
+    where
+      lows : (y : ℕ) → 0 < occ y (z .via ++ (j ∷ [])) → y < recs s
+      lows y h = go (decLt 0 (occ y (z .via)))
+        where
+          go : Dec (0 < occ y (z .via)) → y < recs s
+          go (yes g) = in-all (λ m. m < recs s) (z .via) y (z .low) g
+          go (no g) = in-all (λ m. m < recs s) (j ∷ []) y (hj, tt) (omega (arith, occ-append y (z .via) (j ∷ [])))
+
+  joined : ℕ → List ℕ
+  joined = with (with (ringAt s) i (a ∷ r ++ b ∷ l)) j []
+
+  spliced : (k : ℕ) → occ k (a ∷ r ++ b ∷ l) ≡ occ k (a ∷ l) + occ k (b ∷ r)
+  spliced k = occ-spliced (s (pt NEXT)) (s (pt PREV)) (u (pt NEXT)) (u (pt PREV)) a b (c .crossed) (pts s) k l r
+
+  begin : (t : ℕ) → t < recs s → Starts (u (rc FIRST) t) (joined t)
+  unfolding joined
+  begin t h = go (ℕ-discrete t j) (ℕ-discrete t i) (starts s i)
+    where
+      go : Dec (t ≡ j) → Dec (t ≡ i) → Starts (s (rc FIRST) i) (ringAt s i) → Starts (u (rc FIRST) t) (with (with (ringAt s) i (a ∷ r ++ b ∷ l)) j [] t)
+      go (yes e) f x = nowhere (ap (u (rc FIRST)) e ∙ c .first-gone) (rw (eq-eqb t j e))
+      go (no d) (yes f) (nowhere e z) = absurd (fi e)
+      go (no d) (yes f) (on-it e z) = rw (ne-eqb t j d, eq-eqb t i f)
+          (subst (λ (x : ℕ). Starts x (a ∷ r ++ b ∷ l)) (sym (c .first-else t d ∙ ap (s (rc FIRST)) f)) (on-it e (omega (arith, spliced (s (rc FIRST) i), ones (s (rc FIRST) i)))))
+      go (no d) (no f) x = rw (ne-eqb t j d, ne-eqb t i f) (subst (λ (y : ℕ). Starts y (ringAt s t)) (sym (c .first-else t d)) (starts s t))
+
+  splice : Table (u (pt NEXT)) (u (pt PREV)) (pts s) (recs s) joined
+  unfolding joined
+  splice = table-splice (s (pt NEXT)) (s (pt PREV)) (pts s) (recs s) (ringAt s) (table s o) (u (pt NEXT)) (u (pt PREV)) a b (c .crossed) i j hi hj ij l r w v ones twos
+
+  splice-total : (k : ℕ) → rings.total joined (recs s) k ≡ total s k
+  unfolding joined
+  splice-total k = total-splice (s (pt NEXT)) (s (pt PREV)) (pts s) (recs s) (ringAt s) (table s o) (u (pt NEXT)) (u (pt PREV)) a b (c .crossed) i j hi hj ij l r w v ones twos k
+
+  -- what each record's ring has now
+  pub merge-occs : (t : ℕ) → t < recs s → (k : ℕ) → occ k (ringAt u t) ≡ occ k (with (with (ringAt s) i (a ∷ r ++ b ∷ l)) j [] t)
+  unfolding joined
+  merge-occs t h k = walked (u (pt NEXT)) (u (pt PREV)) (pts s) (o .few-points) (u (rc FIRST) t) (joined t) (splice .whole t h) (begin t h) .occs k
+
+  pub merge-resolved : Resolved u
+  merge-resolved =
+      record {
+        few-points = rw (c .points) (o .few-points);
+        few-records = rw (c .records) (o .few-records);
+        whole = λ t h. rw (c .points) (tables .whole t (rw (c .records) at h));
+        home = λ t k h y. homes t k (rw (c .records) at h) y;
+        placed = λ k h. rw (c .records) (omega (arith, sums k, splice-total k, o .placed k (omega (arith, c .points))));
+        x-in = λ k h. rw (c .xs k) (o .x-in k (omega (arith, c .points)));
+        y-in = λ k h. rw (c .ys k) (o .y-in k (omega (arith, c .points)));
+        owner-in = λ t h. rw (c .records) (owners t (rw (c .records) at h) (ℕ-discrete t j));
+      }
+    where
+      tables : Table (u (pt NEXT)) (u (pt PREV)) (pts s) (recs s) (ringAt u)
+      tables = table-walked (u (pt NEXT)) (u (pt PREV)) (pts s) (o .few-points) (u (rc FIRST)) (recs s) joined splice begin
+
+      sums : (k : ℕ) → rings.total (ringAt u) (recs s) k ≡ rings.total joined (recs s) k
+      sums k = total-walked (u (pt NEXT)) (u (pt PREV)) (pts s) (o .few-points) (u (rc FIRST)) (recs s) joined splice begin k
+
+      homes : (t k : ℕ) → t < recs s → 0 < occ k (ringAt u t) → Resolves u (u (pt REC) k) t
+      homes t k h y = rw (c .named k) (go (ℕ-discrete t j) (ℕ-discrete t i))
+        where
+          x : 0 < occ k (with (with (ringAt s) i (a ∷ r ++ b ∷ l)) j [] t)
+          x = omega (arith, merge-occs t h k)
+
+          either : 0 < occ k (a ∷ r ++ b ∷ l) → Dec (0 < occ k (a ∷ l)) → Resolves u (s (pt REC) k) i
+          either y (yes g) = merge-res (s (pt REC) k) i ij (o .home i k hi (omega (arith, ones k)))
+          either y (no g) = taken (s (pt REC) k) (o .home j k hj (omega (arith, twos k, spliced k)))
+
+          go : Dec (t ≡ j) → Dec (t ≡ i) → Resolves u (s (pt REC) k) t
+          go (yes e) f = let z : 0 < occ k [] = rw (eq-eqb t j e) at x in absurd (omega arith)
+          go (no d) (yes f) = subst (Resolves u (s (pt REC) k)) (sym f) (either (rw (ne-eqb t j d, eq-eqb t i f) at x) (decLt 0 (occ k (a ∷ l))))
+          go (no d) (no f) = merge-res (s (pt REC) k) t d (o .home t k h (rw (ne-eqb t j d, ne-eqb t i f) at x))
+
+      owners : (t : ℕ) → t < recs s → Dec (t ≡ j) → (u (rc OWNER) t ≡ NONE) ⊎ (u (rc OWNER) t < recs s)
+      owners t h (yes e) = inr (subst (λ (x : ℕ). u (rc OWNER) x < recs s) (sym e) (rw (c .owner-gone) hi))
+      owners t h (no d) = rw (c .owner-else t d) (o .owner-in t h)

@@ -1,0 +1,10 @@
+-- Laws of level segments and joins.
+pub mod Resolving
+pub mod Homes
+pub mod Joining
+pub mod Growing
+pub mod Naming
+pub mod Cutting
+pub mod Finding
+pub mod Renaming
+pub mod Turns

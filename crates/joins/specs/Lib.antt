@@ -1,0 +1,5 @@
+-- Definitions of level segments and joins: resolving, the invariant, joins.
+pub mod Resolve
+pub mod Resolved
+pub mod Join
+pub mod Needs
