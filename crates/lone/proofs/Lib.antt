@@ -10,3 +10,4 @@ pub mod Turning
 pub mod Keeping
 pub mod Falling
 pub mod Measuring
+pub mod Plane

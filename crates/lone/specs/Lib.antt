@@ -7,3 +7,4 @@ pub mod Order
 pub mod Table
 pub mod Kept
 pub mod Measure
+pub mod Plane

@@ -3,15 +3,16 @@ use mathlib.Core.List.{List, [], _∷_}
 use mathlib.Core.Option.{Option, none, some}
 use mathlib.Core.Bool.{Bool, true, false, cond, not, _&&_, _||_, Bool·beq}
 use Prim.Native.Nat.{ℕ, zero, suc, _*_}
-use lib.IntN.{ℤ, pos, negsuc, natAbs}
+use lib.IntN.{ℤ, pos, natAbs}
 use lib.ListN.{length}
 use lib.Dec.{ltb, leb}
+use lib.Signed.{ltZ}
 use Rattle.rings.specs.Circle.{spin, lastOf, back, headOr, oneOrThree, cutCircle, ahead, omap}
 use Rattle.rings.specs.Place.{isHere}
 use Rattle.rings.specs.Progress.{Due, validity, removal, triangle, split, done, Ring, tidy}
 use Rattle.lone.specs.Ring.{Act, stay, discard, dropPoint, moveOn, toFirst, double, cut, apply, offcut, takesPoints}
 
--- the geometry that the rules read, over points of a kind P. Crate geometry has the real one (Plane.antt here)
+-- the geometry that the rules read, over points of a kind P. The real one is crate geometry's, in Plane.antt
 pub record Geo (P : Type 0) : Type 0 where
   -- the removal loop's test, with the setting `preserve_collinear` in it: of the point before, the point and the point after
   pub removable : P → P → P → Bool
@@ -22,7 +23,8 @@ pub record Geo (P : Type 0) : Type 0 where
   pub areaOutpt : List P → ℤ
   -- `area_triangle`, which is twice the area
   pub areaTriangle : P → P → P → ℤ
-  pub ptsReallyClose : P → P → Bool
+  -- `is_very_small_triangle` of a ring of three: of the point before, the point and the point after
+  pub isVerySmallTriangle : P → P → P → Bool
   pub samePoint : P → P → Bool
 
 abbrev pub isDone : Due → Bool
@@ -36,26 +38,17 @@ abbrev pub isZero : ℕ → Bool
 isZero zero = true
 isZero (suc k) = false
 
-abbrev pub isPos : ℤ → Bool
-isPos (pos zero) = false
-isPos (pos (suc n)) = true
-isPos (negsuc n) = false
-
 -- a ring's points by value, from the first in walk order
 abbrev pub fromFirst : {A : Type 0} → Ring A → List A
 fromFirst R = spin (R .first) (R .circle)
 
 module _ {P : Type 0} (G : Geo P) where
-  -- `is_very_small_triangle`, of a point, its next and its prev, on a ring of three
-  abbrev pub isVerySmallTriangle : P → P → P → Bool
-  isVerySmallTriangle op next prev = G .ptsReallyClose prev next || G .ptsReallyClose op next || G .ptsReallyClose op prev
-
   -- `is_valid_closed_path`: "Validity fails for no points, one, two, or three of which two differ by under 2 in both x and y"
   abbrev pub isValidClosedPath : List P → Bool
   isValidClosedPath [] = false
   isValidClosedPath (a ∷ []) = false
   isValidClosedPath (a ∷ b ∷ []) = false
-  isValidClosedPath (a ∷ b ∷ c ∷ []) = not (isVerySmallTriangle a b c)
+  isValidClosedPath (a ∷ b ∷ c ∷ []) = not (G .isVerySmallTriangle c a b)
   isValidClosedPath (a ∷ b ∷ c ∷ d ∷ r) = true
 
   -- a turn of the loop of `clean_collinear`, on a circle from the present place on, with the loop's start: "drops a point or moves on; it
@@ -77,7 +70,7 @@ module _ {P : Type 0} (G : Geo P) where
   keepsOffcut c ip x next =
       let area1 : ℤ = G .areaOutpt c in
       let area2 : ℤ = G .areaTriangle ip x next in
-      leb 1 (natAbs area2) && (ltb (natAbs area1) (2 * natAbs area2) || Bool·beq (isPos area2) (isPos area1))
+      leb 1 (natAbs area2) && (ltb (natAbs area1) (2 * natAbs area2) || Bool·beq (ltZ (pos 0) area2) (ltZ (pos 0) area1))
 
   -- `do_split_op` at x, the present point, and what follows it in `fix_self_intersects`: the crossing is put in unless it is the point before or
   -- the second after; the loop ends if one or three points are left

@@ -7,7 +7,7 @@ use lib.ListN.{length}
 use lib.Dec.{eqb, leb}
 use Rattle.rings.specs.Circle.{turn}
 use Rattle.rings.specs.Progress.{Ring}
-use Rattle.lone.specs.Lone.{Geo, isVerySmallTriangle, fromFirst}
+use Rattle.lone.specs.Lone.{Geo, fromFirst}
 
 -- the points in the path's order: "Forward starts after the first point, reversed at it"
 abbrev pub inOrder : {P : Type 0} → Bool → List P → List P
@@ -31,7 +31,7 @@ module _ {P : Type 0} (G : Geo P) where
   isSmallRing [] = false
   isSmallRing (a ∷ []) = false
   isSmallRing (a ∷ b ∷ []) = false
-  isSmallRing (a ∷ b ∷ c ∷ []) = isVerySmallTriangle G a b c
+  isSmallRing (a ∷ b ∷ c ∷ []) = G .isVerySmallTriangle c a b
   isSmallRing (a ∷ b ∷ c ∷ d ∷ r) = false
 
   -- `build_path64_from_outpt(reverse, is_open)`: none for a ring of one point, a closed one of two, a small closed triangle, a path of one point
