@@ -11,3 +11,4 @@ pub mod Keeping
 pub mod Falling
 pub mod Measuring
 pub mod Plane
+pub mod Bench

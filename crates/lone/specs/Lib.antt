@@ -8,3 +8,4 @@ pub mod Table
 pub mod Kept
 pub mod Measure
 pub mod Plane
+pub mod Bench
