@@ -14,10 +14,16 @@ use Rattle.lone.specs.Plane.{plane, loneRing}
 abbrev pub pt : ℕ → ℕ → Point
 pt a b = record { x = pos a; y = pos b }
 
+-- the two settings, the ring, and its paths
 pub record Row : Type 0 where
   pub preserve : Bool
+  pub reversed : Bool
   pub ring : List Point
   pub paths : List (List Point)
+
+-- a row with settings 0
+abbrev pub row : List Point → List (List Point) → Row
+row ring paths = record { preserve = false; reversed = false; ring = ring; paths = paths }
 
 -- what a row's forest ends in: whether all are done, and the paths, records ascending
 pub record Outcome : Type 0 where
@@ -28,15 +34,17 @@ abbrev addPath : Option (List Point) → List (List Point) → List (List Point)
 addPath none r = r
 addPath (some p) r = p ∷ r
 
-unfoldable pub outcome : Bool → List (Entry (Ring Point) ℕ) → Outcome
-outcome preserve [] = record { finished = true; paths = [] }
-outcome preserve (ringless ∷ es) = outcome preserve es
-outcome preserve (openRing x ∷ es) = outcome preserve es
-outcome preserve (closedRing q L ∷ es) = let r : Outcome = outcome preserve es in record { finished = loneRing preserve .over (L .now) && r .finished; paths = addPath (outline (plane preserve) false (L .now)) (r .paths) }
+unfoldable pub outcome : Bool → Bool → List (Entry (Ring Point) ℕ) → Outcome
+outcome preserve reversed [] = record { finished = true; paths = [] }
+outcome preserve reversed (ringless ∷ es) = outcome preserve reversed es
+outcome preserve reversed (openRing x ∷ es) = outcome preserve reversed es
+outcome preserve reversed (closedRing q L ∷ es) =
+    let r : Outcome = outcome preserve reversed es in
+    record { finished = loneRing preserve .over (L .now) && r .finished; paths = addPath (outline (plane preserve) reversed (L .now)) (r .paths) }
 
 -- 24 steps on record 0, then 12 on record 1; those on a done ring, or on none, are refused and change nothing
 unfoldable pub result : Row → Outcome
-result r = outcome (r .preserve) (runForest (loneRing (r .preserve)) 2048 512 (opening (leftClosed (atStart (r .ring)) ∷ []) (length (r .ring))) (replicate 24 0 ++ replicate 12 1) .entries)
+result r = outcome (r .preserve) (r .reversed) (runForest (loneRing (r .preserve)) 2048 512 (opening (leftClosed (atStart (r .ring)) ∷ []) (length (r .ring))) (replicate 24 0 ++ replicate 12 1) .entries)
 
 abbrev pub expected : Row → Outcome
 expected r = record { finished = true; paths = r .paths }
@@ -44,12 +52,26 @@ expected r = record { finished = true; paths = r .paths }
 -- a square; with (5,0), which goes, or stays with bit 0; the listing's ring; with (0,20); with (0,10); two triangles
 unfoldable pub bench : List Row
 bench =
-    record { preserve = false; ring = pt 0 0 ∷ pt 10 0 ∷ pt 10 10 ∷ pt 0 10 ∷ []; paths = (pt 10 0 ∷ pt 10 10 ∷ pt 0 10 ∷ pt 0 0 ∷ []) ∷ [] }
-    ∷ record { preserve = false; ring = pt 0 0 ∷ pt 5 0 ∷ pt 10 0 ∷ pt 10 10 ∷ pt 0 10 ∷ []; paths = (pt 10 0 ∷ pt 10 10 ∷ pt 0 10 ∷ pt 0 0 ∷ []) ∷ [] }
-    ∷ record { preserve = true; ring = pt 0 0 ∷ pt 5 0 ∷ pt 10 0 ∷ pt 10 10 ∷ pt 0 10 ∷ []; paths = (pt 5 0 ∷ pt 10 0 ∷ pt 10 10 ∷ pt 0 10 ∷ pt 0 0 ∷ []) ∷ [] }
-    ∷ record { preserve = false; ring = pt 0 0 ∷ pt 10 10 ∷ pt 10 0 ∷ pt 0 12 ∷ []; paths = (pt 5 5 ∷ pt 0 12 ∷ pt 0 0 ∷ []) ∷ (pt 10 10 ∷ pt 10 0 ∷ pt 5 5 ∷ []) ∷ [] }
-    ∷ record { preserve = false; ring = pt 0 0 ∷ pt 10 10 ∷ pt 10 0 ∷ pt 0 20 ∷ []; paths = (pt 6 6 ∷ pt 0 20 ∷ pt 0 0 ∷ []) ∷ [] }
-    ∷ record { preserve = false; ring = pt 0 0 ∷ pt 10 10 ∷ pt 10 0 ∷ pt 0 10 ∷ []; paths = [] }
-    ∷ record { preserve = false; ring = pt 0 0 ∷ pt 1 1 ∷ pt 50 0 ∷ []; paths = [] }
-    ∷ record { preserve = false; ring = pt 0 0 ∷ pt 2 0 ∷ pt 1 50 ∷ []; paths = (pt 2 0 ∷ pt 1 50 ∷ pt 0 0 ∷ []) ∷ [] }
+    row (pt 0 0 ∷ pt 10 0 ∷ pt 10 10 ∷ pt 0 10 ∷ []) ((pt 10 0 ∷ pt 10 10 ∷ pt 0 10 ∷ pt 0 0 ∷ []) ∷ [])
+    ∷ row (pt 0 0 ∷ pt 5 0 ∷ pt 10 0 ∷ pt 10 10 ∷ pt 0 10 ∷ []) ((pt 10 0 ∷ pt 10 10 ∷ pt 0 10 ∷ pt 0 0 ∷ []) ∷ [])
+    ∷ record { preserve = true; reversed = false; ring = pt 0 0 ∷ pt 5 0 ∷ pt 10 0 ∷ pt 10 10 ∷ pt 0 10 ∷ []; paths = (pt 5 0 ∷ pt 10 0 ∷ pt 10 10 ∷ pt 0 10 ∷ pt 0 0 ∷ []) ∷ [] }
+    ∷ row (pt 0 0 ∷ pt 10 10 ∷ pt 10 0 ∷ pt 0 12 ∷ []) ((pt 5 5 ∷ pt 0 12 ∷ pt 0 0 ∷ []) ∷ (pt 10 10 ∷ pt 10 0 ∷ pt 5 5 ∷ []) ∷ [])
+    ∷ row (pt 0 0 ∷ pt 10 10 ∷ pt 10 0 ∷ pt 0 20 ∷ []) ((pt 6 6 ∷ pt 0 20 ∷ pt 0 0 ∷ []) ∷ [])
+    ∷ row (pt 0 0 ∷ pt 10 10 ∷ pt 10 0 ∷ pt 0 10 ∷ []) []
+    ∷ row (pt 0 0 ∷ pt 1 1 ∷ pt 50 0 ∷ []) []
+    ∷ row (pt 0 0 ∷ pt 2 0 ∷ pt 1 50 ∷ []) ((pt 2 0 ∷ pt 1 50 ∷ pt 0 0 ∷ []) ∷ [])
+    ∷ []
+
+-- rings at the rules' edges, with the Rust's own answers: the square reversed; an offcut larger than the ring's area but not than the doubled one; a
+-- ring of area 2.0, which stays, and one of 1.5, which goes; the first of them is left with two points and no path; doubling at the loop's start, which
+-- ends it, and elsewhere; a point in line after a cut, which stays
+unfoldable pub edges : List Row
+edges =
+    record { preserve = false; reversed = true; ring = pt 0 0 ∷ pt 10 0 ∷ pt 10 10 ∷ pt 0 10 ∷ []; paths = (pt 0 0 ∷ pt 0 10 ∷ pt 10 10 ∷ pt 10 0 ∷ []) ∷ [] }
+    ∷ row (pt 0 0 ∷ pt 10 10 ∷ pt 10 0 ∷ pt 0 16 ∷ []) ((pt 6 6 ∷ pt 0 16 ∷ pt 0 0 ∷ []) ∷ (pt 10 10 ∷ pt 10 0 ∷ pt 6 6 ∷ []) ∷ [])
+    ∷ row (pt 1 2 ∷ pt 4 0 ∷ pt 0 1 ∷ pt 0 0 ∷ []) ((pt 1 2 ∷ pt 4 0 ∷ pt 0 0 ∷ []) ∷ [])
+    ∷ row (pt 0 0 ∷ pt 2 1 ∷ pt 1 0 ∷ pt 0 4 ∷ []) []
+    ∷ row (pt 3 5 ∷ pt 0 0 ∷ pt 6 4 ∷ pt 0 2 ∷ pt 4 0 ∷ []) ((pt 0 0 ∷ pt 6 4 ∷ pt 0 2 ∷ pt 4 0 ∷ pt 6 4 ∷ pt 3 5 ∷ []) ∷ [])
+    ∷ row (pt 0 4 ∷ pt 3 1 ∷ pt 2 1 ∷ pt 3 3 ∷ pt 0 0 ∷ []) ((pt 3 3 ∷ pt 3 1 ∷ pt 2 1 ∷ pt 3 3 ∷ pt 0 0 ∷ pt 0 4 ∷ []) ∷ [])
+    ∷ row (pt 3 2 ∷ pt 2 4 ∷ pt 3 0 ∷ pt 2 1 ∷ pt 1 4 ∷ []) ((pt 2 2 ∷ pt 3 0 ∷ pt 2 1 ∷ pt 1 4 ∷ []) ∷ [])
     ∷ []
