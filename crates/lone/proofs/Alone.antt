@@ -16,7 +16,7 @@ use borrow.Author.Tests.{eqb-true, eqb-false, eq-eqb, ne-eqb}
 use Rattle.rings.specs.Count.{sumBy}
 use Rattle.rings.proofs.Counting.{sumBy-append, sumBy-set}
 use Rattle.lone.specs.Forest.{Machine, State, initial, toList, Entry, ringless, openRing, closedRing, Opened, leftRingless, leftOpen, leftClosed, Answer, Forest, names, naming, isOk}
-use Rattle.lone.specs.Forest.{enter, opening, newEntry, at, cutFrom, offcutsOf, takenBy, rank, allTaken, allCut, stepState, stepsState, stepsEntry, carryOut, answerTo, answer, stepForest, runForest, accepted}
+use Rattle.lone.specs.Forest.{enter, opening, newEntry, at, OfClosed, cutFrom, offcutsOf, takenBy, rank, allTaken, allCut, stepState, stepsState, stepsEntry, carryOut, answerTo, answer, stepForest, runForest, accepted}
 use Rattle.lone.specs.Order.{IsOffcut, Alone, Exactly, Independent}
 use Rattle.lone.proofs.Stepping.{Accepted, Refused, view, exactly}
 
@@ -79,12 +79,13 @@ module _ {S X : Type 0} (M : Machine S) where
     longer = simp length-map (omega arith);
     idle = λ j h. refl;
     opened = λ j h. sym (advance-zero (at (map enter os) j));
+    unfinished = λ j k h l. absurd (not-suc-le-zero l);
     offcut = λ j h k. absurd (omega (arith, simp length-map at k));
     as-many = λ p. opened-naming os p ∙ sym (ap length (opened-offcuts os p));
   }
 
   -- the step of the life L of record i
-  module _ (es : List (Entry S X)) (i : ℕ) (q : Option ℕ) (L : State S) (here : at es i ≡ closedRing q L) where
+  module _ (es : List (Entry S X)) (i : ℕ) (q : Option ℕ) (L : State S) (here : at es i ≡ closedRing q L) (live : M .over (L .now) ≡ false) where
     after : List (Entry S X)
     after = set es i (closedRing q (stepState M L)) ++ newEntry i (M .cuts (L .now))
 
@@ -166,14 +167,33 @@ module _ {S X : Type 0} (M : Machine S) where
           go (yes e) = rw (e, bump-here) (after-here ∙ one (at (map enter os) i) (g i) (sym here ∙ (rw e at (a .opened j h))))
           go (no n) = rw (bump-other g i j n) (after-other j (omega (arith, a .longer)) n ∙ a .opened j h)
 
+      step-unfinished : (j k : ℕ) → j < length os → k < bump g i j → OfClosed (λ (s : S). M .over s ≡ false) (stepsEntry M k (at (map enter os) j))
+      step-unfinished j k h l = go (ℕ-discrete j i)
+        where
+          last : Dec (k < g i) → j ≡ i → k < suc (g i) → OfClosed (λ (s : S). M .over s ≡ false) (stepsEntry M k (at (map enter os) j))
+          last (yes m) e l′ = a .unfinished j k h (rw e m)
+          last (no m) e l′ = let d : k ≡ g j = omega (arith, ap g e) in let r : stepsEntry M k (at (map enter os) j) ≡ closedRing q L = rw d (sym (a .opened j h) ∙ ap (at es) e ∙ here) in rw r live
+
+          go : Dec (j ≡ i) → OfClosed (λ (s : S). M .over s ≡ false) (stepsEntry M k (at (map enter os) j))
+          go (yes e) = last (decLt k (g i)) e (rw (← bump-here g i) (rw e at l))
+          go (no n) = a .unfinished j k h (rw (bump-other g i j n) at l)
+
       step-offcut : (j : ℕ) → length os ≤ j → j < length es → IsOffcut M after (bump g i) j
       step-offcut j h k =
           let c : IsOffcut M es g j = a .offcut j h k in
-          record { from = c .from; seed = c .seed; before = c .before; cut-as = rw (after-rank (c .from) j (le-of-lt k)) (cut-kept (c .from) (rank es (c .from) j) (c .seed) (c .cut-as)); is = go c (ℕ-discrete j i) }
+          record { from = c .from; seed = c .seed; before = c .before; cut-as = rw (after-rank (c .from) j (le-of-lt k)) (cut-kept (c .from) (rank es (c .from) j) (c .seed) (c .cut-as)); is = go c (ℕ-discrete j i); unfinished = λ m l. goes-on c m l (ℕ-discrete j i) }
         where
           go : (c : IsOffcut M es g j) → Dec (j ≡ i) → at after j ≡ closedRing (some (c .from)) (stepsState M (bump g i j) (initial (c .seed)))
           go c (yes e) = let r : closedRing q L ≡ closedRing (some (c .from)) (stepsState M (g i) (initial (c .seed))) = sym here ∙ (rw e at (c .is)) in rw (e, bump-here) (after-here ∙ cc)
           go c (no n) = rw (bump-other g i j n) (after-other j k n ∙ c .is)
+
+          last : (c : IsOffcut M es g j) (m : ℕ) → Dec (m < g i) → j ≡ i → m < suc (g i) → M .over (stepsState M m (initial (c .seed)) .now) ≡ false
+          last c m (yes t) e l = c .unfinished m (rw e t)
+          last c m (no t) e l = let r : closedRing q L ≡ closedRing (some (c .from)) (stepsState M (g j) (initial (c .seed))) = sym here ∙ ap (at es) (sym e) ∙ c .is in let d : m ≡ g j = omega (arith, ap g e) in let w : L ≡ stepsState M (g j) (initial (c .seed)) = cc in rw d (ap (λ (T : State S). M .over (T .now)) (sym w) ∙ live)
+
+          goes-on : (c : IsOffcut M es g j) (m : ℕ) → m < bump g i j → Dec (j ≡ i) → M .over (stepsState M m (initial (c .seed)) .now) ≡ false
+          goes-on c m l (yes e) = last c m (decLt m (g i)) e (rw (← bump-here g i) (rw e at l))
+          goes-on c m l (no n) = c .unfinished m (rw (bump-other g i j n) at l)
 
       step-new : (s : S) → M .cuts (L .now) ≡ some s → IsOffcut M after (bump g i) (length es)
       step-new s e = record {
@@ -182,6 +202,7 @@ module _ {S X : Type 0} (M : Machine S) where
         before = inside;
         cut-as = rw (after-rank i (length es) (omega arith), after-offcuts-here, e) (ap (getElem? (offcutsOf (at es i) ++ (s ∷ []))) (rank-all i ∙ a .as-many i) ∙ getElem-seam (offcutsOf (at es i)) s);
         is = after-new s e ∙ ap (λ (n : ℕ). closedRing (some i) (stepsState M n (initial s))) (sym (bump-other g i (length es) (λ r. omega (arith, inside)) ∙ a .idle (length es) (omega arith)));
+        unfinished = λ m l. absurd (omega (arith, l, bump-other g i (length es) (λ r. omega (arith, inside)), a .idle (length es) (omega arith)));
       }
 
       naming-here : (o : Option S) → naming i (map cutFrom (newEntry {X = X} i o)) ≡ length (toList o)
@@ -208,6 +229,7 @@ module _ {S X : Type 0} (M : Machine S) where
         longer = omega (arith, a .longer, after-length);
         idle = λ j h. bump-other g i j (λ e. omega (arith, inside, after-length, h, e)) ∙ a .idle j (omega (arith, after-length, h));
         opened = step-old;
+        unfinished = step-unfinished;
         offcut = λ j h k. late j h k (decLt j (length es));
         as-many = step-many;
       }
@@ -253,9 +275,9 @@ module _ {S X : Type 0} (M : Machine S) (lp lr : ℕ) where
       go : Accepted M lp lr F i ⊎ Refused M lp lr F i → Independent M lp lr os p₀ (stepForest M lp lr F i) (λ j. g j + cond (isOk (answer M lp lr F i)) (cond (eqb i j) 1 0) 0)
       go (inl y) = let L : State S = y .state in
           rw (y .becomes, y .says) (make os p₀ (carryOut M F i (y .who) L) (bump g i)
-          (step-alone M (F .entries) i (y .who) L (y .here) os g (v .alone))
-          (omega (arith, v .points-used, after-taken M (F .entries) i (y .who) L (y .here)))
-          (omega (arith, v .records-used, after-cut M (F .entries) i (y .who) L (y .here), after-length M (F .entries) i (y .who) L (y .here))))
+          (step-alone M (F .entries) i (y .who) L (y .here) (y .unfinished) os g (v .alone))
+          (omega (arith, v .points-used, after-taken M (F .entries) i (y .who) L (y .here) (y .unfinished)))
+          (omega (arith, v .records-used, after-cut M (F .entries) i (y .who) L (y .here) (y .unfinished), after-length M (F .entries) i (y .who) L (y .here) (y .unfinished))))
       go (inr n) = rw (n .becomes, n .says) (subst (λ (h : ℕ → ℕ). Independent M lp lr os p₀ F h) (fun-ext (λ j. sym (add-zero (g j)))) v)
 
   run-independent : (os : List (Opened S X)) (p₀ : ℕ) (s : List ℕ) (F : Forest S X) (g : ℕ → ℕ) → Independent M lp lr os p₀ F g → Independent M lp lr os p₀ (runForest M lp lr F s) (λ j. g j + accepted M lp lr F s j)

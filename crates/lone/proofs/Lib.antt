@@ -12,3 +12,4 @@ pub mod Falling
 pub mod Measuring
 pub mod Plane
 pub mod Bench
+pub mod Trees

@@ -48,10 +48,13 @@ pub record Forest (S X : Type 0) : Type 0 where
   pub entries : List (Entry S X)
   pub points : ℕ
 
--- 1 if it is record p
+-- it is record p
+abbrev pub isNamed : ℕ → Option ℕ → Bool
+isNamed p none = false
+isNamed p (some q) = eqb q p
+
 abbrev pub names : ℕ → Option ℕ → ℕ
-names p none = 0
-names p (some q) = cond (eqb q p) 1 0
+names p q = cond (isNamed p q) 1 0
 
 -- how many of the records name p as the one they were cut from
 abbrev pub naming : ℕ → List (Option ℕ) → ℕ

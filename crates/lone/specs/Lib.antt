@@ -5,6 +5,7 @@ pub mod Path
 pub mod Forest
 pub mod Order
 pub mod Table
+pub mod Tree
 pub mod Kept
 pub mod Measure
 pub mod Plane

@@ -3,13 +3,13 @@ use mathlib.Core.Path.{_≡_}
 use mathlib.Core.Logic.{_⊎_, _↔_, _≢_}
 use mathlib.Core.List.{List, [], _∷_, _++_, map}
 use mathlib.Core.Option.{Option, none, some}
-use mathlib.Core.Bool.{Bool, true}
+use mathlib.Core.Bool.{Bool, true, false}
 use Prim.Native.Nat.{ℕ, _+_, _≤_, _<_}
 use lib.ListN.{length, getElem?}
 use Rattle.rings.specs.Progress.{Ring}
 use Rattle.lone.specs.Lone.{Geo, isDone, stepRing, offcutRing, takesRing}
 use Rattle.lone.specs.Forest.{Machine, State, initial, toList, Entry, ringless, openRing, closedRing, Opened, Answer, ok, full, outOfTurn, Forest, naming}
-use Rattle.lone.specs.Forest.{enter, at, cutFrom, offcutsOf, rank, allTaken, allCut, stepsState, stepsEntry, answer, answerTo, runForest}
+use Rattle.lone.specs.Forest.{enter, at, OfClosed, cutFrom, offcutsOf, rank, allTaken, allCut, stepsState, stepsEntry, answer, answerTo, runForest}
 
 -- the lone ring as a machine of the forest
 unfoldable pub machine : {P : Type 0} → Geo P → Machine (Ring P)
@@ -24,6 +24,7 @@ module _ {S X : Type 0} (M : Machine S) where
     pub before : from < j
     pub cut-as : getElem? (offcutsOf (at es from)) (rank es from j) ≡ some seed
     pub is : at es j ≡ closedRing (some from) (stepsState M (g j) (initial seed))
+    pub unfinished : (k : ℕ) → k < g j → M .over (stepsState M k (initial seed) .now) ≡ false
 
   -- os: what opening left; es: the records now; g: how many steps on each record were not refused
   pub record Alone (os : List (Opened S X)) (es : List (Entry S X)) (g : ℕ → ℕ) : Type 0 where
@@ -31,6 +32,8 @@ module _ {S X : Type 0} (M : Machine S) where
     pub idle : (j : ℕ) → length es ≤ j → g j ≡ 0
     -- "A ring that opening left closed has the lone ring fed with it"; "open rings are as opening left them"
     pub opened : (j : ℕ) → j < length os → at es j ≡ stepsEntry M (g j) (at (map enter os) j)
+    -- no step was on a done one: "a done one refuses every step"
+    pub unfinished : (j k : ℕ) → j < length os → k < g j → OfClosed (λ (s : S). M .over s ≡ false) (stepsEntry M k (at (map enter os) j))
     pub offcut : (j : ℕ) → length os ≤ j → j < length es → IsOffcut es g j
     -- "as many offcuts"
     pub as-many : (p : ℕ) → naming p (map cutFrom es) ≡ length (offcutsOf (at es p))

@@ -1,0 +1,167 @@
+-- Two lists of steps that finish everything end in the same rings, up to numbering: the table holds what the lone rings end in, and that is one.
+use mathlib.Core.Path.{_≡_, refl, sym, ap, _∙_, subst}
+use mathlib.Core.Logic.{_⊎_, inl, inr, _≢_}
+use mathlib.Core.List.{List, [], _∷_, _++_, map}
+use mathlib.Core.Option.{Option, none, some}
+use mathlib.Core.Bool.{Bool, true, false, cond, true≢false}
+use Prim.Native.Nat.{ℕ, zero, suc, _+_, _≤_, _<_}
+use native.Mathlib.Nat.{add-zero, add-suc, suc-add, zero-add, not-suc-le-zero, le-of-suc-le-suc}
+use native.Mathlib.Omega.{arith}
+use native.Mathlib.Decide.{decLt, ℕ-discrete}
+use lib.ListN.{length, getD, take, drop, getElem?, length-map, drop-of-length-le, List·getD-map}
+use lib.Seq.{take-all, take-suc, drop-cons}
+use lib.Dec.{eqb}
+use borrow.Author.Tests.{eqb-true}
+use Rattle.rings.specs.Count.{sumBy}
+use Rattle.rings.proofs.Counting.{sumBy-append}
+use Rattle.lone.specs.Forest.{Machine, State, initial, Entry, ringless, openRing, closedRing, Opened, leftRingless, leftOpen, leftClosed, Forest, isNamed, names, naming}
+use Rattle.lone.specs.Forest.{enter, opening, at, OfClosed, cutFrom, offcutsOf, rank, stepsState, stepsEntry, runForest, accepted}
+use Rattle.lone.specs.Order.{IsOffcut, Alone, NoneOrDone, AllDone}
+use Rattle.lone.specs.Tree.{Trees, nothing, ended, Finishes, no-more, and, offcutsFrom, Holds, seeds, roots}
+use Rattle.lone.proofs.Alone.{at-closed, independent}
+
+drop-here : {A : Type 0} (l : List A) (r : ℕ) (a : A) → getElem? l r ≡ some a → drop r l ≡ a ∷ drop (suc r) l
+drop-here [] r a h = let z : _≡_ {A = ℕ} 0 1 = cc in absurd (omega arith)
+drop-here (x ∷ l) zero a h = let e : x ≡ a = cc in ap (λ (y : _). y ∷ l) e
+drop-here (x ∷ l) (suc r) a h = drop-here l r a h
+
+module _ {S : Type 0} (M : Machine S) where
+  -- what lone machines end in is one
+  same-count : (s : S) (m n : ℕ) → ((k : ℕ) → k < m → M .over (stepsState M k (initial s) .now) ≡ false) → M .over (stepsState M n (initial s) .now) ≡ true → m ≤ n
+  same-count s m n f e = go (decLt n m)
+    where
+      go : Dec (n < m) → m ≤ n
+      go (yes h) = absurd (true≢false (sym e ∙ f n h))
+      go (no h) = omega arith
+
+  pub one-end : (ss : List S) (t u : Trees S) → Finishes M ss t → Finishes M ss u → t ≡ u
+  one-end ss t u no-more g = none-left u g
+    where
+      none-left : (u : Trees S) → Finishes M [] u → nothing ≡ u
+      none-left u no-more = refl
+  one-end ss t u (and {s = s} {ss = r} {ts = ts} {us = us} n f o c d) g = split u g (λ v h. one-end (stepsState M n (initial s) .offcuts) ts v c h) (λ v h. one-end r us v d h)
+    where
+      split : (u : Trees S) → Finishes M (s ∷ r) u → ((v : Trees S) → Finishes M (stepsState M n (initial s) .offcuts) v → ts ≡ v)
+          → ((v : Trees S) → Finishes M r v → us ≡ v) → ended (stepsState M n (initial s) .now) ts us ≡ u
+      split u (and {ts = ts′} {us = us′} n′ f′ o′ c′ d′) on-offcuts on-rest =
+          let e : n′ ≡ n = omega (arith, same-count s n n′ f o′, same-count s n′ n f′ o) in
+          let a : ts ≡ ts′ = on-offcuts ts′ (subst (λ (k : ℕ). Finishes M (stepsState M k (initial s) .offcuts) ts′) e c′) in
+          let b : us ≡ us′ = on-rest us′ d′ in
+          cc
+
+-- ---- what the table holds, once all are done
+
+module _ {S X : Type 0} (M : Machine S) (os : List (Opened S X)) (es : List (Entry S X)) (g : ℕ → ℕ) (a : Alone M os es g) (over : AllDone M es) where
+  -- record j is a lone machine from this start
+  record Branch (j : ℕ) : Type 0 where
+    seed : S
+    from : Option ℕ
+    is : at es j ≡ closedRing from (stepsState M (g j) (initial seed))
+    unfinished : (k : ℕ) → k < g j → M .over (stepsState M k (initial seed) .now) ≡ false
+
+  -- what its offcuts end in is what the records that name it hold
+  Below : (j : ℕ) → Branch j → Type 0
+  Below j b = (ts : Trees S) × Finishes M (stepsState M (g j) (initial (b .seed)) .offcuts) ts × Holds es (offcutsFrom j 0 (map cutFrom es)) ts
+
+  -- the same of the offcuts from record k on
+  From : ℕ → ℕ → Type 0
+  From j k = (ts : Trees S) × Finishes M (drop (rank es j k) (offcutsOf (at es j))) ts × Holds es (offcutsFrom j k (drop k (map cutFrom es))) ts
+
+  rank-suc : (p k : ℕ) → k < length es → rank es p (suc k) ≡ rank es p k + names p (cutFrom (at es k))
+  rank-suc p k h = ap (naming p) (take-suc (map cutFrom es) k none (rw (length-map es cutFrom) h)) ∙ sumBy-append (names p) (take k (map cutFrom es)) (getD (map cutFrom es) k none ∷ [])
+      ∙ ap (λ (n : ℕ). rank es p k + n) (add-zero (names p (getD (map cutFrom es) k none)) ∙ ap (names p) (List·getD-map cutFrom es k ringless))
+
+  opened-none : (rs : List (Opened S X)) (n k : ℕ) → cutFrom (stepsEntry M n (at (map enter rs) k)) ≡ none
+  opened-none [] n k = refl
+  opened-none (leftRingless ∷ rs) n zero = refl
+  opened-none (leftOpen x ∷ rs) n zero = refl
+  opened-none (leftClosed s ∷ rs) n zero = refl
+  opened-none (o ∷ rs) n (suc k) = opened-none rs n k
+
+  -- a record that names another was cut
+  late : (j k : ℕ) → isNamed j (cutFrom (at es k)) ≡ true → length os ≤ k
+  late j k e = go (decLt k (length os))
+    where
+      go : Dec (k < length os) → length os ≤ k
+      go (yes h) = let z : cutFrom (at es k) ≡ none = ap cutFrom (a .opened k h) ∙ opened-none os (g k) k in absurd (true≢false (sym e ∙ ap (isNamed j) z))
+      go (no h) = omega arith
+
+  branch-of : {k : ℕ} → IsOffcut M es g k → Branch k
+  branch-of c = record { seed = c .seed; from = some (c .from); is = c .is; unfinished = c .unfinished }
+
+  ends : (k : ℕ) (b : Branch k) → M .over (stepsState M (g k) (initial (b .seed)) .now) ≡ true
+  ends k b = rw (b .is) at (over k)
+
+  none-after : (j k : ℕ) → k ≡ length es → From j k
+  unfolding From
+  none-after j k e =
+      let r : rank es j k ≡ length (offcutsOf (at es j)) = ap (naming j) (take-all k (map cutFrom es) (rw (length-map es cutFrom) (omega arith))) ∙ a .as-many j in
+      let d : drop (rank es j k) (offcutsOf (at es j)) ≡ [] = drop-of-length-le (offcutsOf (at es j)) {i = rank es j k} (omega arith) in
+      let d′ : drop k (map cutFrom es) ≡ [] = drop-of-length-le (map cutFrom es) {i = k} (rw (length-map es cutFrom) (omega arith)) in
+      (nothing, rw d no-more, rw d′ no-more)
+
+  step-back : (j k : ℕ) → k < length es → ((k : ℕ) → j < k → (b : Branch k) → Below k b) → From j (suc k) → From j k
+  unfolding From Below branch-of
+  step-back j k h rec r = go (isNamed j (cutFrom (at es k))) refl
+    where
+      d : drop k (map cutFrom es) ≡ cutFrom (at es k) ∷ drop (suc k) (map cutFrom es)
+      d = drop-cons (map cutFrom es) k none (rw (length-map es cutFrom) h) ∙ ap (λ (q : Option ℕ). q ∷ drop (suc k) (map cutFrom es)) (List·getD-map cutFrom es k ringless)
+
+      named : isNamed j (cutFrom (at es k)) ≡ true → (c : IsOffcut M es g k) → c .from ≡ j
+          → (us : Trees S) × Finishes M (stepsState M (g k) (initial (c .seed)) .offcuts) us × Holds es (offcutsFrom k 0 (map cutFrom es)) us
+          → (ts : Trees S) × Finishes M (drop (rank es j k) (offcutsOf (at es j))) ts × Holds es (offcutsFrom j k (drop k (map cutFrom es))) ts
+      named e c j-is u =
+          let n : rank es j (suc k) ≡ suc (rank es j k) = rank-suc j k h ∙ (rw e (omega arith)) in
+          let w : drop (rank es j k) (offcutsOf (at es j)) ≡ c .seed ∷ drop (suc (rank es j k)) (offcutsOf (at es j)) = drop-here (offcutsOf (at es j)) (rank es j k) (c .seed) (subst (λ (p : ℕ). getElem? (offcutsOf (at es p)) (rank es p k) ≡ some (c .seed)) j-is (c .cut-as)) in
+          (ended (stepsState M (g k) (initial (c .seed)) .now) (u .0) (r .0), rw w (and (g k) (c .unfinished) (ends k (branch-of c)) (u .1) (rw n at (r .1))), rw d (rw e (and (c .is) (u .2) (r .2))))
+
+      go : (b : Bool) → isNamed j (cutFrom (at es k)) ≡ b → (ts : Trees S) × Finishes M (drop (rank es j k) (offcutsOf (at es j))) ts × Holds es (offcutsFrom j k (drop k (map cutFrom es))) ts
+      go false e =
+          let n : rank es j k ≡ rank es j (suc k) = sym (rank-suc j k h ∙ (rw e (add-zero (rank es j k)))) in
+          (r .0, rw n (r .1), rw d (rw e (r .2)))
+      go true e =
+          let c : IsOffcut M es g k = a .offcut k (late j k e) h in
+          let j-is : c .from ≡ j = eqb-true (c .from) j (ap (isNamed j) (sym (ap cutFrom (c .is))) ∙ e) in
+          named e c j-is (rec k (omega (arith, c .before, j-is)) (branch-of c))
+
+  walk : (j : ℕ) → ((k : ℕ) → j < k → (b : Branch k) → Below k b) → (n k : ℕ) → k + n ≡ length es → From j k
+  walk j rec zero k e = none-after j k (omega arith)
+  walk j rec (suc n) k e = step-back j k (omega arith) rec (walk j rec n (suc k) (omega arith))
+
+  below : (m j : ℕ) → length es ≤ j + m → (b : Branch j) → Below j b
+  unfolding Below From
+  below zero j h b = absurd (omega (arith, at-closed es j (b .is)))
+  below (suc m) j h b = let r = walk j (λ k l c. below m k (omega arith) c) (length es) 0 (omega arith) in (r .0, rw (ap offcutsOf (b .is)) at (r .1), r .2)
+
+  -- the rings from record k on that opening left closed
+  from-roots : (rs : List (Opened S X)) (k : ℕ) → k + length rs ≡ length os → ((i : ℕ) → at (map enter os) (k + i) ≡ at (map enter rs) i) → (ts : Trees S) × Finishes M (seeds rs) ts × Holds es (roots k rs) ts
+  unfolding Below
+  from-roots [] k e h = (nothing, no-more, no-more)
+  from-roots (leftRingless ∷ rs) k e h = from-roots rs (suc k) (omega arith) (λ i. ap (at (map enter os)) (suc-add k i ∙ sym (add-suc k i)) ∙ h (suc i))
+  from-roots (leftOpen x ∷ rs) k e h = from-roots rs (suc k) (omega arith) (λ i. ap (at (map enter os)) (suc-add k i ∙ sym (add-suc k i)) ∙ h (suc i))
+  from-roots (leftClosed s ∷ rs) k e h = one (from-roots rs (suc k) (omega arith) (λ i. ap (at (map enter os)) (suc-add k i ∙ sym (add-suc k i)) ∙ h (suc i)))
+    where
+      here : at (map enter os) k ≡ closedRing none (initial s)
+      here = ap (at (map enter os)) (sym (add-zero k)) ∙ h 0
+
+      b : Branch k
+      b = record { seed = s; from = none; is = a .opened k (omega arith) ∙ ap (stepsEntry M (g k)) here; unfinished = λ m l. (rw here at (a .unfinished k m (omega arith) l)) }
+
+      one : (ts : Trees S) × Finishes M (seeds rs) ts × Holds es (roots (suc k) rs) ts → (ts : Trees S) × Finishes M (s ∷ seeds rs) ts × Holds es (k ∷ roots (suc k) rs) ts
+      one r = let u = below (length es) k (omega arith) b in (ended (stepsState M (g k) (initial s) .now) (u .0) (r .0), and (g k) (b .unfinished) (ends k b) (u .1) (r .1), and (b .is) (u .2) (r .2))
+
+  -- the table holds what the lone machines end in
+  pub holds-end : (ts : Trees S) × Finishes M (seeds os) ts × Holds es (roots 0 os) ts
+  holds-end = from-roots os 0 (omega arith) (λ i. ap (at (map enter os)) (zero-add i))
+
+module _ {S X : Type 0} (M : Machine S) (lp lr : ℕ) (os : List (Opened S X)) (p₀ : ℕ) where
+  pub end-of : (s : List ℕ) → AllDone M (runForest M lp lr (opening os p₀) s .entries) → (ts : Trees S) × Finishes M (seeds os) ts × Holds (runForest M lp lr (opening os p₀) s .entries) (roots 0 os) ts
+  end-of s h = holds-end M os _ _ (independent M lp lr os p₀ s .alone) h
+
+  -- two lists that finish everything end in the same rings, up to numbering
+  pub same-end : (s t : List ℕ) → AllDone M (runForest M lp lr (opening os p₀) s .entries) → AllDone M (runForest M lp lr (opening os p₀) t .entries)
+      → (ts : Trees S) × Holds (runForest M lp lr (opening os p₀) s .entries) (roots 0 os) ts × Holds (runForest M lp lr (opening os p₀) t .entries) (roots 0 os) ts
+  same-end s t h k =
+      let u = end-of s h in
+      let v = end-of t k in
+      (u .0, u .2, subst (λ (ts : Trees S). Holds (runForest M lp lr (opening os p₀) t .entries) (roots 0 os) ts) (one-end M (seeds os) (v .0) (u .0) (v .1) (u .1)) (v .2))
