@@ -3,6 +3,7 @@ include!(concat!(env!("OUT_DIR"), "/clipper/modules.rs"));
 
 mod answer;
 mod batch;
+mod cases;
 mod check;
 mod compare;
 mod gen;
@@ -16,6 +17,7 @@ mod rng;
 mod runs;
 mod show;
 mod stats;
+mod stored;
 mod text;
 mod vectors;
 
@@ -67,6 +69,10 @@ fn run(words: &[&str]) -> Result<(), String> {
         ["compare", seed, count, threads, least] => {
             runs::compare(number(seed)?, number(count)?, number(threads)?, number(least)?)
         }
+        ["expect", file] => cases::expect(file),
+        ["stored", "make", folder] => output(stored::make(folder)?.as_bytes()),
+        ["stored", form, file] => stored::emit(form, file),
+        ["choose", seed, count, each] => stored::choose(number(seed)?, number(count)?, number(each)?),
         ["vectors", "geometry", seed, count] => {
             output(vectors::geometry(number(seed)?, number(count)?).as_bytes())
         }

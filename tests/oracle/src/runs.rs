@@ -22,6 +22,9 @@ fn share(seed: u64, from: u64, stride: u64, count: u64) -> Result<Stats, String>
 
 /// Compares the jobs of one seed; `least` is how often each refusal and event must come up in every 100,000 jobs.
 pub fn compare(seed: u64, count: u64, threads: u64, least: u64) -> Result<(), String> {
+    if !(1..=64).contains(&threads) {
+        return Err(format!("not a number of threads from 1 to 64: {threads}"));
+    }
     let start = Instant::now();
     let shares: Vec<_> = (0..threads).map(|t| std::thread::spawn(move || share(seed, t, threads, count))).collect();
     let mut stats = Stats::default();

@@ -67,6 +67,25 @@ pub fn full_records(rng: &mut Rng) -> Job {
     job
 }
 
+/// Many level segments over one another: with enough of them the joins they make fill the store.
+pub fn many_segments(rng: &mut Rng) -> Job {
+    let mut job = Job { settings: rng.below(4) as u8, ..Job::default() };
+    let spread = rng.from(0, 12);
+    for _ in 0..4 + rng.below(90) {
+        let left = rng.from(0, spread);
+        let (right, high) = (left + rng.from(4, 30), rng.from(1, 9));
+        let mut ring = vec![(left, 0), (right, 0), (left, high)];
+        if rng.one_in(2) {
+            ring.reverse();
+        }
+        let base = job.points.len() as u16;
+        job.add_ring(0, NONE, &ring);
+        let corner = if rng.one_in(8) { 2 } else { rng.below(2) };
+        job.segments.push(base + corner as u16);
+    }
+    job
+}
+
 /// Rings on which the Rust doubles and cuts for ever (docs/DIFFERENCES.md), turned and mirrored; some with a point moved.
 pub fn endless(rng: &mut Rng) -> Job {
     let ring = [(0, -1), (9, 2), (7, 13), (-1, 0), (8, 9), (0, 0), (9, 5), (10, 0), (6, 16), (9, 0)];

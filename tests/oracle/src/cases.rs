@@ -1,0 +1,56 @@
+// Cases written by hand: a job as text and the listing that a paper, not a run, says it has. tests/answers/README.md has the format.
+use crate::oracle::Oracle;
+use crate::text;
+
+pub struct Case {
+    pub name: String,
+    pub job: Vec<u8>,
+    pub expected: String,
+}
+
+pub fn parse(content: &str) -> Result<Vec<Case>, String> {
+    let mut cases = Vec::new();
+    let mut lines = content.lines().filter(|line| !line.trim_start().starts_with('#'));
+    while let Some(line) = lines.next() {
+        if line.trim().is_empty() {
+            continue;
+        }
+        let name = line.strip_prefix("case ").ok_or_else(|| format!("not the start of a case: {line}"))?.to_string();
+        let part = |until: &str, lines: &mut dyn Iterator<Item = &str>| {
+            let mut out = String::new();
+            for line in lines {
+                if line == until {
+                    return Ok(out);
+                }
+                out += line;
+                out.push('\n');
+            }
+            Err(format!("case {name} has no line '{until}'"))
+        };
+        let job = part("expect", &mut lines)?;
+        let expected = part("end", &mut lines)?;
+        let job = text::parse(&job).map_err(|why| format!("case {name}: {why}"))?;
+        cases.push(Case { name, job, expected });
+    }
+    Ok(cases)
+}
+
+pub fn load(path: &str) -> Result<Vec<Case>, String> {
+    let content = std::fs::read_to_string(path).map_err(|why| format!("cannot read {path}: {why}"))?;
+    parse(&content).map_err(|why| format!("{path}: {why}"))
+}
+
+/// Runs each case through the oracle and compares with its expectation.
+pub fn expect(path: &str) -> Result<(), String> {
+    let cases = load(path)?;
+    let mut oracle = Oracle::default();
+    for case in &cases {
+        let listing = oracle.answer(&case.job).listing();
+        if listing != case.expected {
+            let line = |text: &str| text.trim_end().replace('\n', " / ");
+            return Err(format!("{path}: case {}: expected {}, got {}", case.name, line(&case.expected), line(&listing)));
+        }
+    }
+    println!("{path}: {} cases as expected", cases.len());
+    Ok(())
+}
