@@ -12,7 +12,9 @@ use std::sync::atomic::{AtomicUsize, Ordering};
 const CHILD_LIMIT: usize = 2 << 20;
 /// The same for every other run; far above what a job needs, so that a wrong model ends in a message, not in a full machine.
 const LIMIT: usize = 1 << 30;
-const GREW: i32 = 77;
+/// The status that a child ends itself with.
+pub const GREW: i32 = 77;
+const PANICKED: i32 = 101;
 
 struct Guarded;
 
@@ -66,9 +68,19 @@ pub enum Ran {
     Grew,
 }
 
+/// From here on this process ends itself when it grows. A panic ends it at once with its message: printing a trace takes more
+/// memory than the limit, and would then look like growth.
+pub fn limit() {
+    std::panic::set_hook(Box::new(|why| {
+        eprintln!("{why}");
+        unsafe { _exit(PANICKED) }
+    }));
+    CEILING.store(CHILD_LIMIT, Ordering::Relaxed);
+}
+
 /// The child's side: a job in, both counts out, until the input ends.
 pub fn child() -> Result<(), String> {
-    CEILING.store(CHILD_LIMIT, Ordering::Relaxed);
+    limit();
     let (mut input, mut output) = (io::stdin().lock(), io::stdout().lock());
     while let Some(bytes) = read_part(&mut input)? {
         let job = crate::read::read(&bytes).map_err(|number| format!("the job is refused with {number}"))?;

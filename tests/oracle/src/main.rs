@@ -11,10 +11,12 @@ mod guard;
 mod job;
 mod model;
 mod oracle;
+mod raw;
 mod read;
 mod real;
 mod rng;
 mod runs;
+mod search;
 mod show;
 mod stats;
 mod stored;
@@ -52,6 +54,7 @@ fn run(words: &[&str]) -> Result<(), String> {
         },
         ["opened"] => output(show::opened(&input()?).as_bytes()),
         ["acts"] => output(show::acts(&input()?).as_bytes()),
+        ["alone"] => output(show::alone(&input()?).as_bytes()),
         ["steps", records @ ..] => {
             let records: Result<Vec<usize>, String> = records.iter().map(|word| number(word)).collect();
             output(show::steps(&input()?, &records?).as_bytes())
@@ -69,6 +72,9 @@ fn run(words: &[&str]) -> Result<(), String> {
         ["compare", seed, count, threads, least] => {
             runs::compare(number(seed)?, number(count)?, number(threads)?, number(least)?)
         }
+        ["endless", seed, count, n, side] => search::endless(number(seed)?, number(count)?, number(n)?, number(side)?),
+        ["raw"] => output(raw::raw(&input()?)?.as_bytes()),
+        ["raw-paths"] => output(raw::paths(&input()?)?.as_bytes()),
         ["expect", file] => cases::expect(file),
         ["stored", "make", folder] => output(stored::make(folder)?.as_bytes()),
         ["stored", form, file] => stored::emit(form, file),

@@ -87,11 +87,17 @@ pub fn open(job: &Job) -> Result<(ClipperBase, Joined), u8> {
             joined.merged += 1;
         }
     }
-    let mut whole = set(job);
-    whole.call_convert_horz_segs_to_joins();
-    whole.call_process_horz_joins();
+    let whole = open_untested(job);
     assert!(same(&base, &whole), "joining one at a time and in one call differ");
     Ok((whole, joined))
+}
+
+/// Opening as the Rust does it, one call of each function, without rows 9 and 10.
+pub fn open_untested(job: &Job) -> ClipperBase {
+    let mut base = set(job);
+    base.call_convert_horz_segs_to_joins();
+    base.call_process_horz_joins();
+    base
 }
 
 /// Whether making joins from a job's segments needs more points than there are.

@@ -2,7 +2,8 @@
 use crate::model::forest::Forest;
 use crate::model::lone::{Act, Due};
 use crate::oracle::{forest, open};
-use crate::real;
+use crate::real::{self, State};
+use crate::search;
 
 fn refused(number: u8) -> String {
     format!("refused {number}\n")
@@ -10,11 +11,14 @@ fn refused(number: u8) -> String {
 
 /// Each record's ring after the real `process_horz_joins`, and both counts.
 pub fn opened(bytes: &[u8]) -> String {
-    let opened = match open(bytes) {
-        Err(number) => return refused(number),
-        Ok(opened) => opened,
-    };
-    let state = real::look(&opened.base);
+    match open(bytes) {
+        Err(number) => refused(number),
+        Ok(opened) => rings_of(&real::look(&opened.base)),
+    }
+}
+
+/// Both counts, then a record a line: number, flags, owner, points by index and place from the first in walk order.
+pub fn rings_of(state: &State) -> String {
     let mut out = format!("points {} records {}\n", state.points, state.records.len());
     for (r, record) in state.records.iter().enumerate() {
         let flags = record.open as u8 + 2 * record.front as u8;
@@ -95,4 +99,15 @@ pub fn steps(bytes: &[u8], records: &[usize]) -> String {
         };
     }
     out + &rings(&forest)
+}
+
+/// Whether each ring, stepped alone and without limit, ends.
+pub fn alone(bytes: &[u8]) -> String {
+    let forest = match open(bytes) {
+        Err(number) => return refused(number),
+        Ok(opened) => forest(&opened),
+    };
+    let closed = |record: &usize| forest.due(*record) != Due::Done;
+    let told = |record: usize| format!("{record} {}\n", search::alone(forest.ring(record), forest.keep));
+    (0..forest.records.len()).filter(closed).map(told).collect()
 }

@@ -1,5 +1,5 @@
 // Jobs as text, so that a job can be written by hand and shown. README.md has the format.
-use crate::job::{Job, Point, Record, NONE};
+use crate::job::{Job, Point, Record, NONE, OPEN};
 use crate::read;
 
 pub fn hex(bytes: &[u8]) -> String {
@@ -35,6 +35,13 @@ fn place(word: &str) -> Result<(i32, i32), String> {
 /// Takes one line into the job being written, or into the bytes that follow it.
 fn take_line(job: &mut Option<Job>, tail: &mut Vec<u8>, line: &str) -> Result<(), String> {
     let words: Vec<&str> = line.split_whitespace().collect();
+    if words[0] == "times" && words.len() > 2 {
+        let lines = words[2..].join(" ");
+        for _ in 0..number::<u16>(words[1])? {
+            lines.split(" ; ").try_for_each(|line| take_line(job, tail, line))?;
+        }
+        return Ok(());
+    }
     if words[0] == "bytes" {
         tail.extend(unhex(&words[1..].concat())?);
         return Ok(());
@@ -55,6 +62,9 @@ fn take_line(job: &mut Option<Job>, tail: &mut Vec<u8>, line: &str) -> Result<()
         ["ring", flags, owner, ..] => {
             let at: Result<Vec<_>, _> = words[3..].iter().map(|word| place(word)).collect();
             job.add_ring(number(flags)?, maybe(owner)?, &at?);
+        }
+        ["fill", count] => {
+            job.add_ring(OPEN, NONE, &vec![(0, 0); number::<u16>(count)? as usize]);
         }
         ["segment", point] => job.segments.push(number(point)?),
         ["join", first, second] => job.joins.push((number(first)?, number(second)?)),
