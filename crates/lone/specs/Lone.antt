@@ -10,6 +10,7 @@ use lib.Signed.{ltZ}
 use Rattle.rings.specs.Circle.{spin, lastOf, back, headOr, oneOrThree, cutCircle, ahead, omap}
 use Rattle.rings.specs.Place.{isHere}
 use Rattle.rings.specs.Progress.{Due, validity, removal, triangle, split, done, Ring, tidy}
+pub use Rattle.rings.specs.Progress.{isDone}
 use Rattle.lone.specs.Ring.{Act, stay, discard, dropPoint, moveOn, toFirst, double, cut, apply, offcut, takesPoints}
 
 -- the geometry that the rules read, over points of a kind P. The real one is crate geometry's, in Plane.antt
@@ -26,13 +27,6 @@ pub record Geo (P : Type 0) : Type 0 where
   -- `is_very_small_triangle` of a ring of three: of the point before, the point and the point after
   pub isVerySmallTriangle : P → P → P → Bool
   pub samePoint : P → P → Bool
-
-abbrev pub isDone : Due → Bool
-isDone validity = false
-isDone removal = false
-isDone triangle = false
-isDone split = false
-isDone done = true
 
 abbrev pub isZero : ℕ → Bool
 isZero zero = true

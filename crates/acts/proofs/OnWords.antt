@@ -1,0 +1,114 @@
+-- The same on words: each act's writes are within the columns, so the step on words shows the step on the store.
+use Prim.Native.Nat.{ℕ, _+_, _≤_, _<_}
+use mathlib.Core.Path.{_≡_, refl, ap, _∙_, sym, subst}
+use mathlib.Core.Bool.{Bool, true, false}
+use mathlib.Core.List.{List, _∷_}
+use native.Mathlib.Omega.{arith}
+use lib.ListN.{length}
+use Rattle.rings.proofs.Counting.{occ-head, occ-lastOf}
+use Rattle.rings.proofs.Linking.{prev-is}
+use Rattle.rings.specs.Circle.{lastOf}
+use Rattle.rings.specs.Progress.{Due}
+use Rattle.rings.specs.Walk.{Whole}
+use Rattle.lone.specs.Ring.{Act, stay, discard, dropPoint, moveOn, toFirst, double, cut, takesPoints}
+use Rattle.store.proofs.Storing.{view-writes, length-writes}
+use Rattle.store.specs.Field.{pt, rc, NEXT, PREV, PRESENT, LENGTH}
+use Rattle.store.specs.Sound.{pts, recs, Closed, Sound}
+use Rattle.store.specs.Words.{Store, view, onWords, onStore, Within}
+use Rattle.acts.proofs.Acting.{Ready, to-discard, to-move, to-go-first, to-drop, to-double, to-cut}
+use Rattle.acts.proofs.Cutting.{Four, four}
+use Rattle.acts.proofs.Positions.{Loop}
+use Rattle.acts.specs.Apply.{Coding, ringWrites, offWrites, after, takesRecord, afterW}
+use Rattle.acts.specs.Writes.{moveWrites, toFirstWrites, discardWrites, dropWrites, doubleWrites, cutWrites, cutPutWrites, offcutWrites}
+
+module _ {P : Type 0} (f : Coding P) where
+  module _ (s : Store) (o : Sound s) (i : ℕ) (c : Closed s i) where
+    i-in : i < 512
+    i-in = omega (arith, c .known, o .few-records)
+
+    -- the points about the present one
+    pub record About : Type 0 where
+      pub x-in : s (rc PRESENT) i < 2048
+      pub p-in : s (pt PREV) (s (rc PRESENT) i) < 2048
+      pub n-in : s (pt NEXT) (s (rc PRESENT) i) < 2048
+
+    about : (d : Due) (b : Loop s i (s (rc PRESENT) i) d) (y : ℕ) (r : List ℕ) → b .others ≡ y ∷ r → About
+    about d b y r e =
+        let w : Whole (s (pt NEXT)) (s (pt PREV)) (pts s) (s (rc PRESENT) i ∷ y ∷ r) = subst (λ (l : List ℕ). Whole (s (pt NEXT)) (s (pt PREV)) (pts s) (s (rc PRESENT) i ∷ l)) e (b .whole) in
+        let p : s (pt PREV) (s (rc PRESENT) i) ≡ lastOf y r = prev-is (s (pt NEXT)) (s (pt PREV)) (s (rc PRESENT) i) (y ∷ r) (w .linked) in
+        let n : s (pt NEXT) (s (rc PRESENT) i) ≡ y = w .linked .0 in
+        record {
+          x-in = omega (arith, o .few-points, w .below (s (rc PRESENT) i) (occ-head (s (rc PRESENT) i) (y ∷ r)));
+          p-in = omega (arith, o .few-points, w .below (lastOf y r) (omega (arith, occ-lastOf y r)));
+          n-in = omega (arith, o .few-points, w .below y (omega (arith, occ-head y r)));
+        }
+
+    second : (y z u : ℕ) (r : List ℕ) → Four s i y z u r → s (pt NEXT) (s (pt NEXT) (s (rc PRESENT) i)) < 2048
+    second y z u r q = omega (arith, o .few-points, q .next-z, q .whole .below z (omega (arith, occ-head z (u ∷ r))))
+
+    within-drop : About → Within (dropWrites s i)
+    within-drop a = (i-in, (a .p-in, (a .n-in, (i-in, (i-in, tt)))))
+
+    within-double : About → pts s < 2048 → (vx vy : ℕ) (d : Due) → Within (doubleWrites s i vx vy d)
+    within-double a k vx vy d = (omega arith, (k, (k, (k, (k, (k, (a .p-in, (a .x-in, (i-in, tt)))))))))
+
+    within-cut : About → s (pt NEXT) (s (pt NEXT) (s (rc PRESENT) i)) < 2048 → (d : Due) → Within (cutWrites s i d)
+    within-cut a z d = (a .p-in, (z, (i-in, (i-in, (i-in, tt)))))
+
+    within-put : About → s (pt NEXT) (s (pt NEXT) (s (rc PRESENT) i)) < 2048 → pts s < 2048 → (vx vy : ℕ) (d : Due) → Within (cutPutWrites s i vx vy d)
+    within-put a z k vx vy d = (omega arith, (k, (k, (k, (k, (k, (z, (a .p-in, (i-in, (i-in, (i-in, tt)))))))))))
+
+    within-ring : About → s (pt NEXT) (s (pt NEXT) (s (rc PRESENT) i)) < 2048 → (v : P) (put : Bool) (d : Due) → pts s + takesPoints (cut v put false d) ≤ 2048 → Within (ringWrites f s i v put d)
+    within-ring a z v true d h = within-put a z (omega arith) (f .xw v) (f .yw v) d
+    within-ring a z v false d h = within-cut a z d
+
+  within-offcut : (s : Store) (i x y vx vy : ℕ) → x < 2048 → y < 2048 → pts s < 2048 → recs s < 512 → Within (offcutWrites s i x y vx vy)
+  within-offcut s i x y vx vy hx hy k r = (omega arith, (hx, (hy, (omega arith, (k, (k, (k, (k, (k, (hx, (hy, (r, (r, (r, (r, (r, (r, (r, tt))))))))))))))))))
+
+  module _ (w : List ℕ) (long : LENGTH ≤ length w) (o : Sound (view w)) (i : ℕ) (c : Closed (view w) i) where
+    -- the ring's own part, and then the offcut
+    pub cut-view : (v : P) (put off : Bool) (d : Due) (a : About (view w) o i c) → view w (pt NEXT) (view w (pt NEXT) (view w (rc PRESENT) i)) < 2048
+        → pts (view w) + takesPoints (cut v put off d) ≤ 2048 → recs (view w) + takesRecord (cut v put off d) ≤ 512
+        → view (afterW f w i (cut v put off d)) ≡ after f (view w) i (cut v put off d)
+    cut-view v put off d a z h m = go put off h m
+      where
+        ring : (put : Bool) → pts (view w) + takesPoints (cut v put false d) ≤ 2048 → view (onWords w (ringWrites f (view w) i v put d)) ≡ onStore (view w) (ringWrites f (view w) i v put d)
+        ring put h = view-writes w (ringWrites f (view w) i v put d) long (within-ring (view w) o i c a z v put d h)
+
+        off-view : (put : Bool) (w₁ : List ℕ) (s₁ : Store) → view w₁ ≡ s₁ → length w₁ ≡ length w → pts s₁ < 2048 → recs s₁ < 512
+            → view (onWords w₁ (offWrites f (view w) (view w₁) i v true)) ≡ onStore s₁ (offWrites f (view w) s₁ i v true)
+        off-view put w₁ s₁ e l k r =
+            view-writes w₁ (offWrites f (view w) (view w₁) i v true) (omega arith) (within-offcut (view w₁) i (view w (rc PRESENT) i) (view w (pt NEXT) (view w (rc PRESENT) i)) (f .xw v) (f .yw v) (a .x-in) (a .n-in) (subst (λ (s : Store). pts s < 2048) (sym e) k) (subst (λ (s : Store). recs s < 512) (sym e) r))
+            ∙ ap (λ (s : Store). onStore s (offWrites f (view w) s i v true)) e
+
+        go : (put off : Bool) → pts (view w) + takesPoints (cut v put off d) ≤ 2048 → recs (view w) + takesRecord (cut v put off d) ≤ 512 → view (afterW f w i (cut v put off d)) ≡ after f (view w) i (cut v put off d)
+        go put false h m = ring put h
+        go true true h m = off-view true (onWords w (ringWrites f (view w) i v true d)) (onStore (view w) (ringWrites f (view w) i v true d)) (ring true (omega arith)) (length-writes w (ringWrites f (view w) i v true d)) (omega arith) (omega arith)
+        go false true h m = off-view false (onWords w (ringWrites f (view w) i v false d)) (onStore (view w) (ringWrites f (view w) i v false d)) (ring false (omega arith)) (length-writes w (ringWrites f (view w) i v false d)) (omega arith) (omega arith)
+
+    pub after-view : (act : Act P) → Ready f (view w) i act → pts (view w) + takesPoints act ≤ 2048 → recs (view w) + takesRecord act ≤ 512 → view (afterW f w i act) ≡ after f (view w) i act
+    after-view act to-discard h m = view-writes w (discardWrites i) long (k, (k, tt))
+      where
+        k : i < 512
+        k = omega (arith, c .known, o .few-records)
+    after-view act (to-move d₀ d e g) h m = view-writes w (moveWrites (view w) i d) long (k, (k, tt))
+      where
+        k : i < 512
+        k = omega (arith, c .known, o .few-records)
+    after-view act (to-go-first d₀ d e g) h m = view-writes w (toFirstWrites (view w) i d) long (k, (k, (k, tt)))
+      where
+        k : i < 512
+        k = omega (arith, c .known, o .few-records)
+    after-view act (to-drop e b z u r g) h m = view-writes w (dropWrites (view w) i) long (within-drop (view w) o i c (about (view w) o i c _ b z (u ∷ r) g))
+    after-view act (to-double d₀ d b y r e v n) h m = view-writes w (doubleWrites (view w) i (f .xw v) (f .yw v) d) long (within-double (view w) o i c (about (view w) o i c d₀ b y r e) (omega arith) (f .xw v) (f .yw v) d)
+    after-view act (to-cut d₀ d b y z u r e v n put off) h m = cut-view v put off d (about (view w) o i c d₀ b y (z ∷ u ∷ r) e) (second (view w) o i c y z u r (four (view w) i d₀ b y z u r e)) h m
+
+  pub length-after : (w : List ℕ) (i : ℕ) (act : Act P) → length (afterW f w i act) ≡ length w
+  length-after w i stay = refl
+  length-after w i discard = length-writes w (discardWrites i)
+  length-after w i dropPoint = length-writes w (dropWrites (view w) i)
+  length-after w i (moveOn d) = length-writes w (moveWrites (view w) i d)
+  length-after w i (toFirst d) = length-writes w (toFirstWrites (view w) i d)
+  length-after w i (double v d) = length-writes w (doubleWrites (view w) i (f .xw v) (f .yw v) d)
+  length-after w i (cut v put off d) =
+      length-writes (onWords w (ringWrites f (view w) i v put d)) (offWrites f (view w) (view (onWords w (ringWrites f (view w) i v put d))) i v off) ∙ length-writes w (ringWrites f (view w) i v put d)

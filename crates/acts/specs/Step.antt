@@ -1,0 +1,56 @@
+-- The step on a store and on words: what the record's lone ring would do, whether there is room, and then its writes. A refused step writes nothing.
+use Prim.Native.Nat.{ℕ, _+_}
+use mathlib.Core.Bool.{Bool, true, false, cond, not, _&&_}
+use mathlib.Core.List.{List, [], _∷_}
+use lib.Dec.{leb, ltb}
+use Rattle.rings.specs.Progress.{Ring, isDone, mapRing}
+use Rattle.lone.specs.Ring.{Act, takesPoints}
+use Rattle.lone.specs.Lone.{Geo, actOf}
+use Rattle.lone.specs.Forest.{Answer, ok, full, outOfTurn}
+use Rattle.store.specs.Words.{Store, view}
+use Rattle.store.specs.Sound.{pts, recs, isOpen, loneAt}
+use Rattle.acts.specs.Apply.{Coding, takesRecord, after, afterW}
+use Rattle.acts.specs.Rep.{value}
+
+-- a closed ring that is not done
+abbrev pub live : Store → ℕ → Bool
+live s i = ltb i (recs s) && (not (isOpen s i) && not (isDone (loneAt s i .due)))
+
+module _ {P : Type 0} where
+  -- the test of places left: points 2,048, records 512
+  abbrev pub roomFor : Store → Act P → Answer
+  roomFor s act = cond (leb (pts s + takesPoints act) 2048 && leb (recs s + takesRecord act) 512) ok full
+
+module _ {P : Type 0} (G : Geo P) (f : Coding P) where
+  -- what the record's lone ring would do
+  abbrev pub actAt : Store → ℕ → Act P
+  actAt s i = actOf G (mapRing (value (f .of) s) (loneAt s i))
+
+  unfoldable pub answerS : Store → ℕ → Answer
+  answerS s i = cond (live s i) (roomFor s (actAt s i)) outOfTurn
+
+  abbrev pub stepBy : Store → ℕ → Answer → Store
+  stepBy s i ok = after f s i (actAt s i)
+  stepBy s i full = s
+  stepBy s i outOfTurn = s
+
+  unfoldable pub stepS : Store → ℕ → Store
+  stepS s i = stepBy s i (answerS s i)
+
+  abbrev pub runS : Store → List ℕ → Store
+  runS s [] = s
+  runS s (i ∷ is) = runS (stepS s i) is
+
+  -- ---- on words
+  abbrev pub stepByW : List ℕ → ℕ → Answer → List ℕ
+  stepByW w i ok = afterW f w i (actAt (view w) i)
+  stepByW w i full = w
+  stepByW w i outOfTurn = w
+
+  -- the step on words: a refused one leaves every word
+  unfoldable pub stepW : List ℕ → ℕ → List ℕ
+  stepW w i = stepByW w i (answerS (view w) i)
+
+  abbrev pub runW : List ℕ → List ℕ → List ℕ
+  runW w [] = w
+  runW w (i ∷ is) = runW (stepW w i) is
