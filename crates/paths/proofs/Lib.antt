@@ -1,0 +1,4 @@
+-- Laws of coordinates and their bytes, of walks and paths, of bytes laid over a tray.
+pub mod Coordinates
+pub mod Walks
+pub mod Rounds

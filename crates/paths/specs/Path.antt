@@ -1,0 +1,49 @@
+-- The paths of a store: of every record's ring by value, closed and open ones, records ascending. Document 01, "Path and tray"; `build_paths64`.
+use Prim.Native.Nat.{ℕ, zero, suc, _/_, _%_}
+use mathlib.Core.Bool.{Bool, true, false, cond, Bool·beq}
+use mathlib.Core.List.{List, [], _∷_, _++_, map}
+use mathlib.Core.Option.{Option, none, some}
+use lib.Dec.{eqb}
+use lib.ListN.{length}
+use Rattle.numbers.specs.Raised.{coordinate}
+use Rattle.job.specs.Limits.{COORDINATE}
+use Rattle.geometry.specs.declared.Point.{Point}
+use Rattle.lone.specs.Path.{buildPath64FromOutpt}
+use Rattle.store.specs.Field.{pt, ct, X, Y, SETTINGS}
+use Rattle.store.specs.Words.{Store}
+use Rattle.store.specs.Sound.{recs, ringAt, isOpen}
+use Rattle.paths.specs.Plane.{plane}
+
+-- the point of number k, by value
+unfoldable pub pointAt : Store → ℕ → Point
+pointAt s k = record { x = coordinate COORDINATE (s (pt X) k); y = coordinate COORDINATE (s (pt Y) k) }
+
+-- the points of record i's ring by value, from the first in walk order
+abbrev pub pointsAt : Store → ℕ → List Point
+pointsAt s i = map (pointAt s) (ringAt s i)
+
+-- the settings' bits
+abbrev pub preserveCollinear : Store → Bool
+preserveCollinear s = eqb (s (ct SETTINGS) 0 % 2) 1
+
+abbrev pub reverseSolution : Store → Bool
+reverseSolution s = eqb (s (ct SETTINGS) 0 / 2 % 2) 1
+
+-- the path, or none, of record i
+unfoldable pub pathAt : Store → ℕ → Option (List Point)
+pathAt s i = buildPath64FromOutpt (plane (preserveCollinear s)) (reverseSolution s) (isOpen s i) (pointsAt s i)
+
+abbrev pub listed : {A : Type 0} → Option A → List A
+listed none = []
+listed (some a) = a ∷ []
+
+-- the paths of the open (or the closed) records among the first n, records ascending
+abbrev pub pathsBelow : ℕ → Bool → Store → List (List Point)
+pathsBelow zero o s = []
+pathsBelow (suc n) o s = pathsBelow n o s ++ cond (Bool·beq (isOpen s n) o) (listed (pathAt s n)) []
+
+abbrev pub closedPaths : Store → List (List Point)
+closedPaths s = pathsBelow (recs s) false s
+
+abbrev pub openPaths : Store → List (List Point)
+openPaths s = pathsBelow (recs s) true s

@@ -1,0 +1,83 @@
+-- A walk round a ring in either direction: the links that it follows, what a function that walks requires, and how far a walk is.
+use Prim.Native.Nat.{ℕ, zero, suc, _+_, _≤_, _<_}
+use mathlib.Core.Path.{_≡_}
+use mathlib.Core.Logic.{_≢_}
+use mathlib.Core.Bool.{Bool, true, false, cond, not}
+use mathlib.Core.List.{List, [], _∷_, map}
+use lib.Dec.{eqb}
+use lib.ListN.{length}
+use Rattle.rings.specs.Count.{occ}
+use Rattle.rings.specs.Links.{All}
+use Rattle.rings.specs.Walk.{walk, Whole}
+use Rattle.store.specs.Field.{pt, NEXT, PREV, LENGTH}
+use Rattle.store.specs.Words.{Store, view}
+use Rattle.store.specs.Sound.{pts, PointIn}
+use Rattle.geometry.specs.declared.Point.{Point}
+use Rattle.geometry.specs.Plane.{samePoint}
+use Rattle.lone.specs.Path.{dropEquals, withoutEquals}
+use Rattle.paths.specs.Plane.{plane}
+use Rattle.paths.specs.Path.{pointAt, preserveCollinear}
+
+-- prev in a reversed path, next in a forward one
+abbrev pub linkOf : Store → Bool → ℕ → ℕ
+linkOf s true k = s (pt PREV) k
+linkOf s false k = s (pt NEXT) k
+
+-- "Forward starts after the first point, reversed at it"
+abbrev pub startFrom : Store → Bool → ℕ → ℕ
+startFrom s true f = f
+startFrom s false f = s (pt NEXT) f
+
+-- the ring that a path goes round, from point a
+abbrev pub roundFrom : Store → Bool → ℕ → List ℕ
+roundFrom s rev a = walk (linkOf s rev) a
+
+-- a point that may be read
+pub record Readable (w : List ℕ) (k : ℕ) : Type 0 where
+  pub long : LENGTH ≤ length w
+  pub low : k < 2048
+  pub here : PointIn (view w) k
+
+-- a ring that may be walked round
+pub record Round (w : List ℕ) (rev : Bool) (a : ℕ) : Type 0 where
+  pub long : LENGTH ≤ length w
+  pub few : pts (view w) ≤ 2048
+  pub whole : Whole (linkOf (view w) rev) (linkOf (view w) (not rev)) (pts (view w)) (roundFrom (view w) rev a)
+  pub points-in : (k : ℕ) → 0 < occ k (roundFrom (view w) rev a) → PointIn (view w) k
+
+-- the points from q along n up to stop are these; stop is none of them
+abbrev pub Ahead : (ℕ → ℕ) → ℕ → ℕ → List ℕ → Type 0
+Ahead n stop q [] = q ≡ stop
+Ahead n stop q (x ∷ l) = (q ≡ x) × (x ≢ stop) × Ahead n stop (n x) l
+
+-- how many they are, at most f: a walk's measure
+unfoldable pub toGo : (ℕ → ℕ) → ℕ → ℕ → ℕ → ℕ
+toGo n stop zero q = 0
+toGo n stop (suc f) q = cond (eqb q stop) 0 (suc (toGo n stop f (n q)))
+
+-- a walk that stands at q, and what holds of the points yet to visit
+pub record Going (w : List ℕ) (rev : Bool) (stop q : ℕ) (Q : List ℕ → Type 0) : Type 0 where
+  pub todo : List ℕ
+  pub ahead : Ahead (linkOf (view w) rev) stop q todo
+  pub points-in : All (PointIn (view w)) todo
+  pub short : length todo < 2048
+  pub says : Q todo
+
+-- ---- the path that goes round from a
+
+-- what is left of it after point b, of the points l yet to visit
+abbrev pub afterPoint : Store → ℕ → List ℕ → List Point
+afterPoint s b l = dropEquals (plane (preserveCollinear s)) (pointAt s b) (map (pointAt s) l)
+
+unfoldable pub pathRound : Store → Bool → ℕ → List Point
+pathRound s rev a = withoutEquals (plane (preserveCollinear s)) (map (pointAt s) (roundFrom s rev a))
+
+-- how many points q adds to a path after b
+abbrev pub more : Store → ℕ → ℕ → ℕ
+more s b q = cond (samePoint (pointAt s q) (pointAt s b)) 0 1
+
+-- n points are counted, b the last one visited
+pub record Counting (w : List ℕ) (b n total : ℕ) (l : List ℕ) : Type 0 where
+  pub before : PointIn (view w) b
+  pub sum : n + length (afterPoint (view w) b l) ≡ total
+  pub small : n + length l ≤ 2048

@@ -1,0 +1,84 @@
+// One ring's path, and the tray's fields.
+use geometry::Point;
+use job::refusal::Refusal;
+use store::Col;
+ghost use mathlib.Core.Path.{_≡_};
+ghost use Prim.Native.Nat.{ℕ, _+_, _<_, _≤_, _^_};
+ghost use lib.ListN.{length};
+ghost use Rattle.numbers.specs.Raised.{coordinate};
+ghost use Rattle.job.specs.Limits.{COORDINATE};
+ghost use Rattle.store.specs.Field.{LENGTH};
+ghost use Rattle.store.specs.Words.{view};
+ghost use Rattle.paths.specs.Path.{pointAt};
+ghost use Rattle.paths.specs.Walking.{linkOf, Readable, Round, pathRound, more};
+
+// What writing out answers: how many closed and open paths the tray holds, or a refusal.
+pub enum Written {
+    Paths { closed: usize, open: usize },
+    Refused(Refusal),
+}
+
+const RAISE: i32 = 1048576;
+
+// The coordinate that a raised word stands for.
+fn coordinate(v: usize) -> i32
+    requires { ⌜ v ≤ 2097152 ⌝ }
+    ensures { λ r. ⌜ r ≡ coordinate COORDINATE v ⌝ }
+{
+    v as i32 - RAISE
+}
+
+// The point of number k, by value.
+fn point_at(w: &[u32], k: usize) -> Point
+    requires { ⌜ Readable (now w) k ⌝ }
+    ensures { λ r. ⌜ r ≡ pointAt (view (now (w .entry))) k ⌝ }
+{
+    let x = store::get(w, Col::X, k);
+    let y = store::get(w, Col::Y, k);
+    Point {
+        x: coordinate(x),
+        y: coordinate(y),
+    }
+}
+
+// The point after k in a path: prev in a reversed one.
+fn link(w: &[u32], rev: bool, k: usize) -> usize
+    requires { ⌜ (LENGTH ≤ length (now w)) × (k < 2048) ⌝ }
+    ensures { λ r. ⌜ r ≡ linkOf (view (now (w .entry))) rev k ⌝ }
+{
+    if rev {
+        return store::get(w, Col::Prev, k);
+    }
+    store::get(w, Col::Next, k)
+}
+
+// How many points q adds to a path after b: none if the two are equal.
+fn adds(w: &[u32], b: usize, q: usize) -> usize
+    requires { ⌜ Readable (now w) b × Readable (now w) q ⌝ }
+    ensures { λ r. ⌜ r ≡ more (view (now (w .entry))) b q ⌝ }
+{
+    let p = point_at(w, q);
+    let last = point_at(w, b);
+    let same = geometry::same_point(p, last);
+    if same {
+        return 0;
+    }
+    1
+}
+
+// How many points the path has that goes round from a.
+fn round_size(w: &[u32], rev: bool, a: usize) -> usize
+    requires { ⌜ Round (now w) rev a ⌝ }
+    ensures { λ r. ⌜ r ≡ length (pathRound (view (now (w .entry))) rev a) ⌝ }
+{
+    let mut n: usize = 1;
+    let mut b = a;
+    let mut q = link(w, rev, a);
+    while q != a {
+        let d = adds(w, b, q);
+        n += d;
+        b = q;
+        q = link(w, rev, q);
+    }
+    n
+}
