@@ -2,3 +2,4 @@
 pub mod Coordinates
 pub mod Walks
 pub mod Rounds
+pub mod Directions

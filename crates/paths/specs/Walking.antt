@@ -11,7 +11,7 @@ use Rattle.rings.specs.Links.{All}
 use Rattle.rings.specs.Walk.{walk, Whole}
 use Rattle.store.specs.Field.{pt, NEXT, PREV, LENGTH}
 use Rattle.store.specs.Words.{Store, view}
-use Rattle.store.specs.Sound.{pts, PointIn}
+use Rattle.store.specs.Sound.{pts, PointIn, Sound}
 use Rattle.geometry.specs.declared.Point.{Point}
 use Rattle.geometry.specs.Plane.{samePoint}
 use Rattle.lone.specs.Path.{dropEquals, withoutEquals}
@@ -31,6 +31,11 @@ startFrom s false f = s (pt NEXT) f
 -- the ring that a path goes round, from point a
 abbrev pub roundFrom : Store → Bool → ℕ → List ℕ
 roundFrom s rev a = walk (linkOf s rev) a
+
+-- a work space that may be written out
+pub record Ready (w : List ℕ) : Type 0 where
+  pub long : LENGTH ≤ length w
+  pub sound : Sound (view w)
 
 -- a point that may be read
 pub record Readable (w : List ℕ) (k : ℕ) : Type 0 where
