@@ -1,0 +1,92 @@
+-- Reading a job: a turn for each field, over what reading carries along, the words of the work space, and two lists: the level segments' points, and the
+-- joins' points, two by two.
+use Prim.Native.Nat.{ℕ, zero, suc, _+_, _*_, _^_, _<_, _≤_}
+use mathlib.Core.Bool.{cond}
+use mathlib.Core.List.{List, [], _∷_}
+use lib.Dec.{ltb, eqb}
+use lib.ListN.{length, set, drop}
+use Rattle.job.specs.Limits.{POINTS, RECORDS, SEGMENTS, JOINS}
+use Rattle.job.specs.Field.{fieldOf}
+use Rattle.job.specs.Job.{fresh, past, Within}
+use Rattle.job.specs.declared.Job.{Job}
+use Rattle.job.specs.declared.refusal.Refusal.the-variants.{Torn, Strange}
+use Rattle.job.specs.declared.field.Field.{Field}
+use Rattle.job.specs.declared.field.Field.the-variants.{Settings, Point, Record, Segment, Join}
+use Rattle.job.specs.declared.field.Reading.{Reading}
+use Rattle.job.specs.declared.field.Reading.the-variants as reading
+use Rattle.store.specs.Field.{LENGTH, pt, rc, X, Y, NEXT, PREV, REC, FLAGS, OWNER, FIRST}
+use Rattle.store.specs.Words.{write, onWords}
+use Rattle.reading.specs.declared.fill.Outcome.{Outcome}
+use Rattle.reading.specs.declared.fill.Outcome.the-variants.{State, Refused}
+
+-- an outcome, with the words and the two lists that are left
+pub data End : Type 0 where
+  end : Outcome → List ℕ → List ℕ → List ℕ → End
+
+-- point i, a word in each of five columns
+abbrev pub putPoint : ℕ → ℕ → ℕ → ℕ → ℕ → ℕ → List ℕ → List ℕ
+putPoint i x y next prev rec w =
+    onWords w (write (pt X) i x ∷ write (pt Y) i y ∷ write (pt NEXT) i next ∷ write (pt PREV) i prev ∷ write (pt REC) i rec ∷ [])
+
+-- record i, a word in each of three
+abbrev pub putRecord : ℕ → ℕ → ℕ → ℕ → List ℕ → List ℕ
+putRecord i flags owner first w = onWords w (write (rc FLAGS) i flags ∷ write (rc OWNER) i owner ∷ write (rc FIRST) i first ∷ [])
+
+-- join i
+abbrev pub putJoin : ℕ → ℕ → ℕ → List ℕ → List ℕ
+putJoin i a b js = set (set js (2 * i) a) (2 * i + 1) b
+
+-- a field of n bytes goes to the next free place of its kind
+abbrev pub placed : Field → ℕ → Job → List ℕ → List ℕ → List ℕ → End
+placed (Settings bits) n j w ss js = end (State (past (Settings bits) n j)) w ss js
+placed (Point x y next prev rec) n j w ss js =
+    end (State (past (Point x y next prev rec) n j)) (putPoint (j .points) x y next prev rec w) ss js
+placed (Record flags owner first) n j w ss js =
+    end (State (past (Record flags owner first) n j)) (putRecord (j .records) flags owner first w) ss js
+placed (Segment p) n j w ss js = end (State (past (Segment p) n j)) w (set ss (j .segments) p) js
+placed (Join a b) n j w ss js = end (State (past (Join a b) n j)) w ss (putJoin (j .joins) a b js)
+
+abbrev pub taken : Reading → Job → List ℕ → List ℕ → List ℕ → End
+taken (reading.Read f n) j w ss js = placed f n j w ss js
+taken (reading.Refused r) j w ss js = end (Refused r) w ss js
+
+-- a turn: "each field's value is read from the part of the job where it begins"
+unfoldable pub turnOf : List ℕ → Job → List ℕ → List ℕ → List ℕ → End
+turnOf bytes j w ss js = taken (fieldOf j (drop (j .at) bytes)) j w ss js
+
+-- a turn's outcome handed on: a refusal ends
+abbrev pub follow : (Job → List ℕ → List ℕ → List ℕ → End) → End → End
+follow f (end (State j) w ss js) = f j w ss js
+follow f (end (Refused r) w ss js) = end (Refused r) w ss js
+
+-- turns up to the end of the job; the first number bounds how many, and `going` says that it is enough
+unfoldable pub run : ℕ → List ℕ → Job → List ℕ → List ℕ → List ℕ → End
+run zero bytes j w ss js = end (Refused Torn) w ss js
+run (suc k) bytes j w ss js =
+    let on : End = follow (run k bytes) (turnOf bytes j w ss js) in
+    cond (ltb (j .at) (length bytes)) on (end (State j) w ss js)
+
+-- row 2: "empty job"; else its fields, one after the other
+unfoldable pub fillOf : List ℕ → List ℕ → List ℕ → List ℕ → End
+fillOf bytes w ss js = cond (eqb (length bytes) 0) (end (Refused Strange) w ss js) (run (suc (length bytes)) bytes fresh w ss js)
+
+-- room for every field that a job may have
+pub record Space (w ss js : List ℕ) : Type 0 where
+  pub words : LENGTH ≤ length w
+  pub segments : SEGMENTS ≤ length ss
+  pub joins : 2 * JOINS ≤ length js
+
+-- a place is free for the field
+abbrev pub Room : Field → Job → Type 0
+Room (Settings bits) j = Unit {0}
+Room (Point x y next prev rec) j = j .points < POINTS
+Room (Record flags owner first) j = j .records < RECORDS
+Room (Segment p) j = j .segments < SEGMENTS
+Room (Join a b) j = j .joins < JOINS
+
+-- a field of n bytes that may be placed
+pub record Placing (f : Field) (n : ℕ) (j : Job) (w ss js : List ℕ) : Type 0 where
+  pub space : Space w ss js
+  pub within : Within j
+  pub room : Room f j
+  pub far : j .at + n < 2 ^ 64

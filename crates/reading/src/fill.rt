@@ -1,0 +1,143 @@
+// Reads the fields of a job, one after the other, into the work space and two lists.
+use job::Job;
+use job::field;
+use job::field::Field;
+use job::field::Reading;
+use job::refusal::Refusal;
+use store::Col;
+ghost use mathlib.Core.Path.{_≡_};
+ghost use Prim.Native.Nat.{_+_, _*_, _<_, _≤_};
+ghost use lib.ListN.{length, set};
+ghost use Rattle.job.specs.Limits as limit;
+ghost use Rattle.job.specs.Job.{Within};
+ghost use Rattle.store.specs.Field.{LENGTH, size};
+ghost use Rattle.store.specs.Words as words;
+ghost use Rattle.store.specs.Column.{fieldOf};
+ghost use Rattle.reading.specs.Fill.{end, putPoint, putRecord, putJoin, placed, turnOf, fillOf, Space, Placing};
+
+// The state after a field, or after all; or a refusal.
+pub enum Outcome {
+    State(Job),
+    Refused(Refusal),
+}
+
+fn put(w: &mut [u32], c: Col, i: usize, v: u32)
+    requires { ⌜ (LENGTH ≤ length (now w)) × (i < size (fieldOf c)) ⌝ }
+    ensures { λ _. ⌜ now (w .exit) ≡ words.put (fieldOf c) (now (w .entry)) i v ⌝ }
+{
+    store::set(w, c, i, v as usize);
+}
+
+fn put_point(w: &mut [u32], i: usize, x: u32, y: u32, next: u32, prev: u32, rec: u32)
+    requires { ⌜ (LENGTH ≤ length (now w)) × (i < limit.POINTS) ⌝ }
+    ensures { λ _. ⌜ now (w .exit) ≡ putPoint i x y next prev rec (now (w .entry)) ⌝ }
+{
+    put(w, Col::X, i, x);
+    put(w, Col::Y, i, y);
+    put(w, Col::Next, i, next);
+    put(w, Col::Prev, i, prev);
+    put(w, Col::Rec, i, rec);
+}
+
+fn put_record(w: &mut [u32], i: usize, flags: u32, owner: u32, first: u32)
+    requires { ⌜ (LENGTH ≤ length (now w)) × (i < limit.RECORDS) ⌝ }
+    ensures { λ _. ⌜ now (w .exit) ≡ putRecord i flags owner first (now (w .entry)) ⌝ }
+{
+    put(w, Col::Flags, i, flags);
+    put(w, Col::Owner, i, owner);
+    put(w, Col::First, i, first);
+}
+
+// Puts a number on a list.
+fn list(s: &mut [u32], i: usize, v: u32)
+    requires { ⌜ i < length (now s) ⌝ }
+    ensures { λ _. ⌜ now (s .exit) ≡ set (now (s .entry)) i v ⌝ }
+{
+    s[i] = v;
+}
+
+fn put_join(s: &mut [u32], i: usize, a: u32, b: u32)
+    requires { ⌜ (i < limit.JOINS) × (2 * limit.JOINS ≤ length (now s)) ⌝ }
+    ensures { λ _. ⌜ now (s .exit) ≡ putJoin i a b (now (s .entry)) ⌝ }
+{
+    list(s, 2 * i, a);
+    list(s, 2 * i + 1, b);
+}
+
+// Puts a field of n bytes where it belongs.
+fn place(
+    f: Field,
+    n: usize,
+    j: Job,
+    w: &mut [u32],
+    segments: &mut [u32],
+    joins: &mut [u32],
+) -> Outcome
+    requires { ⌜ Placing f n j (now w) (now segments) (now joins) ⌝ }
+    ensures { λ r. ⌜ end r (now (w .exit)) (now (segments .exit)) (now (joins .exit)) ≡ placed f n j (now (w .entry)) (now (segments .entry)) (now (joins .entry)) ⌝ }
+{
+    match f {
+        Field::Settings { bits: _ } => Outcome::State(j.past(f, n)),
+        Field::Point {
+            x,
+            y,
+            next,
+            prev,
+            record,
+        } => {
+            put_point(w, j.points, x, y, next, prev, record);
+            Outcome::State(j.past(f, n))
+        }
+        Field::Record {
+            flags,
+            owner,
+            first,
+        } => {
+            put_record(w, j.records, flags, owner, first);
+            Outcome::State(j.past(f, n))
+        }
+        Field::Segment { point } => {
+            list(segments, j.segments, point);
+            Outcome::State(j.past(f, n))
+        }
+        Field::Join { first, second } => {
+            put_join(joins, j.joins, first, second);
+            Outcome::State(j.past(f, n))
+        }
+    }
+}
+
+fn turn(bytes: &[u8], j: Job, w: &mut [u32], segments: &mut [u32], joins: &mut [u32]) -> Outcome
+    requires { ⌜ Space (now w) (now segments) (now joins) × Within j × (j .at < length (now bytes)) ⌝ }
+    ensures { λ r. ⌜ end r (now (w .exit)) (now (segments .exit)) (now (joins .exit)) ≡ turnOf (now (bytes .entry)) j (now (w .entry)) (now (segments .entry)) (now (joins .entry)) ⌝ }
+{
+    let at = j.at;
+    let r = field::read_field(numbers::from(bytes, at), j);
+    match r {
+        Reading::Read { field, length } => place(field, length, j, w, segments, joins),
+        Reading::Refused(x) => Outcome::Refused(x),
+    }
+}
+
+// The fields of a job, up to its end or the first refusal.
+pub fn fill(bytes: &[u8], w: &mut [u32], segments: &mut [u32], joins: &mut [u32]) -> Outcome
+    requires { ⌜ Space (now w) (now segments) (now joins) ⌝ }
+    ensures { λ r. ⌜ end r (now (w .exit)) (now (segments .exit)) (now (joins .exit)) ≡ fillOf (now (bytes .entry)) (now (w .entry)) (now (segments .entry)) (now (joins .entry)) ⌝ }
+{
+    if bytes.len() == 0 {
+        return Outcome::Refused(Refusal::Strange);
+    }
+    let mut j = Job::fresh();
+    while j.at < bytes.len() {
+        let t = turn(bytes, j, w, segments, joins);
+        match t {
+            Outcome::State(n) => {
+                j = n;
+            }
+            Outcome::Refused(x) => {
+                return Outcome::Refused(x);
+            }
+        }
+    }
+    Outcome::State(j)
+}

@@ -1,0 +1,2 @@
+// A job read into the work space.
+pub mod fill;
