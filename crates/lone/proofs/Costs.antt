@@ -3,7 +3,7 @@
 use mathlib.Core.Path.{_≡_, refl, sym, ap, _∙_, subst}
 use mathlib.Core.List.{List, [], _∷_, _++_, append-nil}
 use mathlib.Core.Option.{Option, none, some}
-use mathlib.Core.Bool.{Bool, true, false}
+use mathlib.Core.Bool.{Bool, true, false, true≢false}
 use Prim.Native.Nat.{ℕ, zero, suc, _+_, _<_}
 use native.Mathlib.Nat.{le-of-suc-le-suc}
 use native.Mathlib.Omega.{arith}
@@ -20,6 +20,22 @@ module _ {S : Type 0} (M : Machine S) where
     goes-on : {x : S} {n p r n₁ p₁ : ℕ} → M .over x ≡ false → M .cuts x ≡ none → Cost (M .next x) n₁ p₁ r → n ≡ suc n₁ → p ≡ M .takes x + p₁ → Cost x n p r
     cuts-on : {x y : S} {n p r n₁ p₁ r₁ n₂ p₂ r₂ : ℕ} → M .over x ≡ false → M .cuts x ≡ some y → Cost (M .next x) n₁ p₁ r₁ → Cost y n₂ p₂ r₂ → n ≡ suc (n₁ + n₂) → p ≡ M .takes x + (p₁ + p₂) → r ≡ suc (r₁ + r₂) → Cost x n p r
 
+  -- the points and records that it takes to the end are one
+  pub cost-one : {x : S} {n p r n′ p′ r′ : ℕ} → Cost x n p r → Cost x n′ p′ r′ → (p ≡ p′) × (r ≡ r′)
+  cost-one (is-done v a b c) (is-done v′ a′ b′ c′) = (b ∙ sym b′, c ∙ sym c′)
+  cost-one (is-done v a b c) (goes-on v′ h′ k′ a′ b′) = absurd (true≢false (sym v ∙ v′))
+  cost-one (is-done v a b c) (cuts-on v′ h′ k′ l′ a′ b′ c′) = absurd (true≢false (sym v ∙ v′))
+  cost-one (goes-on v h k a b) (is-done v′ a′ b′ c′) = absurd (true≢false (sym v′ ∙ v))
+  cost-one (goes-on v h k a b) (goes-on v′ h′ k′ a′ b′) = let e = cost-one k k′ in (omega (arith, e .0), e .1)
+  cost-one (goes-on v h k a b) (cuts-on v′ h′ k′ l′ a′ b′ c′) = let z : _≡_ {A = ℕ} 0 1 = cc in absurd (omega arith)
+  cost-one (cuts-on v h k l a b c) (is-done v′ a′ b′ c′) = absurd (true≢false (sym v′ ∙ v))
+  cost-one (cuts-on v h k l a b c) (goes-on v′ h′ k′ a′ b′) = let z : _≡_ {A = ℕ} 0 1 = cc in absurd (omega arith)
+  cost-one (cuts-on {y = y} v h k l a b c) (cuts-on {y = y′} {n₂ = n₂} {p₂ = p₂} {r₂ = r₂} v′ h′ k′ l′ a′ b′ c′) =
+      let w : y′ ≡ y = cc in
+      let e = cost-one k k′ in
+      let f = cost-one l (subst (λ (z : S). Cost z n₂ p₂ r₂) w l′) in
+      (omega (arith, e .0, f .0), omega (arith, e .1, f .1))
+
 module _ {S X : Type 0} (M : Machine S) where
   pub data CostE : Entry S X → ℕ → ℕ → ℕ → Type 0 where
     of-ringless : CostE ringless 0 0 0
@@ -29,6 +45,15 @@ module _ {S X : Type 0} (M : Machine S) where
   pub data Costs : List (Entry S X) → ℕ → ℕ → ℕ → Type 0 where
     nil : Costs [] 0 0 0
     cons : {e : Entry S X} {es : List (Entry S X)} {n p r n₁ p₁ r₁ n₂ p₂ r₂ : ℕ} → CostE e n₁ p₁ r₁ → Costs es n₂ p₂ r₂ → n ≡ n₁ + n₂ → p ≡ p₁ + p₂ → r ≡ r₁ + r₂ → Costs (e ∷ es) n p r
+
+  entry-one : {e : Entry S X} {n p r n′ p′ r′ : ℕ} → CostE e n p r → CostE e n′ p′ r′ → (p ≡ p′) × (r ≡ r′)
+  entry-one of-ringless of-ringless = (refl, refl)
+  entry-one of-open of-open = (refl, refl)
+  entry-one (of-closed k) (of-closed k′) = cost-one M k k′
+
+  pub costs-one : {es : List (Entry S X)} {n p r n′ p′ r′ : ℕ} → Costs es n p r → Costs es n′ p′ r′ → (p ≡ p′) × (r ≡ r′)
+  costs-one nil nil = (refl, refl)
+  costs-one (cons c cs en ep er) (cons c′ cs′ en′ ep′ er′) = let e = entry-one c c′ in let f = costs-one cs cs′ in (omega (arith, e .0, f .0), omega (arith, e .1, f .1))
 
   -- one entry taken out, and room for another
   record Focus (es : List (Entry S X)) (i n p r : ℕ) : Type 0 where

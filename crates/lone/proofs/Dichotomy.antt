@@ -17,7 +17,7 @@ use Rattle.lone.specs.Forest.{newEntry, at, OfClosed, stepState, carryOu
 use Rattle.lone.specs.Order.{AllDone, Fits, NeverEnds}
 use Rattle.lone.proofs.Stepping.{Accepted, Refused, view}
 use Rattle.lone.proofs.Alone.{at-closed}
-use Rattle.lone.proofs.Ending.{Unfinished, find, fits-of-end}
+use Rattle.lone.proofs.Ending.{Unfinished, find, fits-of-end, never-of-full}
 
 module _ {S X : Type 0} (M : Machine S) (lp lr : ℕ) where
   -- an invariant, kept by every step and had by every offcut; under it a step that takes no point cuts nothing off and makes the weight less:
@@ -117,4 +117,4 @@ module _ {S X : Type 0} (M : Machine S) (lp lr : ℕ) where
       where
         go : Found F → Fits M lp lr F ⊎ NeverEnds M lp lr F
         go (inl r) = inl (fits-of-end M lp lr F (r .0) h k (r .1))
-        go (inr r) = inr (λ s b. fits-of-end M lp lr F s h k b .never-full (r .0) (r .1) (r .2))
+        go (inr r) = inr (never-of-full M lp lr F (r .0) (r .1) h k (r .2))

@@ -17,7 +17,7 @@ use Rattle.lone.specs.Forest.{opening, newEntry, at, stepState, carryOut
 use Rattle.lone.specs.Order.{NoneOrDone, AllDone, Fits, NeverEnds}
 use Rattle.lone.proofs.Stepping.{Accepted, Refused, view}
 use Rattle.lone.proofs.Alone.{at-closed}
-use Rattle.lone.proofs.Costs.{Costs, AfterStep, cost-after, cost-before, done-costs}
+use Rattle.lone.proofs.Costs.{Costs, AfterStep, cost-after, cost-before, done-costs, costs-one}
 
 module _ {S X : Type 0} where
   pub record Unfinished (M : Machine S) (es : List (Entry S X)) : Type 0 where
@@ -180,3 +180,16 @@ module _ {S X : Type 0} (M : Machine S) where
       never-full = λ s′ i. let r = run-room s′ F (g .0) (g .1) in room-not-full (runForest M lp lr F s′) (r .0) i (r .1);
       goes-on = λ s′. let r = run-room s′ F (g .0) (g .1) in let u = finish (r .0) (runForest M lp lr F s′) (r .1) in (u .0, rw (run-append s′ (u .0) F) (u .1));
     }
+
+    -- a step refused as full, after any list, and no list ends the forest
+    pub never-of-full : (F : Forest S X) (s : List ℕ) (i : ℕ) → F .points ≤ lp → length (F .entries) ≤ lr → answer M lp lr (runForest M lp lr F s) i ≡ full → NeverEnds M lp lr F
+    never-of-full F s i h k e t a = fits-of-end F t h k a .never-full s i e
+
+    -- two lists that end the forest take as many points and records
+    pub same-counts : (F : Forest S X) (s t : List ℕ) → AllDone M (runForest M lp lr F s .entries) → AllDone M (runForest M lp lr F t .entries)
+        → (runForest M lp lr F s .points ≡ runForest M lp lr F t .points) × (length (runForest M lp lr F s .entries) ≡ length (runForest M lp lr F t .entries))
+    same-counts F s t h k =
+        let b : CostTo F (runForest M lp lr F s) = cost-to-end s F h in
+        let c : CostTo F (runForest M lp lr F t) = cost-to-end t F k in
+        let e = costs-one M (b .costs) (c .costs) in
+        (omega (arith, b .sum-p, c .sum-p, e .0), omega (arith, b .sum-r, c .sum-r, e .1))

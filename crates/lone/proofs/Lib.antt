@@ -13,3 +13,4 @@ pub mod Measuring
 pub mod Plane
 pub mod Bench
 pub mod Trees
+pub mod Paths
