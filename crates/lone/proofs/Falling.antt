@@ -100,7 +100,7 @@ module _ {P : Type 0} where
     lowers : (c : List P) (f : ℕ) (s : Option ℕ) (d : Due) → HasStart d s → isDone d ≡ false → Lowers (ring c f s d) (decide G c f s d)
     unfolding Lowers ring
     lowers c f s validity g h = validity-cases G (Lowers (ring c f s validity)) c f s (λ e. (refl, rw (length-spin f c) (omega arith))) (discard-low c f s validity h)
-    lowers c f s removal g h = removal-cases G (Lowers (ring c f s removal)) c f s (discard-low c f s removal h) (removal-drop c f s) (removal-on c f s g)
+    lowers c f s removal g h = removal-cases G (Lowers (ring c f s removal)) c f s (discard-low c f s removal h) (λ x xs e v. removal-drop c f s x xs e) (removal-on c f s g)
     lowers c f s triangle g h = triangle-cases G (Lowers (ring c f s triangle)) c f s (λ b i. go b)
       where
         go : (b : Bool) → Lowers (ring c f s triangle) (toFirst (cond b done split))

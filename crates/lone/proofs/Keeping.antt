@@ -19,8 +19,8 @@ use Rattle.rings.specs.Progress.{Due, validity, removal, triangle, split, done,
 use Rattle.rings.proofs.Circles.{length-turn, length-spin, length-initOf}
 use Rattle.rings.proofs.Counting.{one-here}
 use Rattle.lone.specs.Ring.{Act, stay, discard, dropPoint, moveOn, toFirst, double, cut, apply, offcut}
-use Rattle.lone.specs.Lone.{Geo, isDone, isZero, decide, actOf, stepRing, offcutRing}
-use Rattle.lone.specs.Kept.{AtMost, OnCircle, OnRing, HasStart, SplitSize, GeoLaws}
+use Rattle.lone.specs.Lone.{Geo, isDone, isZero, isValidClosedPath, decide, actOf, stepRing, offcutRing}
+use Rattle.lone.specs.Kept.{AtMost, OnCircle, OnRing, HasStart, SplitSize, LongEnough, GeoLaws}
 use Rattle.lone.proofs.Turning.{Crosses, validity-cases, removal-cases, triangle-cases, split-cases}
 
 -- ---- on the circle
@@ -145,7 +145,7 @@ module _ {P : Type 0} (G : Geo P) where
     starts : (d : Due) → HasStart d (R .start) → HasStart (R .due) (R .start) → Starts (decide G (R .circle) (R .first) (R .start) d)
     unfolding Starts decide
     starts validity h h′ = validity-cases G Starts (R .circle) (R .first) (R .start) tt tt
-    starts removal h h′ = removal-cases G Starts (R .circle) (R .first) (R .start) tt (λ x xs e. tt) (λ x xs e b i. go (R .start) h b)
+    starts removal h h′ = removal-cases G Starts (R .circle) (R .first) (R .start) tt (λ x xs e v. tt) (λ x xs e b i. go (R .start) h b)
       where
         go : (s : Option ℕ) → HasStart removal s → (b : Bool) → HasStart (cond b triangle removal) (omap (ahead (length (R .circle))) s)
         go none h b = absurd h
@@ -198,7 +198,7 @@ module _ {P : Type 0} (G : Geo P) (laws : GeoLaws G) where
     sizes : (d : Due) → SplitSize d (length (R .circle)) → SplitSize (R .due) (length (R .circle)) → Sizes (decide G (R .circle) (R .first) (R .start) d)
     unfolding Sizes decide
     sizes validity h h′ = validity-cases G Sizes (R .circle) (R .first) (R .start) tt tt
-    sizes removal h h′ = removal-cases G Sizes (R .circle) (R .first) (R .start) tt (λ x xs e. tt) (λ x xs e b i. go b)
+    sizes removal h h′ = removal-cases G Sizes (R .circle) (R .first) (R .start) tt (λ x xs e v. tt) (λ x xs e b i. go b)
       where
         go : (b : Bool) → SplitSize (cond b triangle removal) (length (turn (R .circle)))
         go true = tt
@@ -214,6 +214,21 @@ module _ {P : Type 0} (G : Geo P) (laws : GeoLaws G) where
   pub size-kept : (R : Ring P) → SplitSize (R .due) (length (R .circle)) → SplitSize (stepRing G R .due) (length (stepRing G R .circle))
   unfolding stepRing actOf Sizes
   size-kept R h = let T : Ring P = apply (λ (v : P). v) (decide G (R .circle) (R .first) (R .start) (R .due)) R in size-tidy (T .circle) (T .first) (T .start) (T .due) (sizes R (R .due) h h)
+
+  valid-size : (c : List P) → isValidClosedPath G c ≡ true → 3 ≤ length c
+  valid-size [] h = absurd (true≢false (sym h))
+  valid-size (a ∷ []) h = absurd (true≢false (sym h))
+  valid-size (a ∷ b ∷ []) h = absurd (true≢false (sym h))
+  valid-size (a ∷ b ∷ c ∷ r) h = omega arith
+
+  -- the act decided finds the points that it needs, in any state
+  pub long-enough : (c : List P) (f : ℕ) (s : Option ℕ) (d : Due) → LongEnough (decide G c f s d) (length c)
+  unfolding decide
+  long-enough c f s validity = validity-cases G (λ (act : Act P). LongEnough act (length c)) c f s tt tt
+  long-enough c f s removal = removal-cases G (λ (act : Act P). LongEnough act (length c)) c f s tt (λ x xs e v. omega (arith, ap length e, valid-size xs v)) (λ x xs e b i. omega (arith, ap length e))
+  long-enough c f s triangle = triangle-cases G (λ (act : Act P). LongEnough act (length c)) c f s (λ b e. tt)
+  long-enough c f s split = split-cases G (λ (act : Act P). LongEnough act (length c)) c f s tt (λ x xs e b i. omega (arith, ap length e)) (λ x xs e k v b i. omega (arith, ap length e, crossing-size x xs k)) (λ x xs e k v put off b i. omega (arith, ap length e, crossing-size x xs k))
+  long-enough c f s done = tt
 
 -- ---- places and elements
 

@@ -30,16 +30,16 @@ module _ {P : Type 0} (G : Geo P) (Q : Act P → Type 0) where
 
   -- the end of a removal turn that moves on: is the next place the start
   pub removal-cases : (c : List P) (f : ℕ) (s : Option ℕ) → Q discard
-      → ((x : P) (xs : List P) → c ≡ x ∷ xs → Q dropPoint) → ((x : P) (xs : List P) → c ≡ x ∷ xs → (b : Bool) → isHere (omap (ahead (suc (length xs))) s) ≡ b → Q (moveOn (cond b triangle removal)))
+      → ((x : P) (xs : List P) → c ≡ x ∷ xs → isValidClosedPath G xs ≡ true → Q dropPoint) → ((x : P) (xs : List P) → c ≡ x ∷ xs → (b : Bool) → isHere (omap (ahead (suc (length xs))) s) ≡ b → Q (moveOn (cond b triangle removal)))
       → Q (decide G c f s removal)
   unfolding decide removalTurn
   removal-cases [] f s d p m = d
-  removal-cases (x ∷ xs) f s d p m = go (G .removable (lastOf x xs) x (headOr x xs)) (isValidClosedPath G xs)
+  removal-cases (x ∷ xs) f s d p m = go (G .removable (lastOf x xs) x (headOr x xs)) _ refl
     where
-      go : (b₁ b₂ : Bool) → Q (cond b₁ (cond b₂ dropPoint discard) (moveOn (cond (isHere (omap (ahead (suc (length xs))) s)) triangle removal)))
-      go true true = p x xs refl
-      go true false = d
-      go false b₂ = m x xs refl _ refl
+      go : (b₁ b₂ : Bool) → isValidClosedPath G xs ≡ b₂ → Q (cond b₁ (cond b₂ dropPoint discard) (moveOn (cond (isHere (omap (ahead (suc (length xs))) s)) triangle removal)))
+      go true true v = p x xs refl v
+      go true false v = d
+      go false b₂ v = m x xs refl _ refl
 
   pub split-cases : (c : List P) (f : ℕ) (s : Option ℕ) → Q discard
       → ((x : P) (xs : List P) → c ≡ x ∷ xs → (b : Bool) → (isZero (ahead (suc (length xs)) f) || isHere (omap (ahead (suc (length xs))) s)) ≡ b → Q (moveOn (cond b done split)))

@@ -6,6 +6,7 @@ use mathlib.Core.Bool.{false}
 use Prim.Native.Nat.{ℕ, zero, suc, _≤_}
 use lib.ListN.{length}
 use Rattle.rings.specs.Progress.{Due, validity, removal, triangle, split, done, Ring}
+use Rattle.lone.specs.Ring.{Act, stay, discard, dropPoint, moveOn, toFirst, double, cut}
 use Rattle.lone.specs.Lone.{Geo}
 
 abbrev pub AtMost : ℕ → Option ℕ → Type 0
@@ -36,6 +37,16 @@ SplitSize removal n = Unit {0}
 SplitSize triangle n = Unit {0}
 SplitSize split n = (n ≡ 2) ⊎ (4 ≤ n)
 SplitSize done n = Unit {0}
+
+-- the points that a circle has where a step decides on an act
+abbrev pub LongEnough : {W : Type 0} → Act W → ℕ → Type 0
+LongEnough stay n = Unit {0}
+LongEnough discard n = Unit {0}
+LongEnough dropPoint n = 4 ≤ n
+LongEnough (moveOn d) n = 1 ≤ n
+LongEnough (toFirst d) n = Unit {0}
+LongEnough (double v d) n = 4 ≤ n
+LongEnough (cut v put off d) n = 4 ≤ n
 
 -- the crossing test is false where the second edge ends at the first one's start, and where it is the first edge again: so rings of one, two
 -- and three points cross nothing
