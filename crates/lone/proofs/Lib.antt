@@ -11,6 +11,7 @@ pub mod Keeping
 pub mod Falling
 pub mod Measuring
 pub mod Plane
+pub mod Writing
 pub mod Bench
 pub mod Trees
 pub mod Paths

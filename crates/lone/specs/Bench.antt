@@ -1,15 +1,14 @@
 -- Document 01's bench rings as rows of one table: a setting, one closed ring, and the paths that it and its offcuts end in.
-use mathlib.Core.Bool.{Bool, true, false, _&&_}
+use mathlib.Core.Bool.{Bool, true, false}
 use mathlib.Core.List.{List, [], _∷_, _++_}
-use mathlib.Core.Option.{Option, none, some}
 use Prim.Native.Nat.{ℕ}
 use lib.IntN.{ℤ, pos}
 use lib.ListN.{length, replicate}
 use Rattle.geometry.specs.declared.Point.{Point}
 use Rattle.rings.specs.Progress.{Ring, atStart}
-use Rattle.lone.specs.Path.{outline}
-use Rattle.lone.specs.Forest.{Machine, Entry, ringless, openRing, closedRing, Opened, leftClosed, opening, runForest}
+use Rattle.lone.specs.Forest.{Entry, leftClosed, opening, runForest}
 use Rattle.lone.specs.Plane.{plane, loneRing}
+use Rattle.lone.specs.Writing.{isAllDone, closedPaths}
 
 abbrev pub pt : ℕ → ℕ → Point
 pt a b = record { x = pos a; y = pos b }
@@ -30,21 +29,12 @@ pub record Outcome : Type 0 where
   pub finished : Bool
   pub paths : List (List Point)
 
-abbrev addPath : Option (List Point) → List (List Point) → List (List Point)
-addPath none r = r
-addPath (some p) r = p ∷ r
-
-unfoldable pub outcome : Bool → Bool → List (Entry (Ring Point) ℕ) → Outcome
-outcome preserve reversed [] = record { finished = true; paths = [] }
-outcome preserve reversed (ringless ∷ es) = outcome preserve reversed es
-outcome preserve reversed (openRing x ∷ es) = outcome preserve reversed es
-outcome preserve reversed (closedRing q L ∷ es) =
-    let r : Outcome = outcome preserve reversed es in
-    record { finished = loneRing preserve .over (L .now) && r .finished; paths = addPath (outline (plane preserve) reversed (L .now)) (r .paths) }
-
 -- 24 steps on record 0, then 12 on record 1; those on a done ring, or on none, are refused and change nothing
+unfoldable pub after : Row → List (Entry (Ring Point) (List Point))
+after r = runForest (loneRing (r .preserve)) 2048 512 (opening (leftClosed (atStart (r .ring)) ∷ []) (length (r .ring))) (replicate 24 0 ++ replicate 12 1) .entries
+
 unfoldable pub result : Row → Outcome
-result r = outcome (r .preserve) (r .reversed) (runForest (loneRing (r .preserve)) 2048 512 (opening (leftClosed (atStart (r .ring)) ∷ []) (length (r .ring))) (replicate 24 0 ++ replicate 12 1) .entries)
+result r = record { finished = isAllDone (loneRing (r .preserve)) (after r); paths = closedPaths (plane (r .preserve)) (r .reversed) (after r) }
 
 abbrev pub expected : Row → Outcome
 expected r = record { finished = true; paths = r .paths }

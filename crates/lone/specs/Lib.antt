@@ -9,4 +9,5 @@ pub mod Tree
 pub mod Kept
 pub mod Measure
 pub mod Plane
+pub mod Writing
 pub mod Bench
