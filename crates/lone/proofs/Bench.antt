@@ -8,13 +8,12 @@ use Rattle.lone.specs.Lone.{removalTurn, doSplitOp, splitTurn, decide, a
 use Rattle.lone.specs.Path.{buildPath64FromOutpt, outline}
 use Rattle.lone.specs.Forest.{answer, stepForest}
 use Rattle.lone.specs.Order.{machine}
-use Rattle.lone.specs.Plane.{plane}
 use Rattle.lone.specs.Bench.{result, expected, after, bench, edges}
 
 pub bench-holds : map result bench ≡ map expected bench
-unfolding result after bench samePoint isCollinear dotProductThreePoints areaTriangle areaOutpt ptsReallyClose isVerySmallTriangle removable strictlyWithin segmentsIntersect fractionOf crossing coordinateAt getSegmentIntersectPt removalTurn doSplitOp splitTurn decide actOf stepRing offcutRing takesRing buildPath64FromOutpt outline answer stepForest machine plane toSigned add ofInt mul
+unfolding result after bench samePoint isCollinear dotProductThreePoints areaTriangle areaOutpt ptsReallyClose isVerySmallTriangle removable strictlyWithin segmentsIntersect fractionOf crossing coordinateAt getSegmentIntersectPt removalTurn doSplitOp splitTurn decide actOf stepRing offcutRing takesRing buildPath64FromOutpt outline answer stepForest machine toSigned add ofInt mul
 bench-holds = refl
 
 pub edges-hold : map result edges ≡ map expected edges
-unfolding result after edges samePoint isCollinear dotProductThreePoints areaTriangle areaOutpt ptsReallyClose isVerySmallTriangle removable strictlyWithin segmentsIntersect fractionOf crossing coordinateAt getSegmentIntersectPt removalTurn doSplitOp splitTurn decide actOf stepRing offcutRing takesRing buildPath64FromOutpt outline answer stepForest machine plane toSigned add ofInt mul
+unfolding result after edges samePoint isCollinear dotProductThreePoints areaTriangle areaOutpt ptsReallyClose isVerySmallTriangle removable strictlyWithin segmentsIntersect fractionOf crossing coordinateAt getSegmentIntersectPt removalTurn doSplitOp splitTurn decide actOf stepRing offcutRing takesRing buildPath64FromOutpt outline answer stepForest machine toSigned add ofInt mul
 edges-hold = refl

@@ -32,5 +32,4 @@ unfolding segmentsIntersect
 meets-itself a b = rw (eq-eqZ (divisor a b a b) (pos 0) (+ℤ-invr ((b .y -ℤ a .y) *ℤ (b .x -ℤ a .x))))
 
 pub plane-laws : (preserve : Bool) → GeoLaws (plane preserve)
-unfolding plane
 plane-laws preserve = record { back-to-start = meets-start; same-edge = meets-itself }

@@ -8,7 +8,7 @@ use Rattle.lone.specs.Lone.{Geo}
 use Rattle.lone.specs.Forest.{Machine}
 use Rattle.lone.specs.Order.{machine}
 
-unfoldable pub plane : Bool → Geo Point
+abbrev pub plane : Bool → Geo Point
 plane preserve = record {
   removable = removable preserve;
   segmentsIntersect = segmentsIntersect;
