@@ -3,3 +3,5 @@ pub mod Coordinates
 pub mod Walks
 pub mod Rounds
 pub mod Directions
+pub mod Laying
+pub mod Writing

@@ -1,15 +1,18 @@
 -- A walk round a ring in either direction: the links that it follows, what a function that walks requires, and how far a walk is.
-use Prim.Native.Nat.{ℕ, zero, suc, _+_, _≤_, _<_}
+use Prim.Native.Nat.{ℕ, zero, suc, _+_, _*_, _≤_, _<_}
 use mathlib.Core.Path.{_≡_}
 use mathlib.Core.Logic.{_≢_}
 use mathlib.Core.Bool.{Bool, true, false, cond, not}
-use mathlib.Core.List.{List, [], _∷_, map}
+use mathlib.Core.List.{List, [], _∷_, _++_, map}
 use lib.Dec.{eqb}
 use lib.ListN.{length}
+use Rattle.numbers.specs.Bytes.{putLe}
+use Rattle.numbers.specs.Raised.{lowered}
+use Rattle.job.specs.Limits.{COORDINATE}
 use Rattle.rings.specs.Count.{occ}
 use Rattle.rings.specs.Links.{All}
 use Rattle.rings.specs.Walk.{walk, Whole}
-use Rattle.store.specs.Field.{pt, NEXT, PREV, LENGTH}
+use Rattle.store.specs.Field.{pt, X, Y, NEXT, PREV, LENGTH}
 use Rattle.store.specs.Words.{Store, view}
 use Rattle.store.specs.Sound.{pts, PointIn, Sound}
 use Rattle.geometry.specs.declared.Point.{Point}
@@ -17,6 +20,7 @@ use Rattle.geometry.specs.Plane.{samePoint}
 use Rattle.lone.specs.Path.{dropEquals, withoutEquals}
 use Rattle.paths.specs.Plane.{plane}
 use Rattle.paths.specs.Path.{pointAt, preserveCollinear}
+use Rattle.paths.specs.Tray.{pathBytes, over}
 
 -- prev in a reversed path, next in a forward one
 abbrev pub linkOf : Store → Bool → ℕ → ℕ
@@ -86,3 +90,35 @@ pub record Counting (w : List ℕ) (b n total : ℕ) (l : List ℕ) : Type 0 whe
   pub before : PointIn (view w) b
   pub sum : n + length (afterPoint (view w) b l) ≡ total
   pub small : n + length l ≤ 2048
+
+-- ---- its bytes, laid over the beginning of a tray
+
+-- the bytes of point q, from `at` on
+abbrev pub putPoint : Store → ℕ → ℕ → List ℕ → List ℕ
+putPoint s q at t = putLe 4 (at + 4) (lowered COORDINATE (s (pt Y) q)) (putLe 4 at (lowered COORDINATE (s (pt X) q)) t)
+
+-- how far a writer is, and the tray
+pub record Laid : Type 0 where
+  pub at : ℕ
+  pub tray : List ℕ
+
+abbrev pub laid : ℕ → List ℕ → Laid
+laid at t = record { at = at; tray = t }
+
+-- point q after b: nothing if the two are equal
+unfoldable pub putMore : Store → ℕ → ℕ → ℕ → List ℕ → Laid
+putMore s b q at t = cond (samePoint (pointAt s q) (pointAt s b)) (laid at t) (laid (at + 8) (putPoint s q at t))
+
+-- `done` is written, b the last point visited
+pub record Laying (w : List ℕ) (b at : ℕ) (t₀ t : List ℕ) (total : List Point) (l : List ℕ) : Type 0 where
+  pub before : PointIn (view w) b
+  pub done : List Point
+  pub bytes : t ≡ over (pathBytes done) t₀
+  pub here : at ≡ 8 * length done
+  pub all : done ++ afterPoint (view w) b l ≡ total
+  pub room : 8 * length total ≤ length t₀
+
+-- a writer's room for the path
+pub record Room (w : List ℕ) (rev : Bool) (a : ℕ) (t : List ℕ) : Type 0 where
+  pub round : Round w rev a
+  pub room : 8 * length (pathRound (view w) rev a) ≤ length t

@@ -1,16 +1,18 @@
 // One ring's path, and the tray's fields.
 use geometry::Point;
+use job::Job;
 use job::refusal::Refusal;
 use store::Col;
 ghost use mathlib.Core.Path.{_≡_};
-ghost use Prim.Native.Nat.{ℕ, _+_, _<_, _≤_, _^_};
+ghost use Prim.Native.Nat.{ℕ, _+_, _*_, _<_, _≤_, _^_};
 ghost use lib.ListN.{length};
 ghost use Rattle.numbers.specs.Raised.{coordinate};
 ghost use Rattle.job.specs.Limits.{COORDINATE};
 ghost use Rattle.store.specs.Field.{LENGTH};
 ghost use Rattle.store.specs.Words.{view};
 ghost use Rattle.paths.specs.Path.{pointAt};
-ghost use Rattle.paths.specs.Walking.{linkOf, Readable, Round, pathRound, more};
+ghost use Rattle.paths.specs.Tray.{pathBytes, over};
+ghost use Rattle.paths.specs.Walking.{linkOf, Readable, Round, Room, pathRound, more, putPoint, laid, putMore};
 
 // What writing out answers: how many closed and open paths the tray holds, or a refusal.
 pub enum Written {
@@ -81,4 +83,44 @@ fn round_size(w: &[u32], rev: bool, a: usize) -> usize
         q = link(w, rev, q);
     }
     n
+}
+
+// The bytes of point q, from `at` on: the only place where a point's bytes are written.
+fn put_point(w: &[u32], q: usize, t: &mut [u8], at: usize)
+    requires { ⌜ Readable (now w) q × (at + 8 ≤ length (now t)) ⌝ }
+    ensures { λ _. ⌜ now (t .exit) ≡ putPoint (view (now (w .entry))) q at (now (t .entry)) ⌝ }
+{
+    let x = store::get(w, Col::X, q);
+    let y = store::get(w, Col::Y, q);
+    numbers::write_lowered(t, at, x as u32, Job::COORDINATE);
+    numbers::write_lowered(t, at + 4, y as u32, Job::COORDINATE);
+}
+
+// The same, unless q and b are equal; answers how far the tray is filled.
+fn put_more(w: &[u32], b: usize, q: usize, t: &mut [u8], at: usize) -> usize
+    requires { ⌜ Readable (now w) b × Readable (now w) q × (at + 8 * more (view (now w)) b q ≤ length (now t)) ⌝ }
+    ensures { λ r. ⌜ laid r (now (t .exit)) ≡ putMore (view (now (w .entry))) b q at (now (t .entry)) ⌝ }
+{
+    let d = adds(w, b, q);
+    if d == 0 {
+        return at;
+    }
+    put_point(w, q, t, at);
+    at + 8
+}
+
+// The path that goes round from a, laid over the beginning of t.
+fn write_round(w: &[u32], rev: bool, a: usize, t: &mut [u8])
+    requires { ⌜ Room (now w) rev a (now t) ⌝ }
+    ensures { λ _. ⌜ now (t .exit) ≡ over (pathBytes (pathRound (view (now (w .entry))) rev a)) (now (t .entry)) ⌝ }
+{
+    put_point(w, a, t, 0);
+    let mut at: usize = 8;
+    let mut b = a;
+    let mut q = link(w, rev, a);
+    while q != a {
+        at = put_more(w, b, q, t, at);
+        b = q;
+        q = link(w, rev, q);
+    }
 }
