@@ -2,3 +2,5 @@
 pub mod Storing
 pub mod Soundness
 pub mod Keeping
+pub mod Taking
+pub mod Coordinates

@@ -4,3 +4,5 @@ pub mod Column
 pub mod Words
 pub mod Sound
 pub mod Named
+pub mod Value
+pub mod Primitive

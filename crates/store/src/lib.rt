@@ -123,3 +123,5 @@ pub fn set(w: &mut [u32], c: Col, i: usize, v: usize)
     let k = word_of(c, i);
     w[k] = v as u32;
 }
+
+pub mod points;

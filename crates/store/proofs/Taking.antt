@@ -1,0 +1,83 @@
+-- What the primitives' code leaves: each law's premises are what the callees ensure, and the branches.
+use Prim.Native.Nat.{ℕ, suc, _+_, _*_, _≤_, _<_, _^_}
+use mathlib.Core.Path.{_≡_, refl, ap, _∙_, sym}
+use mathlib.Core.Bool.{Bool, true, false}
+use mathlib.Core.List.{List, [], _∷_, _++_}
+use native.Mathlib.Omega.{arith}
+use native.Mathlib.Numerals.{add-one}
+use lib.Dec.{ltb}
+use borrow.Author.Tests.{lt-ltb, le-ltb}
+use mir.Syntax.{w32}
+use mir.Val.{toZ, ofZ}
+use mir.Facts.{toZ-ofZ}
+use Rattle.job.specs.Limits as limit
+use Rattle.geometry.specs.declared.Point.{Point}
+use Rattle.geometry.specs.Plane.{InTable}
+use Rattle.store.specs.declared.points.Room.the-variants.{At, Full}
+use Rattle.store.specs.Field.{pt, ct, X, Y, REC, NEXT, PREV, POINTS, RECORDS}
+use Rattle.store.specs.Words.{view, cell, put, onWords}
+use Rattle.store.specs.Named.{pointsOf, recordsOf, nextOf, prevOf}
+use Rattle.store.specs.Value.{wordOf}
+use Rattle.store.proofs.Coordinates.{fits}
+use Rattle.store.specs.Primitive.{taken, disposed, pointWrites, ownWrites, linkWrites, unlinkWrites, startWrites, afterWrites, beforeWrites, newOutPt, duplicateOp, newOutRec, disposeOutPt}
+
+pub took-point : (w w₁ w₂ w₃ w₄ : List ℕ) (k vx vy r : ℕ) → w₁ ≡ put (ct POINTS) w 0 (k + 1) → w₂ ≡ put (pt X) w₁ k vx → w₃ ≡ put (pt Y) w₂ k vy → w₄ ≡ put (pt REC) w₃ k r
+    → w₄ ≡ onWords w (pointWrites k vx vy r)
+took-point w w₁ w₂ w₃ w₄ k vx vy r e₁ e₂ e₃ e₄ = rw (e₄, e₃, e₂, e₁, add-one k)
+
+-- a coordinate comes through its bits
+pub took-value : (w w₁ : List ℕ) (k : ℕ) (p : Point) (r vx vy : ℕ) → InTable p → vx ≡ wordOf (toZ w32 (ofZ w32 (p .x))) → vy ≡ wordOf (toZ w32 (ofZ w32 (p .y)))
+    → w₁ ≡ onWords w (pointWrites k vx vy r) → w₁ ≡ onWords w (pointWrites k (wordOf (p .x)) (wordOf (p .y)) r)
+took-value w w₁ k p r vx vy h ex ey e =
+    let dx : vx ≡ wordOf (p .x) = ex ∙ ap wordOf (toZ-ofZ (fits (p .x) (h .x))) in
+    let dy : vy ≡ wordOf (p .y) = ey ∙ ap wordOf (toZ-ofZ (fits (p .y) (h .y))) in
+    rw (← dx, ← dy) e
+
+module _ (w w₁ w₂ : List ℕ) (k op vx vy r : ℕ) (ek : k ≡ pointsOf w) (ex : vx ≡ cell (pt X) w op) (ey : vy ≡ cell (pt Y) w op) (er : r ≡ cell (pt REC) w op) (e₁ : w₁ ≡ onWords w (pointWrites k vx vy r)) where
+  pub copied-after : (n : ℕ) → n ≡ nextOf w op → w₂ ≡ onWords w₁ (linkWrites op k n) → w₂ ≡ onWords w (afterWrites (view w) op)
+  copied-after n en e₂ = rw (e₂, e₁, ex, ey, er, en, ek)
+
+  pub copied-before : (p : ℕ) → p ≡ prevOf w op → w₂ ≡ onWords w₁ (linkWrites p k op) → w₂ ≡ onWords w (beforeWrites (view w) op)
+  copied-before p ep e₂ = rw (e₂, e₁, ex, ey, er, ep, ek)
+
+module _ (w : List ℕ) (k : ℕ) (ek : k ≡ pointsOf w) where
+  module _ (l : k < limit.POINTS) where
+    room : ltb (pointsOf w) limit.POINTS ≡ true
+    room = lt-ltb (pointsOf w) limit.POINTS (omega arith)
+
+    pub made-point : (w₁ w₂ : List ℕ) (p : Point) (r : ℕ) → w₁ ≡ onWords w (pointWrites k (wordOf (p .x)) (wordOf (p .y)) r) → w₂ ≡ onWords w₁ (ownWrites k) → taken (At k) w₂ ≡ newOutPt w p r
+    unfolding newOutPt
+    made-point w₁ w₂ p r e₁ e₂ = rw (room, e₂, e₁, ek)
+
+    pub doubled-after : (w₁ : List ℕ) (op : ℕ) (b : Bool) → b ≡ true → w₁ ≡ onWords w (afterWrites (view w) op) → taken (At k) w₁ ≡ duplicateOp w op b
+    unfolding duplicateOp
+    doubled-after w₁ op b h e = rw (room, h, e, ek)
+
+    pub doubled-before : (w₁ : List ℕ) (op : ℕ) (b : Bool) → b ≡ false → w₁ ≡ onWords w (beforeWrites (view w) op) → taken (At k) w₁ ≡ duplicateOp w op b
+    unfolding duplicateOp
+    doubled-before w₁ op b h e = rw (room, h, e, ek)
+
+  module _ (l : limit.POINTS ≤ k) where
+    none-left : ltb (pointsOf w) limit.POINTS ≡ false
+    none-left = le-ltb (pointsOf w) limit.POINTS (omega arith)
+
+    pub no-point : (p : Point) (r : ℕ) → taken Full w ≡ newOutPt w p r
+    unfolding newOutPt
+    no-point p r = rw none-left
+
+    pub no-double : (op : ℕ) (b : Bool) → taken Full w ≡ duplicateOp w op b
+    unfolding duplicateOp
+    no-double op b = rw none-left
+
+module _ (w : List ℕ) (k o b i : ℕ) (ek : k ≡ recordsOf w) where
+  pub made-record : (w₁ w₂ : List ℕ) → k < limit.RECORDS → w₁ ≡ put (ct RECORDS) w 0 (k + 1) → w₂ ≡ onWords w₁ (startWrites k o b i) → taken (At k) w₂ ≡ newOutRec w o b i
+  unfolding newOutRec
+  made-record w₁ w₂ l e₁ e₂ = rw (lt-ltb (recordsOf w) limit.RECORDS (omega arith), e₂, e₁, add-one k, ek)
+
+  pub no-record : limit.RECORDS ≤ k → taken Full w ≡ newOutRec w o b i
+  unfolding newOutRec
+  no-record l = rw (le-ltb (recordsOf w) limit.RECORDS (omega arith))
+
+pub went-out : (w w₁ : List ℕ) (op n p : ℕ) → n ≡ nextOf w op → p ≡ prevOf w op → w₁ ≡ onWords w (unlinkWrites p n) → disposed n w₁ ≡ disposeOutPt w op
+unfolding disposeOutPt
+went-out w w₁ op n p en ep e = rw (e, en, ep)

@@ -1,0 +1,17 @@
+-- new_out_pt meets its contract.
+use borrow.Author.Needs.{needs}
+use Rattle.store.proofs.Taking.{made-point, no-point}
+use Rattle.store.proofs.points.new_out_pt.Statement.{statement}
+use Rattle.store.proofs.points.new_out_pt.Tie as tie
+
+pub new-out-pt-spec : {M : Type 1} → statement M
+new-out-pt-spec =
+    tie.close
+    (tie.spec
+    (λ c κs. search needs)
+    (λ c κs. search needs)
+    (λ c κs. search needs)
+    (λ c. search needs)
+    (λ c. search made-point)
+    (λ c. search needs)
+    (λ c. search no-point))

@@ -1,0 +1,98 @@
+-- The Rust's primitives on points and records: what each writes, in the program's order, every value read before the first write.
+use Prim.Native.Nat.{ℕ, suc, _≤_, _<_}
+use mathlib.Core.Bool.{Bool, cond}
+use mathlib.Core.List.{List, [], _∷_, _++_}
+use lib.Dec.{ltb}
+use lib.ListN.{length}
+use Rattle.job.specs.Limits as limit
+use Rattle.rings.specs.Progress.{validity}
+use Rattle.geometry.specs.declared.Point.{Point}
+use Rattle.store.specs.declared.points.Room.{Room}
+use Rattle.store.specs.declared.points.Room.the-variants.{At, Full}
+use Rattle.store.specs.Field.{pt, rc, ct, X, Y, NEXT, PREV, REC, FLAGS, OWNER, FIRST, MARK, PRESENT, START, CUT, POINTS, RECORDS, LENGTH, NONE}
+use Rattle.store.specs.Words.{Store, view, Write, write, onWords}
+use Rattle.store.specs.Named.{pointsOf, recordsOf, nextOf, prevOf, setFirst}
+use Rattle.store.specs.Sound.{pts, markOf}
+use Rattle.store.specs.Value.{wordOf}
+
+-- ---- what is written
+
+-- a point's coordinate words and record go to place k, the next free one
+abbrev pub pointWrites : ℕ → ℕ → ℕ → ℕ → List Write
+pointWrites k vx vy r = write (ct POINTS) 0 (suc k) ∷ write (pt X) k vx ∷ write (pt Y) k vy ∷ write (pt REC) k r ∷ []
+
+-- a point is its own next and prev
+abbrev pub ownWrites : ℕ → List Write
+ownWrites k = write (pt NEXT) k k ∷ write (pt PREV) k k ∷ []
+
+-- k goes in between p and n
+abbrev pub linkWrites : ℕ → ℕ → ℕ → List Write
+linkWrites p k n = write (pt NEXT) k n ∷ write (pt PREV) k p ∷ write (pt NEXT) p k ∷ write (pt PREV) n k ∷ []
+
+-- what was between p and n goes out
+abbrev pub unlinkWrites : ℕ → ℕ → List Write
+unlinkWrites p n = write (pt NEXT) p n ∷ write (pt PREV) n p ∷ []
+
+-- record k, the next free one, is a closed ring at its start: its first point is b, its owner o, and it was cut from record i
+abbrev pub startWrites : ℕ → ℕ → ℕ → ℕ → List Write
+startWrites k o b i =
+    write (rc FLAGS) k 0 ∷ write (rc OWNER) k o ∷ write (rc FIRST) k b ∷ write (rc MARK) k (markOf validity)
+    ∷ write (rc PRESENT) k b ∷ write (rc START) k b ∷ write (rc CUT) k i ∷ []
+
+abbrev pub recordWrites : ℕ → ℕ → ℕ → ℕ → List Write
+recordWrites k o b i = write (ct RECORDS) 0 (suc k) ∷ startWrites k o b i
+
+-- a copy of op goes in after it, or before it
+abbrev pub copyWrites : Store → ℕ → List Write
+copyWrites s op = pointWrites (pts s) (s (pt X) op) (s (pt Y) op) (s (pt REC) op)
+
+abbrev pub afterWrites : Store → ℕ → List Write
+afterWrites s op = copyWrites s op ++ linkWrites op (pts s) (s (pt NEXT) op)
+
+abbrev pub beforeWrites : Store → ℕ → List Write
+beforeWrites s op = copyWrites s op ++ linkWrites (s (pt PREV) op) (pts s) op
+
+-- ---- the primitives
+
+-- the place that was taken, or that there is no room, and the words left
+pub data Taken : Type 0 where
+  taken : Room → List ℕ → Taken
+
+-- where there is room for a point, or for a record; else nothing changes
+abbrev pub ifPoint : List ℕ → List ℕ → Taken
+ifPoint w w′ = cond (ltb (pointsOf w) limit.POINTS) (taken (At (pointsOf w)) w′) (taken Full w)
+
+abbrev pub ifRecord : List ℕ → List ℕ → Taken
+ifRecord w w′ = cond (ltb (recordsOf w) limit.RECORDS) (taken (At (recordsOf w)) w′) (taken Full w)
+
+-- `new_out_pt`
+unfoldable pub newOutPt : List ℕ → Point → ℕ → Taken
+newOutPt w p r = ifPoint w (onWords w (pointWrites (pointsOf w) (wordOf (p .x)) (wordOf (p .y)) r ++ ownWrites (pointsOf w)))
+
+-- `duplicate_op`
+unfoldable pub duplicateOp : List ℕ → ℕ → Bool → Taken
+duplicateOp w op after = ifPoint w (cond after (onWords w (afterWrites (view w) op)) (onWords w (beforeWrites (view w) op)))
+
+-- `new_out_rec`, with what its callers set at once
+unfoldable pub newOutRec : List ℕ → ℕ → ℕ → ℕ → Taken
+newOutRec w o b i = ifRecord w (onWords w (recordWrites (recordsOf w) o b i))
+
+-- `dispose_out_pt`: op goes out; its next
+pub data Disposed : Type 0 where
+  disposed : ℕ → List ℕ → Disposed
+
+unfoldable pub disposeOutPt : List ℕ → ℕ → Disposed
+disposeOutPt w op = disposed (nextOf w op) (onWords w (unlinkWrites (prevOf w op) (nextOf w op)))
+
+-- `dispose_out_pts`: the record is emptied; the points' links are left, which nothing reads
+abbrev pub disposeOutPts : List ℕ → ℕ → List ℕ
+disposeOutPts w i = setFirst w i NONE
+
+-- ---- what they ask
+
+-- op and its neighbours are places of points
+pub record Beside (w : List ℕ) (op : ℕ) : Type 0 where
+  pub long : LENGTH ≤ length w
+  pub here : op < limit.POINTS
+  pub next : nextOf w op < limit.POINTS
+  pub prev : prevOf w op < limit.POINTS

@@ -1,0 +1,253 @@
+// Points and records by value, and the Rust's primitives that make and unlink them.
+use crate::Col;
+use crate::get;
+use crate::set;
+use geometry::Point;
+use job::Job;
+ghost use mathlib.Core.Path.{_≡_};
+ghost use mathlib.Core.List.{_++_};
+ghost use Prim.Native.Nat.{ℕ, _+_, _*_, _<_, _≤_, _^_};
+ghost use lib.ListN.{length};
+ghost use Rattle.job.specs.Limits as limit;
+ghost use Rattle.numbers.specs.Raised.{coordinate};
+ghost use Rattle.exact.specs.Num.{Within};
+ghost use Rattle.geometry.specs.Plane.{InTable};
+ghost use Rattle.store.specs.Field.{pt, X, Y, LENGTH};
+ghost use Rattle.store.specs.Words.{view, onWords};
+ghost use Rattle.store.specs.Named.{pointsOf, recordsOf};
+ghost use Rattle.store.specs.Value.{pointOf, wordOf, outRecOf};
+ghost use Rattle.store.specs.Primitive.{taken, disposed, pointWrites, ownWrites, linkWrites, unlinkWrites, startWrites, recordWrites, afterWrites, beforeWrites, newOutPt, duplicateOp, newOutRec, disposeOutPt, disposeOutPts, Beside};
+
+// The place that was taken, or that there is none.
+pub enum Room {
+    At(usize),
+    Full,
+}
+
+// A record by value.
+pub struct OutRec {
+    pub opened: bool,
+    pub front: bool,
+    pub owner: usize,
+    pub pts: usize,
+    pub mark: usize,
+    pub present: usize,
+    pub start: usize,
+    pub cut: usize,
+}
+
+const NONE: usize = 65535;
+
+const RAISE: i32 = 1048576;
+
+// ---- by value
+
+// The coordinate that a word stands for.
+fn lower(v: usize) -> i32
+    requires { ⌜ v ≤ 2 * limit.COORDINATE ⌝ }
+    ensures { λ r. ⌜ r ≡ coordinate limit.COORDINATE v ⌝ }
+{
+    v as i32 - RAISE
+}
+
+// Point k by value.
+pub fn point(w: &[u32], k: usize) -> Point
+    requires { ⌜ (LENGTH ≤ length (now w)) × (k < limit.POINTS) × (view (now w) (pt X) k ≤ 2 * limit.COORDINATE) × (view (now w) (pt Y) k ≤ 2 * limit.COORDINATE) ⌝ }
+    ensures { λ r. ⌜ r ≡ pointOf (now (w .entry)) k ⌝ }
+{
+    let vx = get(w, Col::X, k);
+    let vy = get(w, Col::Y, k);
+    let x = lower(vx);
+    let y = lower(vy);
+    Point { x, y }
+}
+
+// Record i by value.
+pub fn out_rec(w: &[u32], i: usize) -> OutRec
+    requires { ⌜ (LENGTH ≤ length (now w)) × (i < limit.RECORDS) ⌝ }
+    ensures { λ r. ⌜ r ≡ outRecOf (now (w .entry)) i ⌝ }
+{
+    let flags = get(w, Col::Flags, i);
+    let owner = get(w, Col::Owner, i);
+    let pts = get(w, Col::First, i);
+    let mark = get(w, Col::Mark, i);
+    let present = get(w, Col::Present, i);
+    let start = get(w, Col::Start, i);
+    let cut = get(w, Col::Cut, i);
+    OutRec {
+        opened: flags % 2 == 1,
+        front: flags / 2 % 2 == 1,
+        owner,
+        pts,
+        mark,
+        present,
+        start,
+        cut,
+    }
+}
+
+// ---- writes
+
+// A point's words and record go to place k, the next free one.
+pub fn take_point(w: &mut [u32], k: usize, vx: usize, vy: usize, r: usize)
+    requires { ⌜ (LENGTH ≤ length (now w)) × (k < limit.POINTS) × (vx < 2 ^ 32) × (vy < 2 ^ 32) × (r < 2 ^ 32) ⌝ }
+    ensures { λ _. ⌜ now (w .exit) ≡ onWords (now (w .entry)) (pointWrites k vx vy r) ⌝ }
+{
+    set(w, Col::Points, 0, k + 1);
+    set(w, Col::X, k, vx);
+    set(w, Col::Y, k, vy);
+    set(w, Col::Rec, k, r);
+}
+
+// Point k is linked with itself.
+pub fn link_own(w: &mut [u32], k: usize)
+    requires { ⌜ (LENGTH ≤ length (now w)) × (k < limit.POINTS) ⌝ }
+    ensures { λ _. ⌜ now (w .exit) ≡ onWords (now (w .entry)) (ownWrites k) ⌝ }
+{
+    set(w, Col::Next, k, k);
+    set(w, Col::Prev, k, k);
+}
+
+// Point k goes in between p and n.
+pub fn link_between(w: &mut [u32], p: usize, k: usize, n: usize)
+    requires { ⌜ (LENGTH ≤ length (now w)) × (p < limit.POINTS) × (k < limit.POINTS) × (n < limit.POINTS) ⌝ }
+    ensures { λ _. ⌜ now (w .exit) ≡ onWords (now (w .entry)) (linkWrites p k n) ⌝ }
+{
+    set(w, Col::Next, k, n);
+    set(w, Col::Prev, k, p);
+    set(w, Col::Next, p, k);
+    set(w, Col::Prev, n, k);
+}
+
+// What was between p and n goes out.
+pub fn unlink(w: &mut [u32], p: usize, n: usize)
+    requires { ⌜ (LENGTH ≤ length (now w)) × (p < limit.POINTS) × (n < limit.POINTS) ⌝ }
+    ensures { λ _. ⌜ now (w .exit) ≡ onWords (now (w .entry)) (unlinkWrites p n) ⌝ }
+{
+    set(w, Col::Next, p, n);
+    set(w, Col::Prev, n, p);
+}
+
+// Record k is a closed ring at its start.
+pub fn start_record(w: &mut [u32], k: usize, o: usize, b: usize, i: usize)
+    requires { ⌜ (LENGTH ≤ length (now w)) × (k < limit.RECORDS) × (o < 2 ^ 32) × (b < 2 ^ 32) × (i < 2 ^ 32) ⌝ }
+    ensures { λ _. ⌜ now (w .exit) ≡ onWords (now (w .entry)) (startWrites k o b i) ⌝ }
+{
+    set(w, Col::Flags, k, 0);
+    set(w, Col::Owner, k, o);
+    set(w, Col::First, k, b);
+    set(w, Col::Mark, k, 0);
+    set(w, Col::Present, k, b);
+    set(w, Col::Start, k, b);
+    set(w, Col::Cut, k, i);
+}
+
+// ---- the primitives
+
+// The word of a coordinate.
+fn raise(x: i32) -> usize
+    requires { ⌜ Within limit.COORDINATE x ⌝ }
+    ensures { λ r. ⌜ (r ≡ wordOf x) × (r < 2 ^ 32) ⌝ }
+{
+    (x + RAISE) as usize
+}
+
+// Point p goes to place k, the next free one.
+pub fn take_value(w: &mut [u32], k: usize, p: Point, r: usize)
+    requires { ⌜ LENGTH ≤ length (now w) ⌝ ∗ ⌜ InTable p ⌝ ∗ ⌜ k < limit.POINTS ⌝ ∗ ⌜ r < 2 ^ 32 ⌝ }
+    ensures { λ _. ⌜ now (w .exit) ≡ onWords (now (w .entry)) (pointWrites k (wordOf (p .x)) (wordOf (p .y)) r) ⌝ }
+{
+    let vx = raise(p.x);
+    let vy = raise(p.y);
+    take_point(w, k, vx, vy, r);
+}
+
+// A new point, linked with itself.
+pub fn new_out_pt(w: &mut [u32], p: Point, r: usize) -> Room
+    requires { ⌜ LENGTH ≤ length (now w) ⌝ ∗ ⌜ InTable p ⌝ ∗ ⌜ r < 2 ^ 32 ⌝ }
+    ensures { λ a. ⌜ taken a (now (w .exit)) ≡ newOutPt (now (w .entry)) p r ⌝ }
+{
+    let k = get(w, Col::Points, 0);
+    if k < Job::POINTS {
+        take_value(w, k, p, r);
+        link_own(w, k);
+        return Room::At(k);
+    }
+    Room::Full
+}
+
+// A copy of op at place k, after op.
+fn copy_after(w: &mut [u32], k: usize, op: usize)
+    requires { ⌜ Beside (now w) op × (k ≡ pointsOf (now w)) × (k < limit.POINTS) ⌝ }
+    ensures { λ _. ⌜ now (w .exit) ≡ onWords (now (w .entry)) (afterWrites (view (now (w .entry))) op) ⌝ }
+{
+    let vx = get(w, Col::X, op);
+    let vy = get(w, Col::Y, op);
+    let r = get(w, Col::Rec, op);
+    let n = get(w, Col::Next, op);
+    take_point(w, k, vx, vy, r);
+    link_between(w, op, k, n);
+}
+
+// A copy of op at place k, before op.
+fn copy_before(w: &mut [u32], k: usize, op: usize)
+    requires { ⌜ Beside (now w) op × (k ≡ pointsOf (now w)) × (k < limit.POINTS) ⌝ }
+    ensures { λ _. ⌜ now (w .exit) ≡ onWords (now (w .entry)) (beforeWrites (view (now (w .entry))) op) ⌝ }
+{
+    let vx = get(w, Col::X, op);
+    let vy = get(w, Col::Y, op);
+    let r = get(w, Col::Rec, op);
+    let p = get(w, Col::Prev, op);
+    take_point(w, k, vx, vy, r);
+    link_between(w, p, k, op);
+}
+
+// A copy of op, after it or before it.
+pub fn duplicate_op(w: &mut [u32], op: usize, after: bool) -> Room
+    requires { ⌜ Beside (now w) op ⌝ }
+    ensures { λ a. ⌜ taken a (now (w .exit)) ≡ duplicateOp (now (w .entry)) op after ⌝ }
+{
+    let k = get(w, Col::Points, 0);
+    if k < Job::POINTS {
+        if after {
+            copy_after(w, k, op);
+            return Room::At(k);
+        }
+        copy_before(w, k, op);
+        return Room::At(k);
+    }
+    Room::Full
+}
+
+// A new record: a closed ring at its start.
+pub fn new_out_rec(w: &mut [u32], o: usize, b: usize, i: usize) -> Room
+    requires { ⌜ (LENGTH ≤ length (now w)) × (o < 2 ^ 32) × (b < 2 ^ 32) × (i < 2 ^ 32) ⌝ }
+    ensures { λ a. ⌜ taken a (now (w .exit)) ≡ newOutRec (now (w .entry)) o b i ⌝ }
+{
+    let k = get(w, Col::Records, 0);
+    if k < Job::RECORDS {
+        set(w, Col::Records, 0, k + 1);
+        start_record(w, k, o, b, i);
+        return Room::At(k);
+    }
+    Room::Full
+}
+
+// Point op goes out of its ring; its next.
+pub fn dispose_out_pt(w: &mut [u32], op: usize) -> usize
+    requires { ⌜ Beside (now w) op ⌝ }
+    ensures { λ r. ⌜ disposed r (now (w .exit)) ≡ disposeOutPt (now (w .entry)) op ⌝ }
+{
+    let n = get(w, Col::Next, op);
+    let p = get(w, Col::Prev, op);
+    unlink(w, p, n);
+    n
+}
+
+// The record is emptied.
+pub fn dispose_out_pts(w: &mut [u32], i: usize)
+    requires { ⌜ (LENGTH ≤ length (now w)) × (i < limit.RECORDS) ⌝ }
+    ensures { λ _. ⌜ now (w .exit) ≡ disposeOutPts (now (w .entry)) i ⌝ }
+{
+    set(w, Col::First, i, NONE);
+}
