@@ -13,10 +13,11 @@ use lib.Dec.{leb}
 use Rattle.rings.specs.Count.{sumBy}
 use Rattle.rings.proofs.Counting.{sumBy-append, sumBy-set}
 use Rattle.lone.specs.Forest.{Machine, State, toList, Entry, ringless, openRing, closedRing, ok, full, Forest, isOk}
-use Rattle.lone.specs.Forest.{newEntry, at, OfClosed, stepState, carryOut, answer, stepForest, runForest}
+use Rattle.lone.specs.Forest.{newEntry, at, Every, stepState, carryOut, answer, stepForest, runForest}
 use Rattle.lone.specs.Order.{AllDone, Fits, NeverEnds}
 use Rattle.lone.proofs.Stepping.{Accepted, Refused, view}
 use Rattle.lone.proofs.Alone.{at-closed}
+use Rattle.lone.proofs.Every.{every-carry}
 use Rattle.lone.proofs.Ending.{Unfinished, find, fits-of-end, never-of-full}
 
 module _ {S X : Type 0} (M : Machine S) (lp lr : ℕ) where
@@ -24,9 +25,6 @@ module _ {S X : Type 0} (M : Machine S) (lp lr : ℕ) where
   -- then some list ends the forest or meets the limit
   module _ (Inv : S → Type 0) (kept : (x : S) → M .over x ≡ false → Inv x → Inv (M .next x)) (had : (x y : S) → M .over x ≡ false → Inv x → M .cuts x ≡ some y → Inv y)
       (weight : S → ℕ) (falls : (x : S) → Inv x → M .over x ≡ false → M .takes x ≡ 0 → (M .cuts x ≡ none) × (weight (M .next x) < weight x)) where
-    abbrev AllInv : List (Entry S X) → Type 0
-    AllInv es = (i : ℕ) → OfClosed Inv (at es i)
-
     weightOf : Entry S X → ℕ
     weightOf ringless = 0
     weightOf (openRing x) = 0
@@ -40,28 +38,8 @@ module _ {S X : Type 0} (M : Machine S) (lp lr : ℕ) where
     found-later F i (inl r) = inl (i ∷ r .0, r .1)
     found-later F i (inr r) = inr (i ∷ r .0, r .1, r .2)
 
-    inv-set : (es : List (Entry S X)) (i : ℕ) (e : Entry S X) → AllInv es → OfClosed Inv e → AllInv (set es i e)
-    inv-set [] i e a h j = tt
-    inv-set (x ∷ es) zero e a h zero = h
-    inv-set (x ∷ es) zero e a h (suc j) = a (suc j)
-    inv-set (x ∷ es) (suc i) e a h zero = a 0
-    inv-set (x ∷ es) (suc i) e a h (suc j) = inv-set es i e (λ k. a (suc k)) h j
-
-    inv-append : (es es′ : List (Entry S X)) → AllInv es → AllInv es′ → AllInv (es ++ es′)
-    inv-append [] es′ a b j = b j
-    inv-append (x ∷ es) es′ a b zero = a 0
-    inv-append (x ∷ es) es′ a b (suc j) = inv-append es es′ (λ k. a (suc k)) b j
-
-    inv-carry : (F : Forest S X) (i : ℕ) (q : Option ℕ) (L : State S) → at (F .entries) i ≡ closedRing q L → M .over (L .now) ≡ false → AllInv (F .entries) → AllInv (carryOut M F i q L .entries)
-    inv-carry F i q L h v a = inv-append (set (F .entries) i (closedRing q (stepState M L))) (newEntry i (M .cuts (L .now))) (inv-set (F .entries) i (closedRing q (stepState M L)) a (kept (L .now) v now)) (new (M .cuts (L .now)) refl)
-      where
-        now : Inv (L .now)
-        now = rw h at (a i)
-
-        new : (o : Option S) → M .cuts (L .now) ≡ o → AllInv (newEntry i o)
-        new none e j = tt
-        new (some y) e zero = had (L .now) y v now e
-        new (some y) e (suc j) = tt
+    inv-carry : (F : Forest S X) (i : ℕ) (q : Option ℕ) (L : State S) → at (F .entries) i ≡ closedRing q L → M .over (L .now) ≡ false → Every Inv (F .entries) → Every Inv (carryOut M F i q L .entries)
+    inv-carry F i q L h v a = every-carry M Inv Inv F i q L h (λ x k. k) (kept (L .now) v) (λ y e k. had (L .now) y v k e) a
 
     -- a step on an unfinished ring is carried out or refused as full
     unfinished-full : (F : Forest S X) (v : Unfinished M (F .entries)) → isOk (answer M lp lr F (v .place)) ≡ false → answer M lp lr F (v .place) ≡ full
@@ -86,32 +64,32 @@ module _ {S X : Type 0} (M : Machine S) (lp lr : ℕ) where
         none-weight : sumBy weightOf (newEntry i (M .cuts (L .now))) ≡ 0
         none-weight = rw e
 
-    inner : (f : ℕ) → ((F : Forest S X) → AllInv (F .entries) → F .points ≤ lp → lp < f + F .points → Found F) → (m : ℕ) (F : Forest S X) → AllInv (F .entries) → F .points ≤ lp → lp < suc f + F .points → sumBy weightOf (F .entries) < m → Found F
+    inner : (f : ℕ) → ((F : Forest S X) → Every Inv (F .entries) → F .points ≤ lp → lp < f + F .points → Found F) → (m : ℕ) (F : Forest S X) → Every Inv (F .entries) → F .points ≤ lp → lp < suc f + F .points → sumBy weightOf (F .entries) < m → Found F
     unfolding Found
     inner f rec zero F a h k w = absurd (not-suc-le-zero w)
     inner f rec (suc m) F a h k w = go (find M (F .entries)) (inner f rec m)
       where
-        step : (i : ℕ) (y : Accepted M lp lr F i) (d : ℕ) → M .takes (y .state .now) ≡ d → ((F : Forest S X) → AllInv (F .entries) → F .points ≤ lp → lp < suc f + F .points → sumBy weightOf (F .entries) < m → Found F) → Found (stepForest M lp lr F i)
+        step : (i : ℕ) (y : Accepted M lp lr F i) (d : ℕ) → M .takes (y .state .now) ≡ d → ((F : Forest S X) → Every Inv (F .entries) → F .points ≤ lp → lp < suc f + F .points → sumBy weightOf (F .entries) < m → Found F) → Found (stepForest M lp lr F i)
         step i y zero e on-m =
             let now : Inv (y .state .now) = (rw (y .here) at (a i)) in
             let d = falls (y .state .now) now (y .unfinished) e in
             rw (y .becomes) (on-m (carryOut M F i (y .who) (y .state)) (inv-carry F i (y .who) (y .state) (y .here) (y .unfinished) a) (y .fits-points) (omega (arith, e)) (omega (arith, carry-weight F i (y .who) (y .state) (y .here) (d .0) (d .1))))
         step i y (suc d) e on-m = rw (y .becomes) (rec (carryOut M F i (y .who) (y .state)) (inv-carry F i (y .who) (y .state) (y .here) (y .unfinished) a) (y .fits-points) (omega (arith, e)))
 
-        try : (v : Unfinished M (F .entries)) → Accepted M lp lr F (v .place) ⊎ Refused M lp lr F (v .place) → ((F : Forest S X) → AllInv (F .entries) → F .points ≤ lp → lp < suc f + F .points → sumBy weightOf (F .entries) < m → Found F) → Found F
+        try : (v : Unfinished M (F .entries)) → Accepted M lp lr F (v .place) ⊎ Refused M lp lr F (v .place) → ((F : Forest S X) → Every Inv (F .entries) → F .points ≤ lp → lp < suc f + F .points → sumBy weightOf (F .entries) < m → Found F) → Found F
         try v (inl y) on-m = found-later F (v .place) (step (v .place) y _ refl on-m)
         try v (inr z) on-m = inr ([], v .place, unfinished-full F v (z .says))
 
-        go : AllDone M (F .entries) ⊎ Unfinished M (F .entries) → ((F : Forest S X) → AllInv (F .entries) → F .points ≤ lp → lp < suc f + F .points → sumBy weightOf (F .entries) < m → Found F) → Found F
+        go : AllDone M (F .entries) ⊎ Unfinished M (F .entries) → ((F : Forest S X) → Every Inv (F .entries) → F .points ≤ lp → lp < suc f + F .points → sumBy weightOf (F .entries) < m → Found F) → Found F
         go (inl b) on-m = inl ([], b)
         go (inr v) on-m = try v (view M lp lr F (v .place)) on-m
 
-    outer : (f : ℕ) (F : Forest S X) → AllInv (F .entries) → F .points ≤ lp → lp < f + F .points → Found F
+    outer : (f : ℕ) (F : Forest S X) → Every Inv (F .entries) → F .points ≤ lp → lp < f + F .points → Found F
     outer zero F a h k = absurd (omega arith)
     outer (suc f) F a h k = inner f (outer f) (suc (sumBy weightOf (F .entries))) F a h k (omega arith)
 
     -- the dichotomy
-    pub dichotomy : (F : Forest S X) → ((i : ℕ) → OfClosed Inv (at (F .entries) i)) → F .points ≤ lp → length (F .entries) ≤ lr → Fits M lp lr F ⊎ NeverEnds M lp lr F
+    pub dichotomy : (F : Forest S X) → Every Inv (F .entries) → F .points ≤ lp → length (F .entries) ≤ lr → Fits M lp lr F ⊎ NeverEnds M lp lr F
     unfolding Found
     dichotomy F a h k = go (outer (suc lp) F a h (omega arith))
       where

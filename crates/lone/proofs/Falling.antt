@@ -13,7 +13,7 @@ use Rattle.rings.specs.Progress.{Due, validity, removal, triangle, split, done,
 use Rattle.rings.proofs.Circles.{length-turn, length-spin, length-initOf}
 use Rattle.lone.specs.Ring.{Act, stay, discard, dropPoint, moveOn, toFirst, double, cut, apply, offcut, takesPoints}
 use Rattle.lone.specs.Lone.{Geo, isDone, isZero, decide, actOf, stepRing, offcutRing, takesRing}
-use Rattle.lone.specs.Forest.{Machine, Opened, leftRingless, leftOpen, leftClosed, opening, enter, at, OfClosed, runForest, accepted}
+use Rattle.lone.specs.Forest.{Machine, Opened, leftRingless, leftOpen, leftClosed, opening, enter, Every, runForest, accepted}
 use Rattle.lone.specs.Order.{machine, Independent, Fits, NeverEnds}
 use Rattle.lone.specs.Kept.{HasStart}
 use Rattle.lone.specs.Measure.{walkLeft, startLeft, rounds, weigh, weight}
@@ -131,5 +131,5 @@ module _ {P : Type 0} where
       next-start R h = start-kept G R h
 
       -- rings at their start, or anywhere with the start that a removal turn has
-      pub rings-end : ((i : ℕ) → OfClosed (λ (R : Ring P). HasStart (R .due) (R .start)) (at (map (enter {S = Ring P} {X = X}) os) i)) → p₀ ≤ lp → length os ≤ lr → Fits (machine G) lp lr (opening os p₀) ⊎ NeverEnds (machine G) lp lr (opening os p₀)
+      pub rings-end : Every (λ (R : Ring P). HasStart (R .due) (R .start)) (map (enter {S = Ring P} {X = X}) os) → p₀ ≤ lp → length os ≤ lr → Fits (machine G) lp lr (opening os p₀) ⊎ NeverEnds (machine G) lp lr (opening os p₀)
       rings-end a h k = dichotomy (machine G) lp lr (λ (R : Ring P). HasStart (R .due) (R .start)) (λ R v g. next-start R g) (λ R O v g e. offcut-start R O e) weight falls (opening os p₀) a h (rw (length-map os enter) k)

@@ -4,6 +4,7 @@ pub mod Stepping
 pub mod Alone
 pub mod Table
 pub mod Costs
+pub mod Every
 pub mod Ending
 pub mod Dichotomy
 pub mod Turning
@@ -15,3 +16,5 @@ pub mod Writing
 pub mod Bench
 pub mod Trees
 pub mod Paths
+pub mod Finishing
+pub mod FinishingRings

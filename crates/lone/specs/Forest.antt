@@ -104,6 +104,10 @@ module _ {S X : Type 0} where
   OfClosed Q (openRing x) = Unit {0}
   OfClosed Q (closedRing q L) = Q (L .now)
 
+  -- and of all of them
+  abbrev pub Every : (S → Type 0) → List (Entry S X) → Type 0
+  Every Q es = (i : ℕ) → OfClosed Q (at es i)
+
   -- the rank of record j among those that name p
   abbrev pub rank : List (Entry S X) → ℕ → ℕ → ℕ
   rank es p j = naming p (take j (map cutFrom es))

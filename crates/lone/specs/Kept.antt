@@ -30,6 +30,12 @@ HasStart triangle s = Unit {0}
 HasStart split s = Unit {0}
 HasStart done s = Unit {0}
 
+-- what steps keep of a ring among n points
+pub record Held {A : Type 0} (n : ℕ) (R : Ring A) : Type 0 where
+  pub on-ring : OnRing R
+  pub has-start : HasStart (R .due) (R .start)
+  pub short : length (R .circle) ≤ n
+
 -- where a split turn is due the circle has two points or at least four
 abbrev pub SplitSize : Due → ℕ → Type 0
 SplitSize validity n = Unit {0}

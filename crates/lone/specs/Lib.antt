@@ -10,4 +10,5 @@ pub mod Kept
 pub mod Measure
 pub mod Plane
 pub mod Writing
+pub mod Finish
 pub mod Bench
