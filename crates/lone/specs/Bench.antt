@@ -1,13 +1,14 @@
 -- Document 01's bench rings as rows of one table: a setting, one closed ring, and the paths that it and its offcuts end in.
 use mathlib.Core.Bool.{Bool, true, false}
-use mathlib.Core.List.{List, [], _∷_, _++_}
+use mathlib.Core.List.{List, [], _∷_}
 use Prim.Native.Nat.{ℕ}
 use lib.IntN.{ℤ, pos}
-use lib.ListN.{length, replicate}
+use lib.ListN.{length}
 use Rattle.geometry.specs.declared.Point.{Point}
 use Rattle.rings.specs.Progress.{Ring, atStart}
-use Rattle.lone.specs.Forest.{Entry, leftClosed, opening, runForest}
+use Rattle.lone.specs.Forest.{Entry, leftClosed, opening}
 use Rattle.lone.specs.Plane.{plane, loneRing}
+use Rattle.lone.specs.Finish.{finishForest}
 use Rattle.lone.specs.Writing.{isAllDone, closedPaths}
 
 abbrev pub pt : ℕ → ℕ → Point
@@ -29,9 +30,9 @@ pub record Outcome : Type 0 where
   pub finished : Bool
   pub paths : List (List Point)
 
--- 24 steps on record 0, then 12 on record 1; those on a done ring, or on none, are refused and change nothing
+-- the ring alone in a forest, finished in one call under the job's limits
 unfoldable pub after : Row → List (Entry (Ring Point) (List Point))
-after r = runForest (loneRing (r .preserve)) 2048 512 (opening (leftClosed (atStart (r .ring)) ∷ []) (length (r .ring))) (replicate 24 0 ++ replicate 12 1) .entries
+after r = finishForest (loneRing (r .preserve)) 2048 512 (opening (leftClosed (atStart (r .ring)) ∷ []) (length (r .ring))) .entries
 
 unfoldable pub result : Row → Outcome
 result r = record { finished = isAllDone (loneRing (r .preserve)) (after r); paths = closedPaths (plane (r .preserve)) (r .reversed) (after r) }
