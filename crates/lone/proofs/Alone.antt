@@ -16,9 +16,10 @@ use borrow.Author.Tests.{eqb-true, eqb-false, eq-eqb, ne-eqb}
 use Rattle.rings.specs.Count.{sumBy}
 use Rattle.rings.proofs.Counting.{sumBy-append, sumBy-set}
 use Rattle.lone.specs.Forest.{Machine, State, initial, toList, Entry, ringless, openRing, closedRing, Opened, leftRingless, leftOpen, leftClosed, Answer, Forest, names, naming, isOk}
-use Rattle.lone.specs.Forest.{enter, opening, newEntry, at, OfClosed, cutFrom, offcutsOf, takenBy, rank, allTaken, allCut, stepState, stepsState, stepsEntry, carryOut, answerTo, answer, stepForest, runForest, accepted}
+use Rattle.lone.specs.Forest.{enter, opening, newEntry, at, OfClosed, cutFrom, offcutsOf, takenBy, rank, allTaken, allCut, stepState, stepsState, stepsEntry, stepEntries, carryOut, answerTo, answer, stepForest, runForest, accepted}
 use Rattle.lone.specs.Order.{IsOffcut, Alone, Exactly, Independent}
-use Rattle.lone.proofs.Stepping.{Accepted, Refused, view, exactly}
+use Rattle.lone.proofs.Stepping.{step-length, step-here, step-other, Accepted, Refused, view, exactly}
+pub use Rattle.lone.proofs.Stepping.{at-closed}
 
 bump : (ℕ → ℕ) → ℕ → ℕ → ℕ
 bump g i j = g j + cond (eqb i j) 1 0
@@ -42,11 +43,6 @@ module _ {A : Type 0} where
   getElem-seam (x ∷ xs) a = getElem-seam xs a
 
 module _ {S X : Type 0} where
-  pub at-closed : (es : List (Entry S X)) (i : ℕ) {q : Option ℕ} {L : State S} → at es i ≡ closedRing q L → i < length es
-  at-closed [] i h = let z : _≡_ {A = ℕ} 0 1 = cc in absurd (omega arith)
-  at-closed (e ∷ es) zero h = omega arith
-  at-closed (e ∷ es) (suc i) h = omega (arith, at-closed es i h)
-
   offcuts-append : (es : List (Entry S X)) (i : ℕ) (o : Option S) (p : ℕ) → offcutsOf (at (es ++ newEntry i o) p) ≡ offcutsOf (at es p)
   offcuts-append [] i none p = refl
   offcuts-append [] i (some s) zero = refl
@@ -87,28 +83,22 @@ module _ {S X : Type 0} (M : Machine S) where
   -- the step of the life L of record i
   module _ (es : List (Entry S X)) (i : ℕ) (q : Option ℕ) (L : State S) (here : at es i ≡ closedRing q L) (live : M .over (L .now) ≡ false) where
     after : List (Entry S X)
-    after = set es i (closedRing q (stepState M L)) ++ newEntry i (M .cuts (L .now))
+    after = stepEntries M es i q L
 
     inside : i < length es
     inside = at-closed es i here
 
-    length-new : (o : Option S) → length (newEntry {X = X} i o) ≡ length (toList o)
-    length-new none = refl
-    length-new (some s) = refl
-
     after-length : length after ≡ length es + length (toList (M .cuts (L .now)))
     unfolding after
-    after-length = length-append (set es i (closedRing q (stepState M L))) (newEntry i (M .cuts (L .now))) ∙ cc (length-set es i (closedRing q (stepState M L)), length-new (M .cuts (L .now)))
-
-    after-old : (j : ℕ) → j < length es → at after j ≡ at (set es i (closedRing q (stepState M L))) j
-    unfolding after
-    after-old j h = List·getD-append (set es i (closedRing q (stepState M L))) (newEntry i (M .cuts (L .now))) ringless j (rw (length-set es i (closedRing q (stepState M L))) h)
+    after-length = step-length M es i q L
 
     after-here : at after i ≡ closedRing q (stepState M L)
-    after-here = after-old i inside ∙ getD-set-same es i _ ringless inside
+    unfolding after
+    after-here = step-here M es i q L inside
 
     after-other : (j : ℕ) → j < length es → j ≢ i → at after j ≡ at es j
-    after-other j h n = after-old j h ∙ getD-set-other es i j _ ringless n
+    unfolding after
+    after-other j h n = step-other M es i q L j h n
 
     after-new : (s : S) → M .cuts (L .now) ≡ some s → at after (length es) ≡ closedRing (some i) (initial s)
     unfolding after

@@ -9,9 +9,9 @@ use native.Mathlib.Nat.{le-of-suc-le-suc}
 use native.Mathlib.Omega.{arith}
 use lib.ListN.{length, set, length-set}
 use lib.Seq.{set-getD, set-set, getD-set-same}
-use Rattle.lone.specs.Forest.{Machine, State, initial, toList, Entry, ringless, openRing, closedRing, newEntry, at, stepState}
+use Rattle.lone.specs.Forest.{Machine, State, initial, toList, Entry, ringless, openRing, closedRing, newEntry, at, stepState, stepEntries}
 use Rattle.lone.specs.Order.{NoneOrDone, AllDone}
-use Rattle.lone.proofs.Alone.{at-closed}
+use Rattle.lone.proofs.Stepping.{at-closed}
 
 -- what a machine and all that is cut off it take to the end: steps, points, records
 module _ {S : Type 0} (M : Machine S) where
@@ -152,7 +152,7 @@ module _ {S X : Type 0} (M : Machine S) where
     stepped o = set es i (closedRing q (stepState M L)) ++ newEntry i o
 
     -- a step takes its part off the costs
-    pub cost-after : {n p r : ℕ} → Costs es n p r → AfterStep (set es i (closedRing q (stepState M L)) ++ newEntry i (M .cuts (L .now))) (L .now) n p r
+    pub cost-after : {n p r : ℕ} → Costs es n p r → AfterStep (stepEntries M es i q L) (L .now) n p r
     unfolding stepped
     cost-after {n} {p} {r} c = go (cost-of (rw here at (f .this)))
       where
@@ -186,7 +186,7 @@ module _ {S X : Type 0} (M : Machine S) where
     restore {n} {p} {r} c = subst (λ (l : List (Entry S X)). Costs l n p r) (set-set es i _ _ ∙ ap (set es i) (sym here) ∙ set-getD es i ringless) c
 
     -- and the costs before a step is the one after it with the step's part
-    pub cost-before : {n p r : ℕ} → Costs (set es i (closedRing q (stepState M L)) ++ newEntry i (M .cuts (L .now))) n p r → Costs es (suc n) (M .takes (L .now) + p) (length (toList (M .cuts (L .now))) + r)
+    pub cost-before : {n p r : ℕ} → Costs (stepEntries M es i q L) n p r → Costs es (suc n) (M .takes (L .now) + p) (length (toList (M .cuts (L .now))) + r)
     unfolding stepped
     cost-before {n} {p} {r} c = go (M .cuts (L .now)) refl c
       where

@@ -13,9 +13,9 @@ use borrow.Author.Tests.{le-leb, leb-true, leb-false}
 use Rattle.rings.specs.Count.{sumBy}
 use Rattle.rings.proofs.Counting.{sumBy-append, sumBy-set}
 use Rattle.lone.specs.Forest.{Machine, State, initial, toList, Entry, ringless, openRing, closedRing, Opened, Answer, ok, full, outOfTurn, Forest, isOk}
-use Rattle.lone.specs.Forest.{opening, newEntry, at, stepState, carryOut, answerTo, answer, stepForest, runForest}
+use Rattle.lone.specs.Forest.{opening, newEntry, at, stepState, stepEntries, carryOut, answerTo, answer, stepForest, runForest}
 use Rattle.lone.specs.Order.{NoneOrDone, AllDone, Fits, NeverEnds}
-use Rattle.lone.proofs.Stepping.{Accepted, Refused, view}
+use Rattle.lone.proofs.Stepping.{step-length, Accepted, Refused, view}
 use Rattle.lone.proofs.Alone.{at-closed}
 use Rattle.lone.proofs.Costs.{Costs, AfterStep, cost-after, cost-before, done-costs, costs-one}
 
@@ -47,13 +47,6 @@ module _ {S X : Type 0} where
       go true e (inr v) = inr (later M (closedRing q L) es v)
 
 module _ {S X : Type 0} (M : Machine S) where
-  carry-length : (F : Forest S X) (i : ℕ) (q : Option ℕ) (L : State S) → at (F .entries) i ≡ closedRing q L → length (carryOut M F i q L .entries) ≡ length (F .entries) + length (toList (M .cuts (L .now)))
-  carry-length F i q L h = length-append (set (F .entries) i (closedRing q (stepState M L))) (newEntry i (M .cuts (L .now))) ∙ cc (length-set (F .entries) i (closedRing q (stepState M L)), new (M .cuts (L .now)))
-    where
-      new : (o : Option S) → length (newEntry {X = X} i o) ≡ length (toList o)
-      new none = refl
-      new (some s) = refl
-
   module _ (lp lr : ℕ) where
     -- the costs of all rings fits into the places left
     pub record HasRoom (F : Forest S X) (n : ℕ) : Type 0 where
@@ -66,7 +59,7 @@ module _ {S X : Type 0} (M : Machine S) where
     pub room-ok : (F : Forest S X) (n i : ℕ) → HasRoom F n → (q : Option ℕ) (L : State S) → at (F .entries) i ≡ closedRing q L → M .over (L .now) ≡ false → answer M lp lr F i ≡ ok
     unfolding answer
     room-ok F n i g q L here unfinished =
-        let s : AfterStep M (set (F .entries) i (closedRing q (stepState M L)) ++ newEntry i (M .cuts (L .now))) (L .now) n (g .points-due) (g .records-due) = cost-after M (F .entries) i q L here unfinished (g .costs) in
+        let s : AfterStep M (stepEntries M (F .entries) i q L) (L .now) n (g .points-due) (g .records-due) = cost-after M (F .entries) i q L here unfinished (g .costs) in
         rw (here, unfinished, le-leb (F .points + M .takes (L .now)) lp (omega (arith, g .fits-points, s .sum-p)), le-leb (length (F .entries) + length (toList (M .cuts (L .now)))) lr (omega (arith, g .fits-records, s .sum-r)))
 
     pub room-not-full : (F : Forest S X) (n i : ℕ) → HasRoom F n → answer M lp lr F i ≢ full
@@ -85,8 +78,8 @@ module _ {S X : Type 0} (M : Machine S) where
     step-room : (F : Forest S X) (n i : ℕ) → HasRoom F n → Accepted M lp lr F i → (k : ℕ) × (n ≡ suc k) × HasRoom (stepForest M lp lr F i) k
     step-room F n i g y =
         let L : State S = y .state in
-        let s : AfterStep M (set (F .entries) i (closedRing (y .who) (stepState M L)) ++ newEntry i (M .cuts (L .now))) (L .now) n (g .points-due) (g .records-due) = cost-after M (F .entries) i (y .who) L (y .here) (y .unfinished) (g .costs) in
-        let r : HasRoom (carryOut M F i (y .who) L) (s .left) = record { points-due = s .points-left; records-due = s .records-left; costs = s .costs; fits-points = omega (arith, g .fits-points, s .sum-p); fits-records = omega (arith, g .fits-records, s .sum-r, carry-length F i (y .who) L (y .here)) } in
+        let s : AfterStep M (stepEntries M (F .entries) i (y .who) L) (L .now) n (g .points-due) (g .records-due) = cost-after M (F .entries) i (y .who) L (y .here) (y .unfinished) (g .costs) in
+        let r : HasRoom (carryOut M F i (y .who) L) (s .left) = record { points-due = s .points-left; records-due = s .records-left; costs = s .costs; fits-points = omega (arith, g .fits-points, s .sum-p); fits-records = omega (arith, g .fits-records, s .sum-r, step-length M (F .entries) i (y .who) L) } in
         (s .left, s .sum-n, rw (y .becomes) r)
 
     step-room-any : (F : Forest S X) (n i : ℕ) → HasRoom F n → (k : ℕ) × HasRoom (stepForest M lp lr F i) k
@@ -139,7 +132,7 @@ module _ {S X : Type 0} (M : Machine S) where
         L = y .state
 
         go : CostTo (carryOut M F i (y .who) (y .state)) E → CostTo F E
-        go c = record { n = suc (c .n); p = M .takes (L .now) + c .p; r = length (toList (M .cuts (L .now))) + c .r; costs = cost-before M (F .entries) i (y .who) L (y .here) (y .unfinished) (c .costs); sum-p = omega (arith, c .sum-p); sum-r = omega (arith, c .sum-r, carry-length F i (y .who) L (y .here)) }
+        go c = record { n = suc (c .n); p = M .takes (L .now) + c .p; r = length (toList (M .cuts (L .now))) + c .r; costs = cost-before M (F .entries) i (y .who) L (y .here) (y .unfinished) (c .costs); sum-p = omega (arith, c .sum-p); sum-r = omega (arith, c .sum-r, step-length M (F .entries) i (y .who) L) }
 
     cost-any : (F E : Forest S X) (i : ℕ) → CostTo (stepForest M lp lr F i) E → CostTo F E
     cost-any F E i b = go (view M lp lr F i)
@@ -157,7 +150,7 @@ module _ {S X : Type 0} (M : Machine S) where
     step-within F i h k = go (view M lp lr F i)
       where
         go : Accepted M lp lr F i ⊎ Refused M lp lr F i → (stepForest M lp lr F i .points ≤ lp) × (length (stepForest M lp lr F i .entries) ≤ lr)
-        go (inl y) = rw (y .becomes) (y .fits-points, omega (arith, y .fits-records, carry-length F i (y .who) (y .state) (y .here)))
+        go (inl y) = rw (y .becomes) (y .fits-points, omega (arith, y .fits-records, step-length M (F .entries) i (y .who) (y .state)))
         go (inr z) = rw (z .becomes) (h, k)
 
     pub run-within : (s : List ℕ) (F : Forest S X) → F .points ≤ lp → length (F .entries) ≤ lr → (runForest M lp lr F s .points ≤ lp) × (length (runForest M lp lr F s .entries) ≤ lr)

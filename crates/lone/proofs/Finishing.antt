@@ -8,19 +8,12 @@ use Prim.Native.Nat.{ℕ, zero, suc, _+_, _*_, _≤_, _<_}
 use native.Mathlib.Nat.{add-zero, add-suc, suc-add, not-suc-le-zero}
 use native.Mathlib.Omega.{arith}
 use native.Mathlib.Decide.{decLt}
-use lib.ListN.{length, set, length-set, List·getD-append, List·getD-eq-default}
-use lib.Seq.{getD-set-other}
-use Rattle.lone.specs.Forest.{Machine, State, Entry, ringless, openRing, closedRing, Answer, ok, full, outOfTurn, Forest, isOk, newEntry, at, stepState, carryOut, answer, stepForest, runForest}
+use lib.ListN.{length, List·getD-eq-default}
+use Rattle.lone.specs.Forest.{Machine, State, Entry, ringless, openRing, closedRing, Answer, ok, full, outOfTurn, Forest, isOk, at, answer, stepForest, runForest}
 use Rattle.lone.specs.Order.{NoneOrDone, AllDone, Exactly, Fits, NeverEnds}
 use Rattle.lone.specs.Finish.{stepsBy, stepsOn, finishFrom}
-use Rattle.lone.proofs.Stepping.{Accepted, Refused, view, exactly}
-use Rattle.lone.proofs.Alone.{at-closed}
+use Rattle.lone.proofs.Stepping.{at-closed, step-other, Accepted, Refused, view, exactly}
 use Rattle.lone.proofs.Ending.{run-append, run-within, fits-of-end, never-of-full}
-
--- a step on record i leaves the others
-at-carry : {S X : Type 0} (M : Machine S) (F : Forest S X) (i j : ℕ) (q : Option ℕ) (L : State S) → j < i → j < length (F .entries) → at (carryOut M F i q L .entries) j ≡ at (F .entries) j
-at-carry M F i j q L h l = List·getD-append (set (F .entries) i (closedRing q (stepState M L))) (newEntry i (M .cuts (L .now))) ringless j (rw (length-set (F .entries) i (closedRing q (stepState M L))) l)
-    ∙ getD-set-other (F .entries) i j (closedRing q (stepState M L)) ringless (λ e. omega arith)
 
 module _ {S X : Type 0} (M : Machine S) (lp lr : ℕ) where
   -- a list of steps with what it leaves
@@ -58,7 +51,7 @@ module _ {S X : Type 0} (M : Machine S) (lp lr : ℕ) where
     step-below F i j h d = go (view M lp lr F i)
       where
         go : Accepted M lp lr F i ⊎ Refused M lp lr F i → NoneOrDone M (at (stepForest M lp lr F i .entries) j)
-        go (inl y) = rw (y .becomes) (rw (at-carry M F i j (y .who) (y .state) (omega arith) (omega (arith, at-closed (F .entries) i (y .here)))) d)
+        go (inl y) = rw (y .becomes) (rw (step-other M (F .entries) i (y .who) (y .state) j (omega (arith, at-closed (F .entries) i (y .here))) (λ e. omega arith)) d)
         go (inr z) = rw (z .becomes) d
 
     steps-below : (f : ℕ) (F : Forest S X) (i j : ℕ) (a : Answer) → j < i → NoneOrDone M (at (F .entries) j) → NoneOrDone M (at (stepsBy M lp lr f a F i .entries) j)

@@ -7,18 +7,16 @@ use mathlib.Core.Bool.{Bool, true, false, true≢false}
 use Prim.Native.Nat.{ℕ, zero, suc, _+_, _-_, _*_, _≤_, _<_}
 use native.Mathlib.Nat.{suc-mul, not-suc-le-zero}
 use native.Mathlib.Omega.{arith}
-use lib.ListN.{length, set, take, length-set, List·getD-append}
-use lib.Seq.{getD-set-same}
+use lib.ListN.{length, take}
 use Rattle.rings.specs.Progress.{Ring, atStart}
 use Rattle.lone.specs.Ring.{Act, stay, discard, dropPoint, moveOn, toFirst, double, cut, offcut, takesPoints}
 use Rattle.lone.specs.Lone.{Geo, actOf, stepRing, offcutRing, takesRing}
-use Rattle.lone.specs.Forest.{Machine, State, Entry, ringless, openRing, closedRing, Answer, ok, Forest, isOk, newEntry, at, Every, stepState, carryOut, answer, stepForest}
+use Rattle.lone.specs.Forest.{Machine, State, Entry, ringless, openRing, closedRing, Answer, ok, Forest, isOk, at, Every, stepState, carryOut, answer, stepForest}
 use Rattle.lone.specs.Order.{machine, AllDone, Fits, NeverEnds}
 use Rattle.lone.specs.Kept.{OnRing, HasStart, Held}
 use Rattle.lone.specs.Measure.{weight, heaviest, measure}
 use Rattle.lone.specs.Finish.{finishFrom, finishForest, enough}
-use Rattle.lone.proofs.Stepping.{Accepted, Refused, view}
-use Rattle.lone.proofs.Alone.{at-closed}
+use Rattle.lone.proofs.Stepping.{at-closed, step-here, Accepted, Refused, view}
 use Rattle.lone.proofs.Every.{every-carry}
 use Rattle.lone.proofs.Keeping.{on-step, start-kept, offcut-starts}
 use Rattle.lone.proofs.Measuring.{weight-le, step-grows, measure-falls}
@@ -94,10 +92,6 @@ module _ {P X : Type 0} (G : Geo P) (lp lr : ℕ) where
       go (inl y) = rw (y .becomes) (kept-carry F i y v)
       go (inr z) = rw (z .becomes) v
 
-  at-here : (F : Forest (Ring P) X) (i : ℕ) (q : Option ℕ) (L : State (Ring P)) → i < length (F .entries) → at (carryOut (machine G) F i q L .entries) i ≡ closedRing q (stepState (machine G) L)
-  at-here F i q L h = List·getD-append (set (F .entries) i (closedRing q (stepState (machine G) L))) (newEntry i (machine G .cuts (L .now))) ringless i (rw (length-set (F .entries) i (closedRing q (stepState (machine G) L))) h)
-      ∙ getD-set-same (F .entries) i (closedRing q (stepState (machine G) L)) ringless h
-
   falls : (F : Forest (Ring P) X) (i : ℕ) → HeldIn F → answer (machine G) lp lr F i ≡ ok → left (stepForest (machine G) lp lr F i) i < left F i
   unfolding left leftOf
   falls F i v e = go (view (machine G) lp lr F i)
@@ -106,7 +100,7 @@ module _ {P X : Type 0} (G : Geo P) (lp lr : ℕ) where
       less y w =
           let R : Ring P = y .state .now in
           let k : ℕ = machine G .takes R in
-          let here : at (carryOut (machine G) F i (y .who) (y .state) .entries) i ≡ closedRing (y .who) (stepState (machine G) (y .state)) = at-here F i (y .who) (y .state) (at-closed (F .entries) i (y .here)) in
+          let here : at (carryOut (machine G) F i (y .who) (y .state) .entries) i ≡ closedRing (y .who) (stepState (machine G) (y .state)) = step-here (machine G) (F .entries) i (y .who) (y .state) (at-closed (F .entries) i (y .here)) in
           let was : Held (F .points) R = (rw (y .here) at (v .every i)) in
           let now : Held (F .points + k) (machine G .next R) = (rw here at (w .every i)) in
           let free : lp - (F .points + k) + k ≡ lp - F .points = omega (arith, y .fits-points) in

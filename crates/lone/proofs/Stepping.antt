@@ -1,17 +1,42 @@
--- A step of the forest seen from outside: it was carried out, or it was refused and nothing changed; and its answer, exactly.
+-- A step of the forest: what it leaves of the records; that it was carried out, or refused and nothing changed; and its answer, exactly.
 use mathlib.Core.Path.{_≡_, refl, sym, ap, _∙_}
-use mathlib.Core.Logic.{_⊎_, inl, inr, _↔_}
-use mathlib.Core.List.{List}
-use mathlib.Core.Option.{Option}
+use mathlib.Core.Logic.{_⊎_, inl, inr, _↔_, _≢_}
+use mathlib.Core.List.{List, [], _∷_, _++_}
+use mathlib.Core.Option.{Option, none, some}
 use mathlib.Core.Bool.{Bool, true, false, cond, _&&_, true≢false}
-use Prim.Native.Nat.{ℕ, _+_, _≤_, _<_}
+use Prim.Native.Nat.{ℕ, zero, suc, _+_, _≤_, _<_}
 use native.Mathlib.Omega.{arith}
-use lib.ListN.{length}
+use lib.ListN.{length, set, length-append, length-set, List·getD-append}
+use lib.Seq.{getD-set-same, getD-set-other}
 use lib.Dec.{leb}
 use borrow.Author.Tests.{leb-true, leb-false}
 use Rattle.lone.specs.Forest.{Machine, State, toList, Entry, ringless, openRing, closedRing, Answer, ok, full, outOfTurn, Forest, isOk}
-use Rattle.lone.specs.Forest.{at, carryOut, answerTo, answer, stepForest}
+use Rattle.lone.specs.Forest.{newEntry, at, stepState, stepEntries, carryOut, answerTo, answer, stepForest}
 use Rattle.lone.specs.Order.{NoneOrDone, TakesPast, Exactly}
+
+module _ {S X : Type 0} where
+  pub at-closed : (es : List (Entry S X)) (i : ℕ) {q : Option ℕ} {L : State S} → at es i ≡ closedRing q L → i < length es
+  at-closed [] i h = let z : _≡_ {A = ℕ} 0 1 = cc in absurd (omega arith)
+  at-closed (e ∷ es) zero h = omega arith
+  at-closed (e ∷ es) (suc i) h = omega (arith, at-closed es i h)
+
+  -- the records after a step on record i
+  module _ (M : Machine S) (es : List (Entry S X)) (i : ℕ) (q : Option ℕ) (L : State S) where
+    length-new : (o : Option S) → length (newEntry {X = X} i o) ≡ length (toList o)
+    length-new none = refl
+    length-new (some s) = refl
+
+    pub step-length : length (stepEntries M es i q L) ≡ length es + length (toList (M .cuts (L .now)))
+    step-length = length-append (set es i (closedRing q (stepState M L))) (newEntry i (M .cuts (L .now))) ∙ cc (length-set es i (closedRing q (stepState M L)), length-new (M .cuts (L .now)))
+
+    step-old : (j : ℕ) → j < length es → at (stepEntries M es i q L) j ≡ at (set es i (closedRing q (stepState M L))) j
+    step-old j h = List·getD-append (set es i (closedRing q (stepState M L))) (newEntry i (M .cuts (L .now))) ringless j (rw (length-set es i (closedRing q (stepState M L))) h)
+
+    pub step-here : i < length es → at (stepEntries M es i q L) i ≡ closedRing q (stepState M L)
+    step-here h = step-old i h ∙ getD-set-same es i (closedRing q (stepState M L)) ringless h
+
+    pub step-other : (j : ℕ) → j < length es → j ≢ i → at (stepEntries M es i q L) j ≡ at es j
+    step-other j h n = step-old j h ∙ getD-set-other es i j (closedRing q (stepState M L)) ringless n
 
 module _ {S X : Type 0} (M : Machine S) (lp lr : ℕ) where
   pub record Accepted (F : Forest S X) (i : ℕ) : Type 0 where

@@ -135,9 +135,13 @@ module _ {S X : Type 0} (M : Machine S) where
   stepsEntry n (openRing x) = openRing x
   stepsEntry n (closedRing q L) = closedRing q (stepsState M n L)
 
+  -- the records after a step on record i, of the machine there; what is cut off comes last
+  abbrev pub stepEntries : List (Entry S X) → ℕ → Option ℕ → State S → List (Entry S X)
+  stepEntries es i q L = set es i (closedRing q (stepState M L)) ++ newEntry i (M .cuts (L .now))
+
   -- the step on record i, of the machine there, once it is not refused
   abbrev pub carryOut : Forest S X → ℕ → Option ℕ → State S → Forest S X
-  carryOut F i q L = record { entries = set (F .entries) i (closedRing q (stepState M L)) ++ newEntry i (M .cuts (L .now)); points = F .points + M .takes (L .now) }
+  carryOut F i q L = record { entries = stepEntries (F .entries) i q L; points = F .points + M .takes (L .now) }
 
   -- the limits: points and records
   module _ (lp lr : ℕ) where
