@@ -1,15 +1,15 @@
 -- An act commutes with a map of the elements, reads only the elements that it takes, and puts no point on two rings: so a step on a ring of
 -- indices has the lone ring's step as its values.
-use mathlib.Core.Path.{_≡_, refl, sym, ap, _∙_}
-use mathlib.Core.List.{List, [], _∷_, _++_, map, map-append}
+use mathlib.Core.Path.{_≡_, refl, ap, _∙_}
+use mathlib.Core.List.{List, [], _∷_, map-append}
 use mathlib.Core.Option.{Option, none, some}
 use mathlib.Core.Bool.{Bool, true, false, cond}
-use Prim.Native.Nat.{ℕ, zero, suc, _+_, _≤_}
+use Prim.Native.Nat.{ℕ, _+_, _≤_}
 use native.Mathlib.Omega.{arith}
-use lib.ListN.{length, take, length-map}
-use Rattle.rings.specs.Circle.{turn, spin, back, rest, cutCircle, ahead, omap}
+use lib.ListN.{take, length-map}
+use Rattle.rings.specs.Circle.{back, rest, cutCircle, omap}
 use Rattle.rings.specs.Count.{one, occ}
-use Rattle.rings.specs.Progress.{Ring, atStart, tidy, mapRing}
+use Rattle.rings.specs.Progress.{Ring, tidy, mapRing}
 use Rattle.rings.proofs.Counting.{sumBy-append, occ-turn, occ-spin, occ-rest, occ-last}
 use Rattle.rings.proofs.Mapping.{map-turn, map-spin, map-back, map-rest, map-take2, map-cutCircle, tidy-map}
 use Rattle.lone.specs.Ring.{Act, stay, discard, dropPoint, moveOn, toFirst, double, cut, apply, offcut, takesPoints, ringsNew, offcutsNew}

@@ -1,21 +1,21 @@
 -- Independence: after every list of steps each record of the forest is where its lone machine is, alone. By induction over the list.
 use mathlib.Core.Path.{_≡_, refl, sym, ap, _∙_, subst, fun-ext}
 use mathlib.Core.Logic.{_⊎_, inl, inr, _≢_}
-use mathlib.Core.List.{List, [], _∷_, _++_, map, map-append, append-nil}
+use mathlib.Core.List.{List, [], _∷_, _++_, map, map-append}
 use mathlib.Core.Option.{Option, none, some}
-use mathlib.Core.Bool.{Bool, true, false, cond}
+use mathlib.Core.Bool.{false, cond}
 use Prim.Native.Nat.{ℕ, zero, suc, _+_, _≤_, _<_}
-use native.Mathlib.Nat.{add-zero, zero-add, add-assoc, not-suc-le-zero, le-of-suc-le-suc, le-of-lt}
+use native.Mathlib.Nat.{add-zero, zero-add, add-assoc, not-suc-le-zero, le-of-lt}
 use native.Mathlib.Numerals.{add-one}
 use native.Mathlib.Omega.{arith}
 use native.Mathlib.Decide.{decLt, ℕ-discrete}
-use lib.ListN.{length, getD, take, set, getElem?, length-append, length-set, length-map, List·getD-append, List·getD-eq-default}
-use lib.Seq.{take-all, getD-set-same, getD-set-other, getD-at, map-set-same, take-append-le}
+use lib.ListN.{length, set, getElem?, length-append, length-set, length-map}
+use lib.Seq.{take-all, getD-set-other, getD-at, map-set-same, take-append-le}
 use lib.Dec.{eqb}
-use borrow.Author.Tests.{eqb-true, eqb-false, eq-eqb, ne-eqb}
+use borrow.Author.Tests.{eq-eqb, ne-eqb}
 use Rattle.rings.specs.Count.{sumBy}
 use Rattle.rings.proofs.Counting.{sumBy-append, sumBy-set}
-use Rattle.lone.specs.Forest.{Machine, State, initial, toList, Entry, ringless, openRing, closedRing, Opened, leftRingless, leftOpen, leftClosed, Answer, Forest, names, naming, isOk}
+use Rattle.lone.specs.Forest.{Machine, State, initial, toList, Entry, ringless, openRing, closedRing, Opened, leftRingless, leftOpen, leftClosed, Forest, names, naming, isOk}
 use Rattle.lone.specs.Forest.{enter, opening, newEntry, at, OfClosed, cutFrom, offcutsOf, takenBy, rank, allTaken, allCut, stepState, stepsState, stepsEntry, stepEntries, carryOut, answerTo, answer, stepForest, runForest, accepted}
 use Rattle.lone.specs.Order.{IsOffcut, Alone, Exactly, Independent}
 use Rattle.lone.proofs.Stepping.{step-length, step-here, step-other, Accepted, Refused, view, exactly}

@@ -1,22 +1,17 @@
 -- A forest that some list ends: then no step after any list is refused for want of places, and every list can be carried on to the end.
-use mathlib.Core.Path.{_≡_, refl, sym, ap, _∙_, subst}
+use mathlib.Core.Path.{_≡_, refl, sym, ap, _∙_}
 use mathlib.Core.Logic.{_⊎_, inl, inr, _≢_}
-use mathlib.Core.List.{List, [], _∷_, _++_, map, append-nil}
-use mathlib.Core.Option.{Option, none, some}
-use mathlib.Core.Bool.{Bool, true, false, cond, _&&_}
-use Prim.Native.Nat.{ℕ, zero, suc, _+_, _≤_, _<_}
-use native.Mathlib.Nat.{not-suc-le-zero, le-of-suc-le-suc, le-trans}
+use mathlib.Core.List.{List, [], _∷_, _++_}
+use mathlib.Core.Option.{Option}
+use mathlib.Core.Bool.{Bool, true, false}
+use Prim.Native.Nat.{ℕ, zero, suc, _+_, _≤_}
 use native.Mathlib.Omega.{arith}
-use lib.ListN.{length, getD, set, length-set, length-append}
-use lib.Dec.{leb}
-use borrow.Author.Tests.{le-leb, leb-true, leb-false}
-use Rattle.rings.specs.Count.{sumBy}
-use Rattle.rings.proofs.Counting.{sumBy-append, sumBy-set}
-use Rattle.lone.specs.Forest.{Machine, State, initial, toList, Entry, ringless, openRing, closedRing, Opened, Answer, ok, full, outOfTurn, Forest, isOk}
-use Rattle.lone.specs.Forest.{opening, newEntry, at, stepState, stepEntries, carryOut, answerTo, answer, stepForest, runForest}
+use lib.ListN.{length}
+use borrow.Author.Tests.{le-leb}
+use Rattle.lone.specs.Forest.{Machine, State, toList, Entry, ringless, openRing, closedRing, ok, full, outOfTurn, Forest, isOk}
+use Rattle.lone.specs.Forest.{at, stepEntries, carryOut, answer, stepForest, runForest}
 use Rattle.lone.specs.Order.{NoneOrDone, AllDone, Fits, NeverEnds}
 use Rattle.lone.proofs.Stepping.{step-length, Accepted, Refused, view}
-use Rattle.lone.proofs.Alone.{at-closed}
 use Rattle.lone.proofs.Costs.{Costs, AfterStep, cost-after, cost-before, done-costs, costs-one}
 
 module _ {S X : Type 0} where

@@ -1,22 +1,22 @@
 -- The weight falls with every step that takes no point, and such a step cuts nothing off; so the rings of a forest end or never do.
-use mathlib.Core.Path.{_≡_, refl, sym, ap, _∙_, subst}
+use mathlib.Core.Path.{_≡_, refl, ap}
 use mathlib.Core.Logic.{_⊎_}
-use mathlib.Core.List.{List, [], _∷_, _++_, map}
+use mathlib.Core.List.{List, [], _∷_, map}
 use mathlib.Core.Option.{Option, none, some}
 use mathlib.Core.Bool.{Bool, true, false, cond, _||_, true≢false}
 use Prim.Native.Nat.{ℕ, zero, suc, _+_, _≤_, _<_}
 use native.Mathlib.Omega.{arith}
 use lib.ListN.{length, length-map}
-use Rattle.rings.specs.Circle.{turn, spin, lastOf, initOf, back, cutCircle, cutStart, ahead, omap}
+use Rattle.rings.specs.Circle.{back, cutCircle, cutStart, ahead, omap}
 use Rattle.rings.specs.Place.{isHere}
 use Rattle.rings.specs.Progress.{Due, validity, removal, triangle, split, done, Ring, tidyAt, tidy}
 use Rattle.rings.proofs.Circles.{length-turn, length-spin, length-initOf}
-use Rattle.lone.specs.Ring.{Act, stay, discard, dropPoint, moveOn, toFirst, double, cut, apply, offcut, takesPoints}
+use Rattle.lone.specs.Ring.{Act, discard, dropPoint, moveOn, toFirst, cut, apply, offcut, takesPoints}
 use Rattle.lone.specs.Lone.{Geo, isDone, isZero, decide, actOf, stepRing, offcutRing, takesRing}
-use Rattle.lone.specs.Forest.{Machine, Opened, leftRingless, leftOpen, leftClosed, opening, enter, Every, runForest, accepted}
+use Rattle.lone.specs.Forest.{Opened, opening, enter, Every, runForest, accepted}
 use Rattle.lone.specs.Order.{machine, Independent, Fits, NeverEnds}
 use Rattle.lone.specs.Kept.{HasStart}
-use Rattle.lone.specs.Measure.{walkLeft, startLeft, rounds, weigh, weight}
+use Rattle.lone.specs.Measure.{walkLeft, rounds, weigh, weight}
 use Rattle.lone.proofs.Alone.{independent}
 use Rattle.lone.proofs.Dichotomy.{dichotomy}
 use Rattle.lone.proofs.Turning.{validity-cases, removal-cases, triangle-cases, split-cases}

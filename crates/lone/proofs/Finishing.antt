@@ -1,16 +1,14 @@
 -- Finishing in one call is a list of steps, and it decides: either all are done after it, or no list of steps gets so far.
-use mathlib.Core.Path.{_≡_, refl, sym, ap, _∙_, subst}
+use mathlib.Core.Path.{_≡_, refl, sym, _∙_, subst}
 use mathlib.Core.Logic.{_⊎_, inl, inr, _≢_}
 use mathlib.Core.List.{List, [], _∷_, _++_}
-use mathlib.Core.Option.{Option, none, some}
-use mathlib.Core.Bool.{Bool, true, false, true≢false}
-use Prim.Native.Nat.{ℕ, zero, suc, _+_, _*_, _≤_, _<_}
+use Prim.Native.Nat.{ℕ, zero, suc, _+_, _≤_, _<_}
 use native.Mathlib.Nat.{add-zero, add-suc, suc-add, not-suc-le-zero}
 use native.Mathlib.Omega.{arith}
 use native.Mathlib.Decide.{decLt}
 use lib.ListN.{length, List·getD-eq-default}
-use Rattle.lone.specs.Forest.{Machine, State, Entry, ringless, openRing, closedRing, Answer, ok, full, outOfTurn, Forest, isOk, at, answer, stepForest, runForest}
-use Rattle.lone.specs.Order.{NoneOrDone, AllDone, Exactly, Fits, NeverEnds}
+use Rattle.lone.specs.Forest.{Machine, ringless, Answer, ok, full, outOfTurn, Forest, at, answer, stepForest, runForest}
+use Rattle.lone.specs.Order.{NoneOrDone, AllDone, Fits, NeverEnds}
 use Rattle.lone.specs.Finish.{stepsBy, stepsOn, finishFrom}
 use Rattle.lone.proofs.Stepping.{at-closed, step-other, Accepted, Refused, view, exactly}
 use Rattle.lone.proofs.Ending.{run-append, run-within, fits-of-end, never-of-full}

@@ -1,8 +1,8 @@
 -- Finishing a forest of rings in one call decides: it has steps enough, since the measure falls with every one.
-use mathlib.Core.Path.{_≡_, refl, sym, ap, _∙_, subst}
+use mathlib.Core.Path.{_≡_, refl, sym, ap, _∙_}
 use mathlib.Core.Logic.{_⊎_, inl, inr}
-use mathlib.Core.List.{List, [], _∷_, _++_, map}
-use mathlib.Core.Option.{Option, none, some}
+use mathlib.Core.List.{List, [], _∷_}
+use mathlib.Core.Option.{some}
 use mathlib.Core.Bool.{Bool, true, false, true≢false}
 use Prim.Native.Nat.{ℕ, zero, suc, _+_, _-_, _*_, _≤_, _<_}
 use native.Mathlib.Nat.{suc-mul, not-suc-le-zero}
@@ -10,12 +10,12 @@ use native.Mathlib.Omega.{arith}
 use lib.ListN.{length, take}
 use Rattle.rings.specs.Progress.{Ring, atStart}
 use Rattle.lone.specs.Ring.{Act, stay, discard, dropPoint, moveOn, toFirst, double, cut, offcut, takesPoints}
-use Rattle.lone.specs.Lone.{Geo, actOf, stepRing, offcutRing, takesRing}
-use Rattle.lone.specs.Forest.{Machine, State, Entry, ringless, openRing, closedRing, Answer, ok, Forest, isOk, at, Every, stepState, carryOut, answer, stepForest}
+use Rattle.lone.specs.Lone.{Geo, actOf, offcutRing, takesRing}
+use Rattle.lone.specs.Forest.{Entry, ringless, openRing, closedRing, ok, Forest, isOk, at, Every, stepState, carryOut, answer, stepForest}
 use Rattle.lone.specs.Order.{machine, AllDone, Fits, NeverEnds}
 use Rattle.lone.specs.Kept.{OnRing, HasStart, Held}
-use Rattle.lone.specs.Measure.{weight, heaviest, measure}
-use Rattle.lone.specs.Finish.{finishFrom, finishForest, enough}
+use Rattle.lone.specs.Measure.{heaviest, measure}
+use Rattle.lone.specs.Finish.{finishForest, enough}
 use Rattle.lone.proofs.Stepping.{at-closed, step-here, Accepted, Refused, view}
 use Rattle.lone.proofs.Every.{every-carry}
 use Rattle.lone.proofs.Keeping.{on-step, start-kept, offcut-starts}

@@ -2,9 +2,9 @@
 -- has two points or at least four, and a doubling or a cut has at least four.
 use mathlib.Core.Path.{_≡_, refl, sym, ap, _∙_, subst}
 use mathlib.Core.Logic.{_⊎_, inl, inr, _≢_, _↔_}
-use mathlib.Core.List.{List, [], _∷_, _++_}
+use mathlib.Core.List.{List, [], _∷_}
 use mathlib.Core.Option.{Option, none, some}
-use mathlib.Core.Bool.{Bool, true, false, cond, _||_, true≢false}
+use mathlib.Core.Bool.{Bool, true, false, cond, true≢false}
 use Prim.Native.Nat.{ℕ, zero, suc, _+_, _≤_, _<_}
 use native.Mathlib.Nat.{not-suc-le-zero, le-of-suc-le-suc}
 use native.Mathlib.Omega.{arith}
@@ -12,14 +12,13 @@ use native.Mathlib.Numerals.{add-one}
 use lib.ListN.{length, getD, take, length-append, List·getD-append}
 use lib.Dec.{eqb}
 use borrow.Author.Tests.{eqb-false}
-use Rattle.rings.specs.Circle.{turn, spin, lastOf, initOf, back, headOr, rest, oneOrThree, cutCircle, cutStart, ahead, omap}
+use Rattle.rings.specs.Circle.{turn, spin, back, headOr, rest, oneOrThree, cutCircle, cutStart, ahead, omap}
 use Rattle.rings.specs.Count.{occ}
-use Rattle.rings.specs.Place.{isHere}
 use Rattle.rings.specs.Progress.{Due, validity, removal, triangle, split, done, Ring, atStart, tidyAt, tidy}
 use Rattle.rings.proofs.Circles.{length-turn, length-spin, length-initOf}
 use Rattle.rings.proofs.Counting.{one-here}
 use Rattle.lone.specs.Ring.{Act, stay, discard, dropPoint, moveOn, toFirst, double, cut, apply, offcut}
-use Rattle.lone.specs.Lone.{Geo, isDone, isZero, isValidClosedPath, decide, actOf, stepRing, offcutRing}
+use Rattle.lone.specs.Lone.{Geo, isValidClosedPath, decide, actOf, stepRing}
 use Rattle.lone.specs.Kept.{AtMost, OnCircle, OnRing, HasStart, SplitSize, LongEnough, GeoLaws}
 use Rattle.lone.proofs.Turning.{Crosses, validity-cases, removal-cases, triangle-cases, split-cases}
 

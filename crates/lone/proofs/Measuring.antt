@@ -1,20 +1,19 @@
 -- The measure falls with every step: for a program's loop that finishes a ring in one call.
-use mathlib.Core.Path.{_≡_, refl, sym, ap, _∙_}
-use mathlib.Core.List.{List, [], _∷_, _++_}
+use mathlib.Core.Path.{_≡_, refl}
+use mathlib.Core.List.{List, [], _∷_}
 use mathlib.Core.Option.{Option, none, some}
 use mathlib.Core.Bool.{Bool, true, false}
-use Prim.Native.Nat.{ℕ, zero, suc, _+_, _*_, _≤_, _<_}
+use Prim.Native.Nat.{ℕ, zero, suc, _+_, _≤_, _<_}
 use native.Mathlib.Nat.{add-zero, add-mul, suc-mul, not-suc-le-zero, le-of-suc-le-suc}
 use native.Mathlib.Omega.{arith}
 use lib.ListN.{length, length-append}
-use Rattle.rings.specs.Circle.{rest, back, cutCircle, spin}
+use Rattle.rings.specs.Circle.{rest, back, cutCircle}
 use Rattle.rings.specs.Progress.{Due, validity, removal, triangle, split, done, Ring, tidyAt, tidy}
 use Rattle.rings.proofs.Circles.{length-turn, length-spin, length-initOf}
 use Rattle.lone.specs.Ring.{Act, stay, discard, dropPoint, moveOn, toFirst, double, cut, apply, takesPoints}
 use Rattle.lone.specs.Lone.{Geo, actOf, stepRing, takesRing}
-use Rattle.lone.specs.Forest.{Machine}
 use Rattle.lone.specs.Order.{machine}
-use Rattle.lone.specs.Kept.{AtMost, OnCircle, OnRing, HasStart}
+use Rattle.lone.specs.Kept.{OnCircle, OnRing, HasStart}
 use Rattle.lone.specs.Measure.{walkLeft, startLeft, rounds, weigh, weight, heaviest, measure}
 use Rattle.lone.proofs.Falling.{falls}
 

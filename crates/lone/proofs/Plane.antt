@@ -1,13 +1,11 @@
 -- The laws of the real geometry that the lone ring leans on.
-use mathlib.Core.Path.{_≡_, refl, sym, ap, _∙_}
+use mathlib.Core.Path.{_≡_, refl, ap, _∙_}
 use mathlib.Core.Bool.{Bool, true, false, not, _&&_}
 use lib.IntN.{ℤ, pos, _-ℤ_, _*ℤ_, +ℤ-invr, *ℤ-comm}
-use lib.Signed.{ltZ}
 use Rattle.exact.specs.Num.{eqZ}
 use Rattle.exact.proofs.Size.{eq-eqZ}
 use Rattle.geometry.specs.declared.Point.{Point}
-use Rattle.geometry.specs.Plane.{segmentsIntersect, strictlyWithin, divisor, alongFirst, alongSecond}
-use Rattle.lone.specs.Lone.{Geo}
+use Rattle.geometry.specs.Plane.{segmentsIntersect, strictlyWithin, divisor, alongFirst}
 use Rattle.lone.specs.Kept.{GeoLaws}
 use Rattle.lone.specs.Plane.{plane}
 

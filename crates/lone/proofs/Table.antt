@@ -1,15 +1,15 @@
 -- Independence as one equation: the forest after a list of steps is the table made from the lone rings alone.
-use mathlib.Core.Path.{_≡_, refl, sym, ap, _∙_, subst}
+use mathlib.Core.Path.{_≡_, refl, sym, ap, _∙_}
 use mathlib.Core.List.{List, [], _∷_, _++_, map}
 use mathlib.Core.Option.{Option, none, some}
 use Prim.Native.Nat.{ℕ, zero, suc, _+_, _-_, _≤_, _<_}
 use native.Mathlib.Nat.{add-suc, add-zero, zero-add, suc-add, le-of-lt, not-suc-le-zero, le-of-suc-le-suc}
 use native.Mathlib.Omega.{arith}
-use lib.ListN.{length, getD, take, drop, getElem?, length-map, length-take, drop-of-length-le, List·getD-map}
+use lib.ListN.{length, take, drop, getElem?, length-map, drop-of-length-le, List·getD-map}
 use lib.Seq.{take-all, take-suc, drop-cons, getD-take, length-take-le, ext-getD}
-use Rattle.lone.specs.Forest.{Machine, State, initial, Entry, ringless, openRing, closedRing, Opened, Forest, naming, enter, opening, at, cutFrom, offcutsOf, rank, stepsState, stepsEntry, runForest, accepted}
+use Rattle.lone.specs.Forest.{Machine, Entry, ringless, Opened, naming, enter, opening, at, cutFrom, offcutsOf, stepsEntry, runForest, accepted}
 use Rattle.lone.specs.Order.{IsOffcut, Alone}
-use Rattle.lone.specs.Table.{openedEntries, offcutEntry, nextEntry, addOffcuts, loneTable}
+use Rattle.lone.specs.Table.{openedEntries, nextEntry, addOffcuts, loneTable}
 use Rattle.lone.proofs.Alone.{independent}
 
 map-take : {A B : Type 0} (f : A → B) (k : ℕ) (l : List A) → map f (take k l) ≡ take k (map f l)

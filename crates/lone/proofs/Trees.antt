@@ -1,22 +1,19 @@
 -- Two lists of steps that finish everything end in the same rings, up to numbering: the table holds what the lone rings end in, and that is one.
 use mathlib.Core.Path.{_≡_, refl, sym, ap, _∙_, subst}
-use mathlib.Core.Logic.{_⊎_, inl, inr, _≢_}
-use mathlib.Core.List.{List, [], _∷_, _++_, map}
+use mathlib.Core.List.{List, [], _∷_, map}
 use mathlib.Core.Option.{Option, none, some}
-use mathlib.Core.Bool.{Bool, true, false, cond, true≢false}
+use mathlib.Core.Bool.{Bool, true, false, true≢false}
 use Prim.Native.Nat.{ℕ, zero, suc, _+_, _≤_, _<_}
-use native.Mathlib.Nat.{add-zero, add-suc, suc-add, zero-add, not-suc-le-zero, le-of-suc-le-suc}
+use native.Mathlib.Nat.{add-zero, add-suc, suc-add, zero-add}
 use native.Mathlib.Omega.{arith}
-use native.Mathlib.Decide.{decLt, ℕ-discrete}
+use native.Mathlib.Decide.{decLt}
 use lib.ListN.{length, getD, take, drop, getElem?, length-map, drop-of-length-le, List·getD-map}
 use lib.Seq.{take-all, take-suc, drop-cons}
-use lib.Dec.{eqb}
 use borrow.Author.Tests.{eqb-true}
-use Rattle.rings.specs.Count.{sumBy}
 use Rattle.rings.proofs.Counting.{sumBy-append}
-use Rattle.lone.specs.Forest.{Machine, State, initial, Entry, ringless, openRing, closedRing, Opened, leftRingless, leftOpen, leftClosed, Forest, isNamed, names, naming}
-use Rattle.lone.specs.Forest.{enter, opening, at, OfClosed, cutFrom, offcutsOf, rank, stepsState, stepsEntry, runForest, accepted}
-use Rattle.lone.specs.Order.{IsOffcut, Alone, NoneOrDone, AllDone}
+use Rattle.lone.specs.Forest.{Machine, initial, Entry, ringless, closedRing, Opened, leftRingless, leftOpen, leftClosed, isNamed, names, naming}
+use Rattle.lone.specs.Forest.{enter, opening, at, cutFrom, offcutsOf, rank, stepsState, stepsEntry, runForest}
+use Rattle.lone.specs.Order.{IsOffcut, Alone, AllDone}
 use Rattle.lone.specs.Tree.{Trees, nothing, ended, Finishes, no-more, and, offcutsFrom, Holds, seeds, roots}
 use Rattle.lone.proofs.Alone.{at-closed, independent}
 

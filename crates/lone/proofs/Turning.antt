@@ -3,12 +3,12 @@ use mathlib.Core.Path.{_≡_, refl}
 use mathlib.Core.List.{List, [], _∷_}
 use mathlib.Core.Option.{Option}
 use mathlib.Core.Bool.{Bool, true, false, cond, not, _||_}
-use Prim.Native.Nat.{ℕ, zero, suc}
+use Prim.Native.Nat.{ℕ, suc}
 use lib.ListN.{length}
 use Rattle.rings.specs.Circle.{spin, lastOf, back, headOr, oneOrThree, cutCircle, ahead, omap}
 use Rattle.rings.specs.Place.{isHere}
-use Rattle.rings.specs.Progress.{Due, validity, removal, triangle, split, done, Ring}
-use Rattle.lone.specs.Ring.{Act, stay, discard, dropPoint, moveOn, toFirst, double, cut}
+use Rattle.rings.specs.Progress.{validity, removal, triangle, split, done}
+use Rattle.lone.specs.Ring.{Act, discard, dropPoint, moveOn, toFirst, double, cut}
 use Rattle.lone.specs.Lone.{Geo, isZero, isValidClosedPath, removalTurn, tooSmall, keepsOffcut, doSplitOp, splitTurn, decide}
 
 -- the crossing that a doubling or a cut has tested, on the circle x ∷ xs

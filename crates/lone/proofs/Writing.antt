@@ -1,5 +1,5 @@
 -- The test that all are done decides it; and after a list of steps, writing out gives the lone rings' outlines.
-use mathlib.Core.Path.{_≡_, refl, sym, ap, _∙_}
+use mathlib.Core.Path.{_≡_, refl, sym, ap}
 use mathlib.Core.Logic.{_↔_}
 use mathlib.Core.List.{List, [], _∷_, map}
 use mathlib.Core.Bool.{Bool, true, false, _&&_, true≢false}
@@ -7,7 +7,7 @@ use Prim.Native.Nat.{ℕ, zero, suc}
 use lib.ListN.{length, drop}
 use Rattle.rings.specs.Progress.{Ring}
 use Rattle.lone.specs.Lone.{Geo}
-use Rattle.lone.specs.Forest.{Machine, State, Entry, ringless, openRing, closedRing, Opened, opening, at, cutFrom, runForest, accepted}
+use Rattle.lone.specs.Forest.{Machine, Entry, ringless, openRing, closedRing, Opened, opening, at, cutFrom, runForest, accepted}
 use Rattle.lone.specs.Order.{machine, NoneOrDone, AllDone}
 use Rattle.lone.specs.Table.{loneTable}
 use Rattle.lone.specs.Writing.{isAllDone, closedPaths, openPaths}

@@ -1,6 +1,5 @@
 -- Finishing in one call: every ring stepped until it is done, in rising record order, offcuts as they come.
-use mathlib.Core.List.{List}
-use Prim.Native.Nat.{ℕ, zero, suc, _+_, _*_}
+use Prim.Native.Nat.{ℕ, zero, suc, _*_}
 use Rattle.lone.specs.Forest.{Machine, Answer, ok, full, outOfTurn, Forest, answer, stepForest}
 use Rattle.lone.specs.Measure.{heaviest}
 

@@ -1,14 +1,14 @@
 -- What demand 3 says of the forest: after every list of steps each record is where its lone ring is alone, counts and answers included.
 use mathlib.Core.Path.{_≡_}
 use mathlib.Core.Logic.{_⊎_, _↔_, _≢_}
-use mathlib.Core.List.{List, [], _∷_, _++_, map}
-use mathlib.Core.Option.{Option, none, some}
-use mathlib.Core.Bool.{Bool, true, false}
+use mathlib.Core.List.{List, _++_, map}
+use mathlib.Core.Option.{some}
+use mathlib.Core.Bool.{true, false}
 use Prim.Native.Nat.{ℕ, _+_, _≤_, _<_}
 use lib.ListN.{length, getElem?}
 use Rattle.rings.specs.Progress.{Ring}
 use Rattle.lone.specs.Lone.{Geo, isDone, stepRing, offcutRing, takesRing}
-use Rattle.lone.specs.Forest.{Machine, State, initial, toList, Entry, ringless, openRing, closedRing, Opened, Answer, ok, full, outOfTurn, Forest, naming}
+use Rattle.lone.specs.Forest.{Machine, initial, toList, Entry, ringless, openRing, closedRing, Opened, Answer, ok, full, outOfTurn, Forest, naming}
 use Rattle.lone.specs.Forest.{enter, at, OfClosed, cutFrom, offcutsOf, rank, allTaken, allCut, stepsState, stepsEntry, answer, answerTo, runForest}
 
 -- the lone ring as a machine of the forest

@@ -1,12 +1,12 @@
 -- What a step does to a ring, over any kind of element: the acts, the ring after an act, its offcut, and the places that it takes.
 -- The ring itself (`Ring`: the circle from the present place on, where the first point and the loop's start are, the step due) is of crate rings.
-use mathlib.Core.List.{List, [], _∷_, _++_}
+use mathlib.Core.List.{[], _∷_, _++_}
 use mathlib.Core.Option.{Option, none, some}
 use mathlib.Core.Bool.{Bool, true, false}
-use Prim.Native.Nat.{ℕ, zero, suc}
+use Prim.Native.Nat.{ℕ}
 use lib.ListN.{length, take}
 use Rattle.rings.specs.Circle.{turn, spin, back, rest, cutCircle, cutStart, ahead, omap}
-use Rattle.rings.specs.Progress.{Due, validity, removal, triangle, split, done, Ring, gone, atStart}
+use Rattle.rings.specs.Progress.{Due, removal, Ring, gone, atStart}
 
 -- what a step does; W is the value of a point newly made
 pub data Act (W : Type 0) : Type 0 where

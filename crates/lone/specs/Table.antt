@@ -2,7 +2,7 @@
 -- record each later one was cut from. Independence says that the forest after a list of steps is this table.
 use mathlib.Core.List.{List, [], _∷_, _++_, map}
 use mathlib.Core.Option.{Option, none, some}
-use Prim.Native.Nat.{ℕ, zero, suc}
+use Prim.Native.Nat.{ℕ, suc}
 use lib.ListN.{length, getElem?}
 use Rattle.lone.specs.Forest.{Machine, initial, Entry, ringless, closedRing, Opened, naming, enter, at, cutFrom, offcutsOf, stepsState, stepsEntry}
 

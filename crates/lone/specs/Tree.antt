@@ -3,8 +3,8 @@
 use mathlib.Core.Path.{_≡_}
 use mathlib.Core.List.{List, [], _∷_, map}
 use mathlib.Core.Option.{Option}
-use mathlib.Core.Bool.{Bool, true, false, cond}
-use Prim.Native.Nat.{ℕ, zero, suc, _<_}
+use mathlib.Core.Bool.{true, false, cond}
+use Prim.Native.Nat.{ℕ, suc, _<_}
 use Rattle.lone.specs.Forest.{Machine, State, initial, Entry, closedRing, Opened, leftRingless, leftOpen, leftClosed, at, cutFrom, isNamed, stepsState}
 
 -- a list of done machines, each with what its offcuts ended in

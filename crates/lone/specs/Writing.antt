@@ -1,6 +1,6 @@
 -- What writing out gives of a forest: the closed rings' paths, then the open ones', records ascending; and the test that all are done.
 use mathlib.Core.List.{List, [], _∷_, _++_}
-use mathlib.Core.Bool.{Bool, true, false, _&&_}
+use mathlib.Core.Bool.{Bool, true, _&&_}
 use Rattle.rings.specs.Progress.{Ring}
 use Rattle.lone.specs.Lone.{Geo}
 use Rattle.lone.specs.Path.{buildPath64FromOutpt, outline}
