@@ -13,11 +13,10 @@ use Rattle.rings.specs.Progress.{Due, validity, removal, triangle, split, done,
 use Rattle.rings.proofs.Circles.{length-turn, length-spin, length-initOf}
 use Rattle.lone.specs.Ring.{Act, discard, dropPoint, moveOn, toFirst, cut, apply, offcut, takesPoints}
 use Rattle.lone.specs.Lone.{Geo, isDone, isZero, decide, actOf, stepRing, offcutRing, takesRing}
-use Rattle.lone.specs.Forest.{Opened, opening, enter, Every, runForest, accepted}
-use Rattle.lone.specs.Order.{machine, Independent, Fits, NeverEnds}
+use Rattle.lone.specs.Forest.{Opened, opening, enter, Every}
+use Rattle.lone.specs.Order.{machine, Fits, NeverEnds}
 use Rattle.lone.specs.Kept.{HasStart}
 use Rattle.lone.specs.Measure.{walkLeft, rounds, weigh, weight}
-use Rattle.lone.proofs.Alone.{independent}
 use Rattle.lone.proofs.Dichotomy.{dichotomy}
 use Rattle.lone.proofs.Turning.{validity-cases, removal-cases, triangle-cases, split-cases}
 use Rattle.lone.proofs.Keeping.{start-kept, offcut-starts}
@@ -118,10 +117,6 @@ module _ {P : Type 0} where
 
     -- ---- of rings: from what opening left, the limits the job's
     module _ {X : Type 0} (lp lr : ℕ) (os : List (Opened (Ring P) X)) (p₀ : ℕ) where
-      -- after every list of steps
-      pub rings-independent : (s : List ℕ) → Independent (machine G) lp lr os p₀ (runForest (machine G) lp lr (opening os p₀) s) (accepted (machine G) lp lr (opening os p₀) s)
-      rings-independent s = independent (machine G) lp lr os p₀ s
-
       offcut-start : (R O : Ring P) → machine G .cuts R ≡ some O → HasStart (O .due) (O .start)
       unfolding machine offcutRing
       offcut-start R O h = offcut-starts (λ (v : P). v) (λ (T : Ring P). HasStart (T .due) (T .start)) (λ c. tt) (actOf G R) R O h

@@ -1,17 +1,12 @@
--- The test that all are done decides it; and after a list of steps, writing out gives the lone rings' outlines.
-use mathlib.Core.Path.{_≡_, refl, sym, ap}
+-- The test that all are done decides it.
+use mathlib.Core.Path.{_≡_, refl, sym}
 use mathlib.Core.Logic.{_↔_}
-use mathlib.Core.List.{List, [], _∷_, map}
+use mathlib.Core.List.{List, [], _∷_}
 use mathlib.Core.Bool.{Bool, true, false, _&&_, true≢false}
 use Prim.Native.Nat.{ℕ, zero, suc}
-use lib.ListN.{length, drop}
-use Rattle.rings.specs.Progress.{Ring}
-use Rattle.lone.specs.Lone.{Geo}
-use Rattle.lone.specs.Forest.{Machine, Entry, ringless, openRing, closedRing, Opened, opening, at, cutFrom, runForest, accepted}
-use Rattle.lone.specs.Order.{machine, NoneOrDone, AllDone}
-use Rattle.lone.specs.Table.{loneTable}
-use Rattle.lone.specs.Writing.{isAllDone, closedPaths, openPaths}
-use Rattle.lone.proofs.Table.{forest-is}
+use Rattle.lone.specs.Forest.{Machine, Entry, ringless, openRing, closedRing, at}
+use Rattle.lone.specs.Order.{NoneOrDone, AllDone}
+use Rattle.lone.specs.Writing.{isAllDone}
 
 module _ {S X : Type 0} (M : Machine S) where
   all-done : (es : List (Entry S X)) → isAllDone M es ≡ true → AllDone M es
@@ -35,18 +30,3 @@ module _ {S X : Type 0} (M : Machine S) where
 
   pub all-done-is : (es : List (Entry S X)) → (isAllDone M es ≡ true) ↔ AllDone M es
   all-done-is es = (all-done es, done-all es)
-
--- "Once all are done, writing out, unless refused with 11, gives the closed rings, records ascending, their lone rings' outlines": after every list
-module _ {P : Type 0} (G : Geo P) (rev : Bool) (lp lr : ℕ) (os : List (Opened (Ring P) (List P))) (p₀ : ℕ) (s : List ℕ) where
-  abbrev pub after : List (Entry (Ring P) (List P))
-  after = runForest (machine G) lp lr (opening os p₀) s .entries
-
-  -- the lone rings alone: from what opening left, the steps not refused on each record, and the record that each later one was cut from
-  abbrev pub alone : List (Entry (Ring P) (List P))
-  alone = loneTable (machine G) os (accepted (machine G) lp lr (opening os p₀) s) (drop (length os) (map cutFrom after))
-
-  pub writes-closed : closedPaths G rev after ≡ closedPaths G rev alone
-  writes-closed = ap (closedPaths G rev) (forest-is (machine G) lp lr os p₀ s)
-
-  pub writes-open : openPaths G rev after ≡ openPaths G rev alone
-  writes-open = ap (openPaths G rev) (forest-is (machine G) lp lr os p₀ s)
