@@ -19,6 +19,7 @@ use Rattle.lone.specs.Plane.{plane, loneRing, feed, openedRings}
 use Rattle.lone.proofs.Alone.{independent}
 use Rattle.lone.proofs.Table.{forest-is}
 use Rattle.lone.proofs.Trees.{end-of}
+use Rattle.lone.proofs.Writing.{open-kept}
 use Rattle.lone.proofs.FinishingRings.{rings-finish}
 
 -- preserve: the setting `preserve_collinear`; os: the records as opening left them; p₀: the points used then
@@ -43,8 +44,8 @@ module _ (preserve : Bool) (os : List (Opened (List Point) (List Point))) (p₀ 
   pub writing-out : (reversed : Bool) (s : List ℕ) → closedPaths (plane preserve) reversed (after s .entries) ≡ closedPaths (plane preserve) reversed (loneTable (loneRing preserve) (map feed os) (notRefused s) (drop (length (map feed os)) (map cutFrom (after s .entries))))
   writing-out reversed s = ap (closedPaths (plane preserve) reversed) (one-equation s)
 
-  pub writing-out-open : (reversed : Bool) (s : List ℕ) → openPaths (plane preserve) reversed (after s .entries) ≡ openPaths (plane preserve) reversed (loneTable (loneRing preserve) (map feed os) (notRefused s) (drop (length (map feed os)) (map cutFrom (after s .entries))))
-  writing-out-open reversed s = ap (openPaths (plane preserve) reversed) (one-equation s)
+  pub writing-out-open : (reversed : Bool) (s : List ℕ) → openPaths (plane preserve) reversed (after s .entries) ≡ openPaths (plane preserve) reversed (openedRings os p₀ .entries)
+  writing-out-open reversed s = open-kept (plane preserve) reversed (loneRing preserve) 2048 512 s (openedRings os p₀)
 
   -- once all are done, the table holds what the lone rings end in, which is one: so two lists that finish everything end in the same rings, up to
   -- numbering
