@@ -11,7 +11,8 @@ use std::sync::atomic::{AtomicUsize, Ordering};
 /// The longest single piece of memory that a child may ask for: about 37,000 of the Rust's points, where 2,048 are allowed.
 const CHILD_LIMIT: usize = 2 << 20;
 /// The same for every other run; far above what a job needs, so that a wrong model ends in a message, not in a full machine.
-const LIMIT: usize = 1 << 30;
+const LIMIT: usize = 1 << 28;
+const GREW_LINE: &[u8] = b"oracle: a list grows past 256 MB: the model finds room where the real run has none, or the input is too long\n";
 /// The status that a child ends itself with.
 pub const GREW: i32 = 77;
 const PANICKED: i32 = 101;
@@ -27,23 +28,22 @@ extern "C" {
     fn _exit(status: i32) -> !;
 }
 
-fn allowed(size: usize) -> bool {
+/// Ends the process at a request beyond the ceiling, without unwinding; a child does so silently.
+fn allow(size: usize) {
     let ceiling = CEILING.load(Ordering::Relaxed);
-    if size > ceiling && ceiling == CHILD_LIMIT {
-        // Nothing to tidy: the child holds no file and no other process.
+    if size > ceiling {
+        if ceiling == LIMIT {
+            let _ = io::stderr().write_all(GREW_LINE);
+        }
         unsafe { _exit(GREW) }
     }
-    size <= ceiling
 }
 
 // The system's allocator with a ceiling on each request.
 unsafe impl GlobalAlloc for Guarded {
     unsafe fn alloc(&self, layout: Layout) -> *mut u8 {
-        if allowed(layout.size()) {
-            System.alloc(layout)
-        } else {
-            std::ptr::null_mut()
-        }
+        allow(layout.size());
+        System.alloc(layout)
     }
 
     unsafe fn dealloc(&self, at: *mut u8, layout: Layout) {
@@ -51,11 +51,8 @@ unsafe impl GlobalAlloc for Guarded {
     }
 
     unsafe fn realloc(&self, at: *mut u8, layout: Layout, size: usize) -> *mut u8 {
-        if allowed(size) {
-            System.realloc(at, layout, size)
-        } else {
-            std::ptr::null_mut()
-        }
+        allow(size);
+        System.realloc(at, layout, size)
     }
 }
 

@@ -80,7 +80,8 @@ fn run(words: &[&str]) -> Result<(), String> {
         ["stored", form, file] => stored::emit(form, file),
         ["choose", seed, count, each] => stored::choose(number(seed)?, number(count)?, number(each)?),
         ["vectors", "geometry", seed, count] => {
-            output(vectors::geometry(number(seed)?, number(count)?).as_bytes())
+            let (seed, count): (u64, u64) = (number(seed)?, number(count)?);
+            (0..count).try_for_each(|index| output(vectors::geometry(seed, index).as_bytes()))
         }
         ["child"] => guard::child(),
         _ => Err(USAGE.into()),

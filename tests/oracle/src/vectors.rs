@@ -20,6 +20,12 @@ fn coordinate(rng: &mut Rng, kind: usize) -> i64 {
     value as i64
 }
 
+/// A point up to 3 away in each direction, for closeness.
+fn beside(rng: &mut Rng, at: Point64) -> Point64 {
+    let mut near = |c: i64| (c + rng.from(-3, 3) as i64).clamp(-COORDINATE as i64, COORDINATE as i64);
+    Point64::new(near(at.x), near(at.y))
+}
+
 fn points(rng: &mut Rng) -> [Point64; 4] {
     let kind = rng.below(6);
     let mut point = || {
@@ -55,20 +61,21 @@ fn crossing(a: Point64, b: Point64, c: Point64, d: Point64) -> String {
     format!("{word} {} {}", at.x, at.y)
 }
 
-pub fn geometry(seed: u64, count: u64) -> String {
+/// One round: a case of each function on the same four points.
+pub fn geometry(seed: u64, index: u64) -> String {
     let mut out = String::new();
     let text = |points: &[Point64]| points.iter().map(|p| format!(" {} {}", p.x, p.y)).collect::<String>();
-    for index in 0..count {
-        let [a, b, c, d] = points(&mut Rng::of(seed, index));
-        let (two, three, four) = (text(&[a, b]), text(&[a, b, c]), text(&[a, b, c, d]));
-        let dot = dot_product_three_points(a, b, c);
-        let sign = (dot > 0.0) as i32 - (dot < 0.0) as i32;
-        out += &format!("pts_really_close{two} = {}\n", pts_really_close(a, b) as u8);
-        out += &format!("is_collinear{three} = {}\n", is_collinear(a, b, c) as u8);
-        out += &format!("dot_product_three_points{three} = {sign}\n");
-        out += &format!("area_triangle{three} = {}\n", area_triangle(a, b, c) as i64);
-        out += &format!("segments_intersect{four} = {}\n", segments_intersect(a, b, c, d, false) as u8);
-        out += &format!("get_segment_intersect_pt{four} = {}\n", crossing(a, b, c, d));
-    }
+    let mut rng = Rng::of(seed, index);
+    let [a, b, c, d] = points(&mut rng);
+    let near = beside(&mut rng, a);
+    let (two, three, four) = (text(&[a, near]), text(&[a, b, c]), text(&[a, b, c, d]));
+    let dot = dot_product_three_points(a, b, c);
+    let sign = (dot > 0.0) as i32 - (dot < 0.0) as i32;
+    out += &format!("pts_really_close{two} = {}\n", pts_really_close(a, near) as u8);
+    out += &format!("is_collinear{three} = {}\n", is_collinear(a, b, c) as u8);
+    out += &format!("dot_product_three_points{three} = {sign}\n");
+    out += &format!("area_triangle{three} = {}\n", area_triangle(a, b, c) as i64);
+    out += &format!("segments_intersect{four} = {}\n", segments_intersect(a, b, c, d, false) as u8);
+    out += &format!("get_segment_intersect_pt{four} = {}\n", crossing(a, b, c, d));
     out
 }
