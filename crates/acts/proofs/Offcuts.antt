@@ -53,8 +53,8 @@ module _ (s : Store) (o : Sound s) (i x y vx vy : ℕ) (h : i < recs s) (q : Cut
         records = λ f j l n. unwritten s (offcutWrites s i x y vx vy) (rc f) j (inl refl, (inl refl, (inl refl, (inl refl, (inl refl, (inl refl, (inl refl, (inl refl, (inl refl, (inl refl, (inl refl, (inr n, (inr n, (inr n, (inr n, (inr n, (inr n, (inr n, tt))))))))))))))))));
         xs = λ k l. miss k (pts s) vx (s (pt X) k) (λ t. omega arith);
         ys = λ k l. miss k (pts s) vy (s (pt Y) k) (λ t. omega arith);
-        nexts = λ j k l d p. let g = other j k l p in unwritten s (offcutWrites s i x y vx vy) (pt NEXT) k (inl refl, (inl refl, (inl refl, (inl refl, (inl refl, (inl refl, (inl refl, (inl refl, (inr (λ t. omega (arith, g .0)), (inl refl, (inr (g .2), (inl refl, (inl refl, (inl refl, (inl refl, (inl refl, (inl refl, (inl refl, tt))))))))))))))))));
-        prevs = λ j k l d p. let g = other j k l p in unwritten s (offcutWrites s i x y vx vy) (pt PREV) k (inl refl, (inl refl, (inl refl, (inl refl, (inl refl, (inl refl, (inl refl, (inr (λ t. omega (arith, g .0)), (inl refl, (inr (g .1), (inl refl, (inl refl, (inl refl, (inl refl, (inl refl, (inl refl, (inl refl, (inl refl, tt))))))))))))))))));
+        nexts = λ j k l d p. let g = other j k l p in unwritten s (offcutWrites s i x y vx vy) (pt NEXT) k (inl refl, (inl refl, (inl refl, (inl refl, (inl refl, (inl refl, (inl refl, (inr (λ t. omega (arith, g .0)), (inl refl, (inr (g .2), (inl refl, (inl refl, (inl refl, (inl refl, (inl refl, (inl refl, (inl refl, (inl refl, tt))))))))))))))))));
+        prevs = λ j k l d p. let g = other j k l p in unwritten s (offcutWrites s i x y vx vy) (pt PREV) k (inl refl, (inl refl, (inl refl, (inl refl, (inl refl, (inl refl, (inl refl, (inl refl, (inr (λ t. omega (arith, g .0)), (inl refl, (inr (g .1), (inl refl, (inl refl, (inl refl, (inl refl, (inl refl, (inl refl, (inl refl, tt))))))))))))))))));
         recordings = λ j k l d p. let g = other j k l p in unwritten s (offcutWrites s i x y vx vy) (pt REC) k (inl refl, (inr (g .1), (inr (g .2), (inl refl, (inl refl, (inl refl, (inr (λ t. omega (arith, g .0)), (inl refl, (inl refl, (inl refl, (inl refl, (inl refl, (inl refl, (inl refl, (inl refl, (inl refl, (inl refl, (inl refl, tt))))))))))))))))));
       }
 

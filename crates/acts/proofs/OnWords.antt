@@ -56,14 +56,14 @@ module _ {P : Type 0} (f : Coding P) where
     within-cut a z d = (a .p-in, (z, (i-in, (i-in, (i-in, tt)))))
 
     within-put : About → s (pt NEXT) (s (pt NEXT) (s (rc PRESENT) i)) < 2048 → pts s < 2048 → (vx vy : ℕ) (d : Due) → Within (cutPutWrites s i vx vy d)
-    within-put a z k vx vy d = (omega arith, (k, (k, (k, (k, (k, (z, (a .p-in, (i-in, (i-in, (i-in, tt)))))))))))
+    within-put a z k vx vy d = (omega arith, (k, (k, (k, (k, (k, (a .p-in, (z, (i-in, (i-in, (i-in, tt)))))))))))
 
     within-ring : About → s (pt NEXT) (s (pt NEXT) (s (rc PRESENT) i)) < 2048 → (v : P) (put : Bool) (d : Due) → pts s + takesPoints (cut v put false d) ≤ 2048 → Within (ringWrites f s i v put d)
     within-ring a z v true d h = within-put a z (omega arith) (f .xw v) (f .yw v) d
     within-ring a z v false d h = within-cut a z d
 
   within-offcut : (s : Store) (i x y vx vy : ℕ) → x < 2048 → y < 2048 → pts s < 2048 → recs s < 512 → Within (offcutWrites s i x y vx vy)
-  within-offcut s i x y vx vy hx hy k r = (omega arith, (hx, (hy, (omega arith, (k, (k, (k, (k, (k, (hx, (hy, (r, (r, (r, (r, (r, (r, (r, tt))))))))))))))))))
+  within-offcut s i x y vx vy hx hy k r = (omega arith, (hx, (hy, (omega arith, (k, (k, (k, (k, (k, (hy, (hx, (r, (r, (r, (r, (r, (r, (r, tt))))))))))))))))))
 
   module _ (w : List ℕ) (long : LENGTH ≤ length w) (o : Sound (view w)) (i : ℕ) (c : Closed (view w) i) where
     -- the ring's own part, and then the offcut

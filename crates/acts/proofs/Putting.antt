@@ -39,10 +39,10 @@ module _ (W : Type 0) (v : W) (s : Store) (o : Sound s) (i : ℕ) (c : Closed s 
   z-in = rw (q .next-z) (q .whole .below z (omega (arith, occ-head z (u ∷ r))))
 
   pub next-else : (k : ℕ) → k < pts s → k ≢ (s (pt PREV) (s (rc PRESENT) i)) → onStore s (cutPutWrites s i vx vy d) (pt NEXT) k ≡ s (pt NEXT) k
-  next-else k l n = unwritten s (cutPutWrites s i vx vy d) (pt NEXT) k (inl refl, (inl refl, (inl refl, (inl refl, (inl refl, (inr (λ t. omega arith), (inl refl, (inr n, (inl refl, (inl refl, (inl refl, tt)))))))))))
+  next-else k l n = unwritten s (cutPutWrites s i vx vy d) (pt NEXT) k (inl refl, (inl refl, (inl refl, (inl refl, (inr (λ t. omega arith), (inl refl, (inr n, (inl refl, (inl refl, (inl refl, (inl refl, tt)))))))))))
 
   pub prev-else : (k : ℕ) → k < pts s → k ≢ (s (pt NEXT) (s (pt NEXT) (s (rc PRESENT) i))) → onStore s (cutPutWrites s i vx vy d) (pt PREV) k ≡ s (pt PREV) k
-  prev-else k l n = unwritten s (cutPutWrites s i vx vy d) (pt PREV) k (inl refl, (inl refl, (inl refl, (inl refl, (inr (λ t. omega arith), (inl refl, (inr n, (inl refl, (inl refl, (inl refl, (inl refl, tt)))))))))))
+  prev-else k l n = unwritten s (cutPutWrites s i vx vy d) (pt PREV) k (inl refl, (inl refl, (inl refl, (inl refl, (inl refl, (inr (λ t. omega arith), (inl refl, (inr n, (inl refl, (inl refl, (inl refl, tt)))))))))))
 
   next-new : onStore s (cutPutWrites s i vx vy d) (pt NEXT) (pts s) ≡ (s (pt NEXT) (s (pt NEXT) (s (rc PRESENT) i)))
   next-new = miss (pts s) (s (pt PREV) (s (rc PRESENT) i)) (pts s) (cond (eqb (pts s) (pts s)) (s (pt NEXT) (s (pt NEXT) (s (rc PRESENT) i))) (s (pt NEXT) (pts s))) (λ t. omega (arith, p-in)) ∙ hit (pts s) (s (pt NEXT) (s (pt NEXT) (s (rc PRESENT) i))) (s (pt NEXT) (pts s))
