@@ -18,7 +18,7 @@ use Rattle.store.specs.Field.{pt, rc, NEXT, PREV, FIRST, LENGTH}
 use Rattle.store.specs.Words.{Store, view}
 use Rattle.store.specs.Sound.{pts, recs, ringless, ringAt, PointIn, Sound}
 use Rattle.store.proofs.Soundness.{whole, from-first}
-use Rattle.paths.specs.Plane.{plane}
+use Rattle.lone.specs.Plane.{plane}
 use Rattle.paths.specs.Path.{pointAt, pointsAt, preserveCollinear}
 use Rattle.paths.specs.Walking.{linkOf, startFrom, roundFrom, Round, Ready, pathRound}
 use Rattle.paths.proofs.Walks.{othersOf, walk-is}

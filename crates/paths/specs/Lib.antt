@@ -1,5 +1,4 @@
 -- The paths of a store, the tray's fields, writing out, and what its functions require.
-pub mod Plane
 pub mod Path
 pub mod Tray
 pub mod Walking

@@ -12,7 +12,7 @@ use Rattle.lone.specs.Path.{buildPath64FromOutpt}
 use Rattle.store.specs.Field.{pt, ct, X, Y, SETTINGS}
 use Rattle.store.specs.Words.{Store}
 use Rattle.store.specs.Sound.{recs, ringAt, isOpen}
-use Rattle.paths.specs.Plane.{plane}
+use Rattle.lone.specs.Plane.{plane}
 
 -- the point of number k, by value
 unfoldable pub pointAt : Store → ℕ → Point
@@ -33,14 +33,18 @@ reverseSolution s = eqb (s (ct SETTINGS) 0 / 2 % 2) 1
 unfoldable pub pathAt : Store → ℕ → Option (List Point)
 pathAt s i = buildPath64FromOutpt (plane (preserveCollinear s)) (reverseSolution s) (isOpen s i) (pointsAt s i)
 
+-- the same, if the record is open (o is true), or if it is closed (o is false)
+unfoldable pub pathIf : Store → Bool → ℕ → Option (List Point)
+pathIf s o i = cond (Bool·beq (isOpen s i) o) (pathAt s i) none
+
 abbrev pub listed : {A : Type 0} → Option A → List A
 listed none = []
 listed (some a) = a ∷ []
 
--- the paths of the open (or the closed) records among the first n, records ascending
+-- the paths of the open (or of the closed) ones among the first n records, records ascending
 abbrev pub pathsBelow : ℕ → Bool → Store → List (List Point)
 pathsBelow zero o s = []
-pathsBelow (suc n) o s = pathsBelow n o s ++ cond (Bool·beq (isOpen s n) o) (listed (pathAt s n)) []
+pathsBelow (suc n) o s = pathsBelow n o s ++ listed (pathIf s o n)
 
 abbrev pub closedPaths : Store → List (List Point)
 closedPaths s = pathsBelow (recs s) false s

@@ -18,7 +18,7 @@ use Rattle.store.specs.Sound.{pts, PointIn, Sound}
 use Rattle.geometry.specs.declared.Point.{Point}
 use Rattle.geometry.specs.Plane.{samePoint}
 use Rattle.lone.specs.Path.{dropEquals, withoutEquals}
-use Rattle.paths.specs.Plane.{plane}
+use Rattle.lone.specs.Plane.{plane}
 use Rattle.paths.specs.Path.{pointAt, preserveCollinear}
 use Rattle.paths.specs.Tray.{pathBytes, over}
 
