@@ -3,5 +3,6 @@ pub mod Coordinates
 pub mod Walks
 pub mod Rounds
 pub mod Directions
+pub mod Sizes
 pub mod Laying
 pub mod Writing

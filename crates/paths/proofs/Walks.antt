@@ -15,7 +15,7 @@ use Rattle.rings.proofs.Counting.{apart, all-in, pigeon, one-here}
 use Rattle.store.specs.Field.{pt, NEXT, PREV}
 use Rattle.store.specs.Words.{Store, view}
 use Rattle.store.specs.Sound.{pts, PointIn}
-use Rattle.paths.specs.Walking.{linkOf, roundFrom, Readable, Round, Ahead, toGo, Going}
+use Rattle.paths.specs.Walking.{linkOf, startFrom, roundFrom, Readable, Round, Ahead, toGo, Going}
 
 -- the two directions
 pub link-back : (s : Store) (rev : Bool) (k r : ℕ) → rev ≡ true → r ≡ s (pt PREV) k → r ≡ linkOf s rev k
@@ -23,6 +23,12 @@ link-back s rev k r e f = rw e f
 
 pub link-on : (s : Store) (rev : Bool) (k r : ℕ) → rev ≡ false → r ≡ s (pt NEXT) k → r ≡ linkOf s rev k
 link-on s rev k r e f = rw e f
+
+pub start-first : (s : Store) (rev : Bool) (f : ℕ) → rev ≡ true → f ≡ startFrom s rev f
+start-first s rev f e = rw e
+
+pub start-next : (s : Store) (rev : Bool) (f r : ℕ) → rev ≡ false → r ≡ s (pt NEXT) f → r ≡ startFrom s rev f
+start-next s rev f r e g = rw e g
 
 -- the points of a ring but the first
 unfoldable pub othersOf : (ℕ → ℕ) → ℕ → List ℕ

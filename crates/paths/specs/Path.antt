@@ -29,9 +29,13 @@ preserveCollinear s = eqb (s (ct SETTINGS) 0 % 2) 1
 abbrev pub reverseSolution : Store → Bool
 reverseSolution s = eqb (s (ct SETTINGS) 0 / 2 % 2) 1
 
--- the path, or none, of record i
+-- the path, or none, of record i's ring, reversed or not, as an open or a closed one
+abbrev pub pathBy : Store → Bool → Bool → ℕ → Option (List Point)
+pathBy s rev o i = buildPath64FromOutpt (plane (preserveCollinear s)) rev o (pointsAt s i)
+
+-- as the settings and the record say
 unfoldable pub pathAt : Store → ℕ → Option (List Point)
-pathAt s i = buildPath64FromOutpt (plane (preserveCollinear s)) (reverseSolution s) (isOpen s i) (pointsAt s i)
+pathAt s i = pathBy s (reverseSolution s) (isOpen s i) i
 
 -- the same, if the record is open (o is true), or if it is closed (o is false)
 unfoldable pub pathIf : Store → Bool → ℕ → Option (List Point)
@@ -45,6 +49,11 @@ listed (some a) = a ∷ []
 abbrev pub pathsBelow : ℕ → Bool → Store → List (List Point)
 pathsBelow zero o s = []
 pathsBelow (suc n) o s = pathsBelow n o s ++ listed (pathIf s o n)
+
+-- how many points a path has, none for no path
+abbrev pub sizeOf : Option (List Point) → ℕ
+sizeOf none = 0
+sizeOf (some path) = length path
 
 abbrev pub closedPaths : Store → List (List Point)
 closedPaths s = pathsBelow (recs s) false s

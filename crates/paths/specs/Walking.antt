@@ -14,12 +14,12 @@ use Rattle.rings.specs.Links.{All}
 use Rattle.rings.specs.Walk.{walk, Whole}
 use Rattle.store.specs.Field.{pt, X, Y, NEXT, PREV, LENGTH}
 use Rattle.store.specs.Words.{Store, view}
-use Rattle.store.specs.Sound.{pts, PointIn, Sound}
+use Rattle.store.specs.Sound.{pts, recs, PointIn, Sound}
 use Rattle.geometry.specs.declared.Point.{Point}
 use Rattle.geometry.specs.Plane.{samePoint}
 use Rattle.lone.specs.Path.{dropEquals, withoutEquals}
 use Rattle.lone.specs.Plane.{plane}
-use Rattle.paths.specs.Path.{pointAt, preserveCollinear}
+use Rattle.paths.specs.Path.{pointAt, preserveCollinear, reverseSolution}
 use Rattle.paths.specs.Tray.{pathBytes, over}
 
 -- prev in a reversed path, next in a forward one
@@ -71,6 +71,26 @@ pub record Going (w : List ℕ) (rev : Bool) (stop q : ℕ) (Q : List ℕ → Ty
   pub points-in : All (PointIn (view w)) todo
   pub short : length todo < 2048
   pub says : Q todo
+
+-- a ring of three or more points, from a
+pub record Three (w : List ℕ) (a : ℕ) : Type 0 where
+  pub round : Round w false a
+  pub three : 2 < length (roundFrom (view w) false a)
+
+-- a path of n points on the ring from a
+pub record Sized (w : List ℕ) (a n : ℕ) : Type 0 where
+  pub round : Round w false a
+  pub fits : n ≤ length (roundFrom (view w) false a)
+
+-- record i of a work space that may be written out
+pub record Known (w : List ℕ) (i : ℕ) : Type 0 where
+  pub ready : Ready w
+  pub known : i < recs (view w)
+
+-- the same, with the settings' direction
+pub record Asked (w : List ℕ) (rev : Bool) (i : ℕ) : Type 0 where
+  pub of : Known w i
+  pub direction : rev ≡ reverseSolution (view w)
 
 -- ---- the path that goes round from a
 

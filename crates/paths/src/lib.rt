@@ -5,20 +5,27 @@ use job::refusal::Refusal;
 use store::Col;
 ghost use mathlib.Core.Path.{_≡_};
 ghost use Prim.Native.Nat.{ℕ, _+_, _*_, _<_, _≤_, _^_};
+ghost use mathlib.Core.Bool.{false, cond, not, _&&_};
+ghost use mathlib.Core.List.{map};
+ghost use lib.Dec.{eqb, leb};
 ghost use lib.ListN.{length};
 ghost use Rattle.numbers.specs.Raised.{coordinate};
 ghost use Rattle.job.specs.Limits.{COORDINATE};
+ghost use Rattle.lone.specs.Plane.{plane};
+ghost use Rattle.lone.specs.Path.{isSmallRing};
 ghost use Rattle.store.specs.Field.{LENGTH};
 ghost use Rattle.store.specs.Words.{view};
-ghost use Rattle.paths.specs.Path.{pointAt};
+ghost use Rattle.paths.specs.Path.{pointAt, preserveCollinear, reverseSolution, pathBy, sizeOf};
 ghost use Rattle.paths.specs.Tray.{pathBytes, over};
-ghost use Rattle.paths.specs.Walking.{linkOf, Readable, Round, Room, pathRound, more, putPoint, laid, putMore};
+ghost use Rattle.paths.specs.Walking.{linkOf, startFrom, roundFrom, Ready, Known, Asked, Three, Sized, Readable, Round, Room, pathRound, more, putPoint, laid, putMore};
 
 // What writing out answers: how many closed and open paths the tray holds, or a refusal.
 pub enum Written {
     Paths { closed: usize, open: usize },
     Refused(Refusal),
 }
+
+const NONE: usize = 65535;
 
 const RAISE: i32 = 1048576;
 
@@ -123,4 +130,89 @@ fn write_round(w: &[u32], rev: bool, a: usize, t: &mut [u8])
         b = q;
         q = link(w, rev, q);
     }
+}
+
+// ---- one record's path
+
+// Whether a ring is too short: one point, or two of a closed one.
+fn too_short(w: &[u32], opened: bool, f: usize) -> bool
+    requires { ⌜ Round (now w) false f ⌝ }
+    ensures { λ r. ⌜ r ≡ leb (length (roundFrom (view (now (w .entry))) false f)) (cond opened 1 2) ⌝ }
+{
+    let n = store::get(w, Col::Next, f);
+    let p = store::get(w, Col::Prev, f);
+    if n == f {
+        return true;
+    }
+    if opened {
+        return false;
+    }
+    n == p
+}
+
+// Whether the ring from a has three points of which two are really close.
+fn is_small_ring(w: &[u32], a: usize) -> bool
+    requires { ⌜ Three (now w) a ⌝ }
+    ensures { λ r. ⌜ r ≡ isSmallRing (plane (preserveCollinear (view (now (w .entry))))) (map (pointAt (view (now (w .entry)))) (roundFrom (view (now (w .entry))) false a)) ⌝ }
+{
+    let n = store::get(w, Col::Next, a);
+    let p = store::get(w, Col::Prev, a);
+    let m = store::get(w, Col::Next, n);
+    if m != p {
+        return false;
+    }
+    let prev = point_at(w, p);
+    let pt = point_at(w, a);
+    let next = point_at(w, n);
+    geometry::is_very_small_triangle(prev, pt, next)
+}
+
+// The small test of a path of n points: it is closed, has three, and so has its ring.
+fn is_small(w: &[u32], opened: bool, a: usize, n: usize) -> bool
+    requires { ⌜ Sized (now w) a n ⌝ }
+    ensures { λ r. ⌜ r ≡ (not opened && eqb n 3 && isSmallRing (plane (preserveCollinear (view (now (w .entry))))) (map (pointAt (view (now (w .entry)))) (roundFrom (view (now (w .entry))) false a))) ⌝ }
+{
+    if opened {
+        return false;
+    }
+    if n != 3 {
+        return false;
+    }
+    is_small_ring(w, a)
+}
+
+// Where a path starts.
+fn start_from(w: &[u32], rev: bool, f: usize) -> usize
+    requires { ⌜ (LENGTH ≤ length (now w)) × (f < 2048) ⌝ }
+    ensures { λ r. ⌜ r ≡ startFrom (view (now (w .entry))) rev f ⌝ }
+{
+    if rev {
+        return f;
+    }
+    store::get(w, Col::Next, f)
+}
+
+// How many points the path of record i has, 0 for none.
+fn path_size(w: &[u32], rev: bool, opened: bool, i: usize) -> usize
+    requires { ⌜ Known (now w) i ⌝ }
+    ensures { λ r. ⌜ r ≡ sizeOf (pathBy (view (now (w .entry))) rev opened i) ⌝ }
+{
+    let f = store::get(w, Col::First, i);
+    if f == NONE {
+        return 0;
+    }
+    let short = too_short(w, opened, f);
+    if short {
+        return 0;
+    }
+    let a = start_from(w, rev, f);
+    let n = round_size(w, rev, a);
+    let small = is_small(w, opened, a, n);
+    if small {
+        return 0;
+    }
+    if n < 2 {
+        return 0;
+    }
+    n
 }
