@@ -71,8 +71,11 @@ module _ {r z : ℤ} {m : ℕ} (h : Held r z m) where
   pub held-64 : T (ltb m (2 ^ 63)) → Held (i64 r) z m
   held-64 t = record { is = toZ-ofZ (fits-64 t) ∙ h .is; within = h .within }
 
+  pub fits-32 : T (ltb m (2 ^ 31)) → SFits w32 r
+  fits-32 t = rw (h .is) (fits-size w32 z (small (h .within .size) t))
+
   pub held-32 : T (ltb m (2 ^ 31)) → Held (i32 r) z m
-  held-32 t = record { is = toZ-ofZ (rw (h .is) (fits-size w32 z (small (h .within .size) t))) ∙ h .is; within = h .within }
+  held-32 t = record { is = toZ-ofZ (fits-32 t) ∙ h .is; within = h .within }
 
   -- as a callee asks it
   pub asked : Within m r

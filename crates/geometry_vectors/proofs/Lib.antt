@@ -1,0 +1,2 @@
+-- What the program's own functions lean on.
+pub mod Limits
