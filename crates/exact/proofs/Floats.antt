@@ -2,21 +2,18 @@
 use mathlib.Core.Path.{_≡_, refl, sym, ap, subst, _∙_}
 use mathlib.Core.Bool.{Bool, true, false, not, cond, true≢false}
 use Prim.Native.Nat.{ℕ, zero, suc, _+_, _-_, _*_, _≤_, _<_, _^_, zero-le, suc-le-suc}
-use native.Mathlib.Nat.{le-of-lt, le-trans, le-of-eq, lt-of-le-of-lt}
+use native.Mathlib.Nat.{le-of-lt, le-trans, le-of-eq}
 use native.Mathlib.Omega.{arith}
 use borrow.Author.Tests.{ltb-true, ltb-false}
-use lib.Dec.{T, ltb, ltb→lt, leb, leb→le, le→leb, lt→ltb}
+use lib.Dec.{T, ltb, leb, leb→le}
 use lib.IntN.{ℤ, pos, negsuc, negℤ, natAbs, _+ℤ_, _-ℤ_, _*ℤ_, negℤ-+ℤ, negℤ-negℤ, +ℤ-comm}
 use lib.Signed.{ltZ, leZ}
-use lib.Ieee.{Float, nan, inf, fin, Format, binary64, prec, ofBits, round, sum, add, sub, mul, neg, lt, le, eq, unlike, ofInt, inFloat}
+use lib.Ieee.{Float, nan, inf, fin, Format, binary64, prec, ofBits, round, sum, add, sub, mul, neg, lt, le, eq, unlike, ofInt}
 use lib.Ieee.Exact.{HasValue}
 use lib.Ieee.Back.{round-whole}
-use mir.Syntax.{w32, w64}
-use mir.Val.{ofZ, toZ}
-use mir.Facts.{toZ-ofZ}
 use Rattle.exact.specs.Num.{Within, eqZ, signed, Exact, Rounded, Whole, Num}
 use Rattle.exact.proofs.Fractions.{size-signed, signed-not, signed-mul, minus-pos, add-at, mul-at, lt-is, eq-is, le-is}
-use Rattle.exact.proofs.Size.{fits-size, size-sub, size-add, mul-within}
+use Rattle.exact.proofs.Size.{within-add, within-sub, within-mul}
 
 -- ---- by whole numbers: a sum, a difference and a product are their exact values rounded
 -- `plus`: no sum is -0 whose first summand is not
@@ -148,32 +145,28 @@ sub-of f a b h k =
 abbrev Room : ℕ → Type 0
 Room m = T (leb m (2 ^ 53))
 
-pub back32 : {z : ℤ} {m : ℕ} → Within m z → T (ltb m (2 ^ 31)) → toZ w32 (ofZ w32 z) ≡ z
-back32 {z} {m} h t = toZ-ofZ (fits-size w32 z (lt-of-le-of-lt (h .size) (ltb→lt m (2 ^ 31) t)))
-
--- a field of 32 bits as a float
-pub num-i32 : {z : ℤ} {m : ℕ} → Within m z → T (ltb m (2 ^ 31)) → Num (ofInt binary64 (toZ w32 (ofZ w32 z))) z m
-num-i32 {z} {m} h t = rw (back32 h t) (record { exact = of-whole binary64 (go (natAbs z) m (h .size) (ltb→lt m (2 ^ 31) t)); within = h .size })
-  where
-    go : (k m : ℕ) → k ≤ m → m < 2 ^ 31 → k ≤ 2 ^ 53
-    go k m h g = omega arith
-
 -- a literal 0.0
 pub num-zero : Num (ofBits binary64 0) (pos 0) 0
 unfolding ofBits
-num-zero = record { exact = record { sign = false; size = 0; has = (refl, refl); is = refl }; within = zero-le }
+num-zero = record { exact = record { sign = false; size = 0; has = (refl, refl); is = refl }; within = record { size = zero-le } }
+
+-- the float of a whole number
+pub num-float : {x : Float} {z : ℤ} {m : ℕ} → x ≡ ofInt binary64 z → Within m z → Room m → Num x z m
+num-float {m = m} e h t = rw e (record { exact = of-whole binary64 (le-trans (h .size) (leb→le m (2 ^ 53) t)); within = h })
+
+-- a rounded whole number that has room
+held-whole : {x : Float} {z : ℤ} {m : ℕ} → Rounded binary64 x z 1 → Within m z → Room m → Num x z m
+held-whole {m = m} r h t = record { exact = whole r (le-trans (h .size) (leb→le m (2 ^ 53) t)); within = h }
 
 module _ {x y : Float} {a b : ℤ} {m n : ℕ} (p : Num x a m) (q : Num y b n) where
-  sum-in : natAbs (a -ℤ b) ≤ m + n
-  sum-in = let s = size-sub a b in let h = p .within in let k = q .within in omega arith
+  pub num-add : Room (m + n) → Num (add binary64 x y) (a +ℤ b) (m + n)
+  num-add t = held-whole (add-rounded one-pos (p .exact) (q .exact)) (within-add (p .within) (q .within)) t
 
   pub num-sub : Room (m + n) → Num (sub binary64 x y) (a -ℤ b) (m + n)
-  num-sub t = record { exact = whole (sub-rounded one-pos (p .exact) (q .exact)) (le-trans sum-in (leb→le (m + n) (2 ^ 53) t)); within = sum-in }
+  num-sub t = held-whole (sub-rounded one-pos (p .exact) (q .exact)) (within-sub (p .within) (q .within)) t
 
   pub num-mul : Room (m * n) → Num (mul binary64 x y) (a *ℤ b) (m * n)
-  num-mul t =
-      let h : natAbs (a *ℤ b) ≤ m * n = mul-within a b m n (p .within) (q .within) in
-      record { exact = whole (mul-rounded one-pos one-pos (p .exact) (q .exact)) (le-trans h (leb→le (m * n) (2 ^ 53) t)); within = h }
+  num-mul t = held-whole (mul-rounded one-pos one-pos (p .exact) (q .exact)) (within-mul (p .within) (q .within)) t
 
   pub num-lt : lt x y ≡ ltZ a b
   num-lt = lt-is one-pos (p .exact) (q .exact)
@@ -183,34 +176,3 @@ module _ {x y : Float} {a b : ℤ} {m n : ℕ} (p : Num x a m) (q : Num y b n) w
 
   pub num-eq : eq x y ≡ eqZ a b
   num-eq = eq-is one-pos (p .exact) (q .exact)
-
-pub num-flt : {x : Float} {z : ℤ} {m : ℕ} → x ≡ ofInt binary64 z → natAbs z ≤ m → Room m → Num x z m
-num-flt {m = m} e h t = rw e (record { exact = of-whole binary64 (le-trans h (leb→le m (2 ^ 53) t)); within = h })
-
-pub sum-within : {a b : ℤ} {m n : ℕ} → Within m a → Within n b → natAbs (a -ℤ b) ≤ m + n
-sum-within {a} {b} h k = let s = size-sub a b in let p = h .size in let q = k .size in omega arith
-
-module _ {x y : Float} {a b : ℤ} {m n : ℕ} (p : Num x a m) (q : Num y b n) where
-  pub num-add : Room (m + n) → Num (add binary64 x y) (a +ℤ b) (m + n)
-  num-add t =
-      let h : natAbs (a +ℤ b) ≤ m + n = (let s = size-add a b in let h = p .within in let k = q .within in omega arith) in
-      record { exact = whole (add-rounded one-pos (p .exact) (q .exact)) (le-trans h (leb→le (m + n) (2 ^ 53) t)); within = h }
-
--- a field of 64 bits as a float
-in-float : (z : ℤ) → natAbs z ≤ 2 ^ 53 → T (inFloat binary64 z)
-unfolding inFloat
-in-float (pos n) h = le→leb n (2 ^ 53) h
-in-float (negsuc n) h = lt→ltb n (2 ^ 53) h
-
-module _ {z : ℤ} {m : ℕ} (h : Within m z) (t : Room m) where
-  size53 : natAbs z ≤ 2 ^ 53
-  size53 = le-trans (h .size) (leb→le m (2 ^ 53) t)
-
-  back64 : toZ w64 (ofZ w64 z) ≡ z
-  back64 = let s = size53 in toZ-ofZ (fits-size w64 z (omega arith))
-
-  pub cast-i64 : T (inFloat binary64 (toZ w64 (ofZ w64 z)))
-  cast-i64 = rw back64 (in-float z size53)
-
-  pub num-i64 : Num (ofInt binary64 (toZ w64 (ofZ w64 z))) z m
-  num-i64 = rw back64 (record { exact = of-whole binary64 size53; within = h .size })

@@ -104,7 +104,7 @@ mul-at f (fin u m e) (fin v n g) s t a b c d C D p q =
     (swap (m * up e) (n * up g) c d ∙ (cc (p .1, q .1)) ∙ sym (swap a b (down e) (down g))))
   where
     swap : (w x y z : ℕ) → w * x * (y * z) ≡ (w * y) * (x * z)
-    swap w x y z = simp (mul-assoc, mul-comm, mul-left-comm)
+    swap w x y z = simp (mul-assoc, mul-left-comm)
 
 lt-at : (x y : Float) (s t : Bool) (A B k : ℕ) → 0 < k → HasValue x s A k → HasValue y t B k → lt x y ≡ below s A t B
 unfolding lt

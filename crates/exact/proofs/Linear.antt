@@ -1,9 +1,9 @@
 -- Equations and orders of polynomials over ℤ, by omega: an expression is the difference of two natural numbers, `P` and `N`, which omega multiplies out. Assumes nothing.
-use mathlib.Core.Path.{_≡_, refl, sym, ap, _∙_}
+use mathlib.Core.Path.{_≡_, refl, ap}
 use Prim.Native.Nat.{ℕ, suc, _+_, _-_, _*_, _≤_}
 use native.Mathlib.Nat.{le-refl}
 use native.Mathlib.Omega.{arith}
-use lib.IntN.{ℤ, pos, negsuc, _+ℤ_, _-ℤ_, _*ℤ_, +ℤ-invr, *ℤ-comm}
+use lib.IntN.{ℤ, pos, negsuc, _+ℤ_, _-ℤ_, _*ℤ_, +ℤ-invr}
 use mathlib.Core.Bool.{Bool, true, false}
 use Rattle.exact.specs.Num.{eqZ}
 use Rattle.exact.proofs.Size.{eqZ-true, eqZ-false, eq-eqZ, ne-eqZ}
@@ -95,14 +95,6 @@ eqZ-sub a b = go (eqZ a b) (eqZ-true a b) (eqZ-false a b)
     go : (t : Bool) → (t ≡ true → a ≡ b) → (t ≡ false → a ≡ b → ⊥) → eqZ (a -ℤ b) (pos 0) ≡ t
     go true y n = eq-eqZ (a -ℤ b) (pos 0) (rw (y refl) (+ℤ-invr b))
     go false y n = ne-eqZ (a -ℤ b) (pos 0) (λ e. n refl (zero-sub e))
-
--- a cross product is 0 where the two products are equal
-pub eqZ-cross : (q s t p : ℤ) → eqZ (q *ℤ s -ℤ t *ℤ p) (pos 0) ≡ eqZ (p *ℤ t) (q *ℤ s)
-eqZ-cross q s t p = go (eqZ (p *ℤ t) (q *ℤ s)) (eqZ-true (p *ℤ t) (q *ℤ s)) (eqZ-false (p *ℤ t) (q *ℤ s))
-  where
-    go : (b : Bool) → (b ≡ true → p *ℤ t ≡ q *ℤ s) → (b ≡ false → p *ℤ t ≡ q *ℤ s → ⊥) → eqZ (q *ℤ s -ℤ t *ℤ p) (pos 0) ≡ b
-    go true y n = eqZ-sub (q *ℤ s) (t *ℤ p) ∙ eq-eqZ (q *ℤ s) (t *ℤ p) (sym (y refl) ∙ *ℤ-comm p t)
-    go false y n = eqZ-sub (q *ℤ s) (t *ℤ p) ∙ ne-eqZ (q *ℤ s) (t *ℤ p) (λ e. n refl (*ℤ-comm p t ∙ sym e))
 
 -- ---- linear orders: `linear e f (omega (arith, known g h p))`
 abbrev mutual

@@ -9,7 +9,7 @@ use lib.Dec.{ltb}
 use lib.IntN.{ℤ, pos, negsuc, negℤ, natAbs, subℕ, _+ℤ_, _-ℤ_, _*ℤ_}
 use mir.Syntax.{Width}
 use mir.Val.{SFits, hbits}
-use Rattle.exact.specs.Num.{eqZ}
+use Rattle.exact.specs.Num.{Within, eqZ}
 
 size-subℕ : (a b : ℕ) → natAbs (subℕ a b) ≤ a + b
 size-subℕ a b = go (ltb a b) (ltb-true a b)
@@ -42,9 +42,15 @@ size-mul (pos a) (negsuc b) = size-neg-pos (a * suc b)
 size-mul (negsuc a) (pos b) = size-neg-pos (suc a * b)
 size-mul (negsuc a) (negsuc b) = refl
 
--- at most m and at most n: at most m * n
-pub mul-within : (a b : ℤ) (m n : ℕ) → natAbs a ≤ m → natAbs b ≤ n → natAbs (a *ℤ b) ≤ m * n
-mul-within a b m n h k = le-trans (le-of-eq (size-mul a b)) (le-trans (mul-le-mul-right (natAbs b) h) (mul-le-mul-left m k))
+module _ {a b : ℤ} {m n : ℕ} (h : Within m a) (k : Within n b) where
+  pub within-add : Within (m + n) (a +ℤ b)
+  within-add = record { size = (let s = size-add a b in let p = h .size in let q = k .size in omega arith) }
+
+  pub within-sub : Within (m + n) (a -ℤ b)
+  within-sub = record { size = (let s = size-sub a b in let p = h .size in let q = k .size in omega arith) }
+
+  pub within-mul : Within (m * n) (a *ℤ b)
+  within-mul = record { size = le-trans (le-of-eq (size-mul a b)) (le-trans (mul-le-mul-right (natAbs b) (h .size)) (mul-le-mul-left m (k .size))) }
 
 pub fits-size : (w : Width) (z : ℤ) → natAbs z < 2 ^ hbits w → SFits w z
 fits-size w (pos n) h = record { sfits = h }

@@ -11,7 +11,7 @@ use mir.Syntax.{Width, w32, w64}
 use mir.Val.{SFits, ofZ, toZ}
 use mir.Facts.{toZ-ofZ}
 use Rattle.exact.specs.Num.{Within, eqZ}
-use Rattle.exact.proofs.Size.{size-add, size-sub, mul-within, fits-size, eqZ-true, eqZ-false}
+use Rattle.exact.proofs.Size.{size-add, size-sub, within-add, within-sub, within-mul, fits-size, eqZ-true, eqZ-false}
 
 -- equal bits, equal numbers
 pub bits-eqZ : (w : Width) (a b : ℤ) → SFits w a → SFits w b → eqb (ofZ w a) (ofZ w b) ≡ eqZ a b
@@ -83,14 +83,18 @@ module _ {r z : ℤ} {m : ℕ} (h : Held r z m) where
 
 module _ {r s y z : ℤ} {m n : ℕ} (h : Held r y m) (k : Held s z n) where
   pub held-add : Held (r +ℤ s) (y +ℤ z) (m + n)
-  held-add = record { is = rw (h .is, k .is); within = record { size = (let u = size-add y z in let p = h .within .size in let q = k .within .size in omega arith) } }
+  held-add = record { is = rw (h .is, k .is); within = within-add (h .within) (k .within) }
 
   pub held-sub : Held (r -ℤ s) (y -ℤ z) (m + n)
-  held-sub = record { is = rw (h .is, k .is); within = record { size = (let u = size-sub y z in let p = h .within .size in let q = k .within .size in omega arith) } }
+  held-sub = record { is = rw (h .is, k .is); within = within-sub (h .within) (k .within) }
 
   pub held-mul : Held (r *ℤ s) (y *ℤ z) (m * n)
-  held-mul = record { is = rw (h .is, k .is); within = record { size = mul-within y z m n (h .within .size) (k .within .size) } }
+  held-mul = record { is = rw (h .is, k .is); within = within-mul (h .within) (k .within) }
 
   -- a test of equality, by the bits
   pub held-eq : T (ltb m (2 ^ 63)) → T (ltb n (2 ^ 63)) → eqb (ofZ w64 r) (ofZ w64 s) ≡ eqZ y z
   held-eq t u = bits-eqZ w64 r s (fits-64 h t) (fits-64 k u) ∙ rw (h .is, k .is)
+
+-- a coordinate, and any number of at most 31 bits, is read back as it was
+pub back-32 : {z : ℤ} {m : ℕ} → Within m z → T (ltb m (2 ^ 31)) → i32 z ≡ z
+back-32 h t = held-32 (held-here h) t .is

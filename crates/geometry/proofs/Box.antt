@@ -13,9 +13,9 @@ use mir.Val.{SFits}
 use mir.Facts.{toZ-ofZ}
 use Rattle.exact.specs.Num.{Within, Whole}
 use Rattle.exact.proofs.Size.{size-sub, fits-size}
-use Rattle.exact.proofs.Words.{i32, i64}
+use Rattle.exact.proofs.Words.{i32, i64, back-32}
 use Rattle.exact.proofs.Parts.{_≤ᶻ_, parts-add, parts-sub, parts-inj, parts-size, one-part, leZ-parts, nleZ-parts, parts-leZ}
-use Rattle.exact.proofs.Floats.{back32, of-whole}
+use Rattle.exact.proofs.Floats.{of-whole}
 use Rattle.exact.proofs.Bounds.{In, in-mul, in-add, in-cut, in-range}
 use Rattle.geometry.specs.Crossing.{float, Between}
 use Rattle.geometry.specs.Floats.{Reach, steppedF}
@@ -90,7 +90,7 @@ module _ {a : ℤ} {d t : Float} (r : Reach a d t) where
 
   -- ---- what `stepped` needs
   back : i32 a ≡ a
-  back = back32 (r .from) tt
+  back = back-32 (r .from) tt
 
   pub stepped-range : T (le (fin true 1 (pos 63)) (floatAt (i32 a) d t)) × T (lt (floatAt (i32 a) d t) (fin false 1 (pos 63)))
   stepped-range = let s = ends-small a (r .to) (r .from) (r .end) in rw back (in-range (in-float r) (omega arith) (omega arith))

@@ -4,14 +4,14 @@ use mathlib.Core.Bool.{Bool, true, false, not, _&&_, _||_}
 use Prim.Native.Nat.{suc, _^_, _<_, _≤_}
 use native.Mathlib.Omega.{arith}
 use borrow.Author.Tests.{ltb-true, ltb-false, lt-ltb, le-ltb}
-use lib.Dec.{ltb}
+use lib.Dec.{ltb, eqb}
 use lib.IntN.{ℤ, pos, negsuc, natAbs, _+ℤ_, _-ℤ_, _*ℤ_}
 use lib.Signed.{ltZ}
 use mir.Syntax.{w32}
-use mir.Val.{SFits}
+use mir.Val.{SFits, ofZ}
 use mir.Facts.{toZ-ofZ}
 use Rattle.exact.specs.Num.{Within}
-use Rattle.exact.proofs.Words.{i32, i64, Held, held-here, held-is, held-32, held-64, held-add, held-sub, held-mul, sub-wide}
+use Rattle.exact.proofs.Words.{bits-eqZ, i32, i64, Held, held-here, held-is, held-32, held-64, held-add, held-sub, held-mul, sub-wide}
 use Rattle.geometry.specs.declared.Point.{Point}
 use Rattle.geometry.specs.Plane.{InTable, samePoint, isCollinear, dotProductThreePoints, edgeArea, closeBy, ptsReallyClose, removable}
 
@@ -42,6 +42,13 @@ edge-within h k = held-mul (held-add (held-here (h .y)) (held-here (k .y))) (hel
 -- the answer of `edge_area`
 pub edge-of : {p q : Point} {r : ℤ} → InTable p → InTable q → r ≡ edgeArea p q → Held r (edgeArea p q) (2 ^ 42)
 edge-of h k e = held-is e (held-here (edge-within h k))
+
+-- ---- equality of points, by the bits
+pub same-of :
+    {p q : Point} → SFits w32 (p .x) → SFits w32 (q .x) → SFits w32 (p .y) → SFits w32 (q .y) →
+    (eqb (ofZ w32 (p .x)) (ofZ w32 (q .x)) && eqb (ofZ w32 (p .y)) (ofZ w32 (q .y))) ≡ samePoint p q
+unfolding samePoint
+same-of {p} {q} h k l m = rw (bits-eqZ w32 (p .x) (q .x) h k, bits-eqZ w32 (p .y) (q .y) l m)
 
 -- ---- closeness
 under-two : (z : ℤ) → (ltZ (negsuc 1) z && ltZ z (pos 2)) ≡ ltb (natAbs z) 2

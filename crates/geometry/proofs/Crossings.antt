@@ -4,8 +4,9 @@ use Prim.Native.Nat.{_^_}
 use lib.IntN.{ℤ, _-ℤ_}
 use lib.Ieee.{Float}
 use Rattle.exact.specs.Num.{Within, Part}
-use Rattle.exact.proofs.Words.{i32, held-here, held-32}
-use Rattle.exact.proofs.Floats.{num-flt, sum-within}
+use Rattle.exact.proofs.Words.{i32, back-32}
+use Rattle.exact.proofs.Size.{within-sub}
+use Rattle.exact.proofs.Floats.{num-float}
 use Rattle.geometry.specs.declared.Point.{Point}
 use Rattle.geometry.specs.declared.EdgePair.{EdgePair}
 use Rattle.geometry.specs.declared.Crossing.{Crossing}
@@ -17,10 +18,10 @@ use Rattle.geometry.proofs.Fractions.{crossing-of, part-of}
 use Rattle.geometry.proofs.Box.{between, between-within, stepped-within, at-start, at-end}
 
 abbrev reach : {a b : ℤ} {d t : Float} → Within (2 ^ 20) a → Within (2 ^ 20) b → d ≡ float (b -ℤ a) → Part t → Reach a d t
-reach {a} {b} h k e p = record { to = b; from = h; end = k; step = num-flt e (sum-within k h) tt .exact; part = p }
+reach {a} {b} h k e p = record { to = b; from = h; end = k; step = num-float e (within-sub k h) tt .exact; part = p }
 
 back : {z : ℤ} → Within (2 ^ 20) z → i32 z ≡ z
-back h = held-32 (held-here h) tt .is
+back h = back-32 h tt
 
 part-inside : (a b c d : Point) (t : Float) → crossing a b c d ≡ Inside t → Part t
 unfolding crossing

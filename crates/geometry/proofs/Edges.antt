@@ -7,8 +7,9 @@ use lib.Dec.{leb→le}
 use lib.IntN.{ℤ, pos, _-ℤ_}
 use lib.Ieee.{Float, binary64, sub, eq}
 use Rattle.exact.specs.Num.{Within, Num, eqZ}
-use Rattle.exact.proofs.Words.{i32}
-use Rattle.exact.proofs.Floats.{back32, sub-of, num-flt, num-sub, num-mul, num-lt, num-eq, num-zero, sum-within}
+use Rattle.exact.proofs.Words.{i32, back-32}
+use Rattle.exact.proofs.Size.{within-sub}
+use Rattle.exact.proofs.Floats.{sub-of, num-float, num-sub, num-mul, num-lt, num-eq, num-zero}
 use Rattle.geometry.specs.declared.Point.{Point}
 use Rattle.geometry.specs.declared.EdgePair.{EdgePair}
 use Rattle.geometry.specs.Plane.{InTable, divisor, alongFirst, alongSecond, strictlyWithin, segmentsIntersect}
@@ -17,7 +18,7 @@ use Rattle.geometry.specs.Floats.{zeroF, divisorF, alongF, strictlyWithi
 
 -- a difference as the code makes it
 diff-float : {a b : ℤ} → Within (2 ^ 20) a → Within (2 ^ 20) b → sub binary64 (float (i32 b)) (float (i32 a)) ≡ float (b -ℤ a)
-diff-float {a} {b} h k = rw (back32 h tt, back32 k tt) (sub-of binary64 b a (le-trans (k .size) (leb→le (2 ^ 20) (2 ^ 53) tt)) (le-trans (h .size) (leb→le (2 ^ 20) (2 ^ 53) tt)))
+diff-float {a} {b} h k = rw (back-32 h tt, back-32 k tt) (sub-of binary64 b a (le-trans (k .size) (leb→le (2 ^ 20) (2 ^ 53) tt)) (le-trans (h .size) (leb→le (2 ^ 20) (2 ^ 53) tt)))
 
 module _ {a b c d : Point} (A : InTable a) (B : InTable b) (C : InTable c) (D : InTable d) where
   pub edge-pair-of :
@@ -34,22 +35,22 @@ module _ {a b c d : Point} (A : InTable a) (B : InTable b) (C : InTable c) (D : 
 
   dx1 : Num (edgePair a b c d .dx1) (b .x -ℤ a .x) (2 ^ 21)
   unfolding edgePair
-  dx1 = num-flt refl (sum-within (B .x) (A .x)) tt
+  dx1 = num-float refl (within-sub (B .x) (A .x)) tt
 
   dy1 : Num (edgePair a b c d .dy1) (b .y -ℤ a .y) (2 ^ 21)
   unfolding edgePair
-  dy1 = num-flt refl (sum-within (B .y) (A .y)) tt
+  dy1 = num-float refl (within-sub (B .y) (A .y)) tt
 
   dx2 : Num (edgePair a b c d .dx2) (d .x -ℤ c .x) (2 ^ 21)
   unfolding edgePair
-  dx2 = num-flt refl (sum-within (D .x) (C .x)) tt
+  dx2 = num-float refl (within-sub (D .x) (C .x)) tt
 
   dy2 : Num (edgePair a b c d .dy2) (d .y -ℤ c .y) (2 ^ 21)
   unfolding edgePair
-  dy2 = num-flt refl (sum-within (D .y) (C .y)) tt
+  dy2 = num-float refl (within-sub (D .y) (C .y)) tt
 
   coordinate-float : {z : ℤ} → Within (2 ^ 20) z → Num (float z) z (2 ^ 20)
-  coordinate-float h = num-flt refl (h .size) tt
+  coordinate-float h = num-float refl h tt
 
   fx : Num (sub binary64 (float (a .x)) (float (c .x))) (a .x -ℤ c .x) (2 ^ 21)
   fx = num-sub (coordinate-float (A .x)) (coordinate-float (C .x)) tt

@@ -37,7 +37,7 @@ fraction-float {x} {y} {u} {v} p q h = rw (num-eq q num-zero) (go (eqZ v (pos 0)
     go true f = refl
     go false f =
         let k = f refl in
-        let l = le-trans (q .within) h in
+        let l = le-trans (q .within .size) h in
         rw (start-is (p .exact) (q .exact) k l) (rest (leZ (u *ℤ v) (pos 0)) (λ z. (end-is (p .exact) (q .exact) k l z, inside-is (p .exact) (q .exact) k l z)))
 
 -- the answer of `crossing_at`

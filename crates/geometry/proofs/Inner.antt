@@ -79,5 +79,5 @@ crossing-inside {a} {b} {c} {d} A B C D e =
     let u = alongFirst a b c d in
     let v = divisor a b c d in
     let p = proper u v (first-holds a b c d e) in
-    let m = le-trans (num-divisor A B C D .within) (leb→le (2 ^ 43) (2 ^ 53) tt) in
+    let m = le-trans (num-divisor A B C D .within .size) (leb→le (2 ^ 43) (2 ^ 53) tt) in
     record { t = round binary64 false (natAbs u) (natAbs v); is = inside-is u v p; above = round-above (natAbs u) (natAbs v) (p .some) (p .less) m; below = round-below (natAbs u) (natAbs v) (p .some) (p .less) m }

@@ -20,6 +20,7 @@ float z = ofInt binary64 z
 unfoldable pub edgePair : Point → Point → Point → Point → EdgePair
 edgePair a b c d = record { dx1 = float (b .x -ℤ a .x); dy1 = float (b .y -ℤ a .y); dx2 = float (d .x -ℤ c .x); dy2 = float (d .y -ℤ c .y) }
 
+-- the first where the test holds, else the second
 abbrev pub pick : Bool → Crossing → Crossing → Crossing
 pick true x y = x
 pick false x y = y

@@ -218,7 +218,7 @@ pub fn edge_crossing(a: Point, b: Point, c: Point, d: Point) -> Crossing
     crossing_at(edge_pair(a, b, c, d), a, c)
 }
 
-// From a by the fraction t of the difference d, without what is left of a whole number.
+// From a by the fraction t of the difference d: product and sum rounded once each, then dropped toward zero.
 fn stepped(a: i32, d: f64, t: f64) -> i32
     requires { ⌜ Reach a d t ⌝ }
     ensures { λ r. ⌜ r ≡ steppedF a d t ⌝ }

@@ -1,5 +1,5 @@
 // Runs the stored cases on standard input, which the oracle made with the real Rust, and writes how many there are and how many differ.
-// A case is a line: the function's name, its points, ` = ` and what the Rust answered (tests/oracle/README.md has the format).
+// `oracle vectors geometry 1 150` made them. A case is a line: the function's name, its points, ` = ` and what the Rust answered (tests/oracle/README.md has the format).
 
 use geometry::Crossing;
 use geometry::Point;
