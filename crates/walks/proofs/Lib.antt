@@ -1,0 +1,4 @@
+-- Laws of the ring walks.
+pub mod Visiting
+pub mod Edges
+pub mod Shapes

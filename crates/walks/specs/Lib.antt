@@ -1,0 +1,2 @@
+-- What the ring walks ask and answer.
+pub mod Ring
