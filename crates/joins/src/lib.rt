@@ -156,7 +156,7 @@ fn join(w: &mut [u32], op1: usize, op2: usize) -> Joined
 }
 
 // Number k of a list of points.
-fn point_at(list: &[u32], k: usize) -> usize
+pub fn point_at(list: &[u32], k: usize) -> usize
     requires { ⌜ k < length (now list) ⌝ }
     ensures { λ r. ⌜ r ≡ getD (now (list .entry)) k 0 ⌝ }
 {

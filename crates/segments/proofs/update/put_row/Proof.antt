@@ -1,0 +1,19 @@
+-- `segments::update::put_row` meets its contract.
+use borrow.Author.Needs.{needs}
+use Rattle.segments.proofs.update.put_row.Statement.{statement}
+use Rattle.segments.proofs.update.put_row.Tie as tie
+
+pub put-row-spec : {M : Type 1} → statement M
+put-row-spec =
+    tie.close
+    (tie.spec
+    (λ c κs. search needs)
+    (λ c κs. search needs)
+    (λ c κs. search needs)
+    (λ c κs. search needs)
+    (λ c κs. search needs)
+    (λ c. search needs)
+    (λ c. search needs)
+    (λ c. search needs)
+    (λ c. search needs)
+    (λ c. cc))

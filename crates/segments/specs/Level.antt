@@ -1,0 +1,67 @@
+-- The walks of convert_horz_segs_to_joins: along next or prev, until a test holds. Three tests, one walk.
+use Prim.Native.Nat.{ℕ, zero, suc, _<_}
+use mathlib.Core.Path.{_≡_}
+use mathlib.Core.Bool.{Bool, true, false, cond, _||_, not}
+use mathlib.Core.List.{List}
+use lib.Dec.{eqb, ltb}
+use Rattle.store.specs.Field.{pt, X, Y}
+use Rattle.store.specs.Words.{view}
+use Rattle.store.specs.Named.{nextOf, prevOf, firstOf}
+use Rattle.joins.specs.Resolve.{Lives}
+use Rattle.joins.specs.Resolved.{Ready}
+
+abbrev pub xOf : List ℕ → ℕ → ℕ
+xOf w p = view w (pt X) p
+
+abbrev pub yOf : List ℕ → ℕ → ℕ
+yOf w p = view w (pt Y) p
+
+-- the neighbour that way: next, or prev
+unfoldable pub alongOf : List ℕ → Bool → ℕ → ℕ
+alongOf w on p = cond on (nextOf w p) (prevOf w p)
+
+-- p, moved on by g until t holds there; a ring has at most 2,048 points, so that f = 2048 moves suffice
+unfoldable pub until : ℕ → (ℕ → Bool) → (ℕ → ℕ) → ℕ → ℕ
+until zero t g p = p
+until (suc f) t g p = cond (t p) p (until f t g (g p))
+
+-- with a front edge: p is the wall, or the one after is at another height
+unfoldable pub atWall : List ℕ → Bool → ℕ → ℕ → ℕ → Bool
+atWall w on wall y p = eqb p wall || not (eqb (yOf w (alongOf w on p)) y)
+
+-- without one: the one after is the other end, or at another height
+unfoldable pub atStop : List ℕ → Bool → ℕ → ℕ → ℕ → Bool
+atStop w on stop y p = eqb (alongOf w on p) stop || not (eqb (yOf w (alongOf w on p)) y)
+
+-- of a pair: the one after is at another height, or to the right of the limit
+unfoldable pub atLimit : List ℕ → Bool → ℕ → ℕ → ℕ → Bool
+atLimit w on limit y p = ltb limit (xOf w (alongOf w on p)) || not (eqb (yOf w (alongOf w on p)) y)
+
+unfoldable pub wallRun : List ℕ → Bool → ℕ → ℕ → ℕ → ℕ
+wallRun w on wall y p = until 2048 (atWall w on wall y) (alongOf w on) p
+
+unfoldable pub stopRun : List ℕ → Bool → ℕ → ℕ → ℕ → ℕ
+stopRun w on stop y p = until 2048 (atStop w on stop y) (alongOf w on) p
+
+unfoldable pub limitRun : List ℕ → Bool → ℕ → ℕ → ℕ → ℕ
+limitRun w on limit y p = until 2048 (atLimit w on limit y) (alongOf w on) p
+
+-- ---- what the walks ask
+
+-- p and q are on one ring
+pub record Together (w : List ℕ) (p q : ℕ) : Type 0 where
+  pub ready : Ready w
+  pub at : ℕ
+  pub one : Lives (view w) at p
+  pub two : Lives (view w) at q
+
+-- p is a point of record i's ring
+pub record Home (w : List ℕ) (p i : ℕ) : Type 0 where
+  pub ready : Ready w
+  pub here : Lives (view w) i p
+
+-- what ends a pair's walk: its segment's right point is on the same ring, to the right of the limit
+pub record Bounded (w : List ℕ) (p limit : ℕ) : Type 0 where
+  pub right : ℕ
+  pub same : Together w p right
+  pub beyond : limit < xOf w right
