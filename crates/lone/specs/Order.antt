@@ -20,6 +20,7 @@ module _ {S X : Type 0} (M : Machine S) where
   -- offcuts, by rising record number, have its lone ring's offcuts in cutting order, each from its start"
   pub record IsOffcut (es : List (Entry S X)) (g : ℕ → ℕ) (j : ℕ) : Type 0 where
     pub from : ℕ
+    -- the offcut at its start
     pub seed : S
     pub before : from < j
     pub cut-as : getElem? (offcutsOf (at es from)) (rank es from j) ≡ some seed
@@ -28,6 +29,7 @@ module _ {S X : Type 0} (M : Machine S) where
 
   -- os: what opening left; es: the records now; g: how many steps on each record were not refused
   pub record Alone (os : List (Opened S X)) (es : List (Entry S X)) (g : ℕ → ℕ) : Type 0 where
+    -- no record goes away; a number that is no record's had no step
     pub longer : length os ≤ length es
     pub idle : (j : ℕ) → length es ≤ j → g j ≡ 0
     -- "A ring that opening left closed has the lone ring fed with it"; "open rings are as opening left them"
@@ -62,8 +64,9 @@ module _ {S X : Type 0} (M : Machine S) where
       pub ten : (a ≡ full) ↔ ((¬ NoneOrDone e) × TakesPast e p r)
       pub neither : (a ≡ ok) ↔ ((¬ NoneOrDone e) × (¬ TakesPast e p r))
 
-    -- document 01's bullets of a forest, from what opening left and p₀ points; "Counts of points and records are those at opening plus all that
-    -- the lone rings took"
+    -- document 01's bullets of a forest F, from what opening left and p₀ points, with g steps not refused on each record: "Each closed ring has its
+    -- lone ring's .. step due or done, and as many offcuts; open rings are as opening left them" (alone, where a closed record holds its lone
+    -- ring); "Counts of points and records are those at opening plus all that the lone rings took"
     pub record Independent (os : List (Opened S X)) (p₀ : ℕ) (F : Forest S X) (g : ℕ → ℕ) : Type 0 where
       pub alone : Alone os (F .entries) g
       pub points-used : F .points ≡ p₀ + allTaken (F .entries)
