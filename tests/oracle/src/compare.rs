@@ -8,7 +8,7 @@ use crate::oracle::{forest, open, Opened};
 use crate::real::{self, FULL};
 use crate::rng::Rng;
 use crate::stats::Stats;
-use crate::{check, read};
+use crate::{check, model, read};
 
 /// Document 01's length that always suffices.
 const TRAY: usize = 17_920;
@@ -44,6 +44,7 @@ impl Comparer {
         self.stats.add("join made from segments", opened.joined.made as u64);
         self.stats.add("join splits a ring", opened.joined.split as u64);
         self.stats.add("join merges two rings", opened.joined.merged as u64);
+        self.paths_as_opened(&opened)?;
         let start = forest(&opened);
         let mut done = start.clone();
         // Acts count only where the job is accepted: an endless job has thousands.
@@ -58,6 +59,27 @@ impl Comparer {
                 self.full(opened, start, done, rng)
             }
         }
+    }
+
+    /// The path of each ring as opening left it, either way round, open and closed. A finished ring has no equal neighbours, so
+    /// only here do paths drop them.
+    fn paths_as_opened(&mut self, opened: &Opened) -> Same {
+        for (record, held) in real::look(&opened.base).records.iter().enumerate() {
+            let ring: Vec<_> = held.ring.iter().map(|(_, at)| *at).collect();
+            for (reverse, open) in [(false, false), (true, false), (false, true), (true, true)] {
+                let path = real::path_of(&opened.base, record, reverse, open);
+                expect(path == model::path::path(&ring, reverse, open), "the path of a ring as opened")?;
+                if path.is_some_and(|path| path.len() < ring.len()) {
+                    self.stats.add("path that drops equal neighbours", 1);
+                }
+            }
+            let closed = model::path::path(&ring, false, false).unwrap_or_default();
+            let close = |a: usize, b: usize| model::geometry::close(closed[a], closed[b]);
+            if closed.len() == 3 && (close(0, 1) || close(1, 2) || close(2, 0)) {
+                self.stats.add("small path that stays, its ring having more points", 1);
+            }
+        }
+        Ok(())
     }
 
     fn count_refusal(&mut self, bytes: &[u8], number: u8) {

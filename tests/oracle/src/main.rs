@@ -41,6 +41,10 @@ fn number<T: std::str::FromStr>(word: &str) -> Result<T, String> {
     word.parse().map_err(|_| format!("not a number in range: {word}"))
 }
 
+fn cases_of(case: fn(u64, u64) -> String, seed: u64, count: u64) -> Result<(), String> {
+    (0..count).try_for_each(|index| output(case(seed, index).as_bytes()))
+}
+
 fn run(words: &[&str]) -> Result<(), String> {
     match words {
         ["list"] => output(oracle::Oracle::default().answer(&input()?).listing().as_bytes()),
@@ -79,10 +83,8 @@ fn run(words: &[&str]) -> Result<(), String> {
         ["stored", "make", folder] => output(stored::make(folder)?.as_bytes()),
         ["stored", form, file] => stored::emit(form, file),
         ["choose", seed, count, each] => stored::choose(number(seed)?, number(count)?, number(each)?),
-        ["vectors", "geometry", seed, count] => {
-            let (seed, count): (u64, u64) = (number(seed)?, number(count)?);
-            (0..count).try_for_each(|index| output(vectors::geometry(seed, index).as_bytes()))
-        }
+        ["vectors", "geometry", seed, count] => cases_of(vectors::geometry, number(seed)?, number(count)?),
+        ["vectors", "paths", seed, count] => cases_of(vectors::path, number(seed)?, number(count)?),
         ["child"] => guard::child(),
         _ => Err(USAGE.into()),
     }

@@ -1,6 +1,7 @@
 // The real Rust on a job: its state is set directly, its own functions run, and what they leave is read back.
 use crate::core::{FillRule, Path64, Paths64, Point64};
 use crate::engine::{ClipType, ClipperBase, HorzJoin, HorzSegment, OutPt, OutRec};
+use crate::engine_fns::build_path64_from_outpt;
 use crate::engine_public::Clipper64;
 use crate::job::{Job, FRONT, KEEP, NONE, OPEN, POINTS, RECORDS, REVERSE};
 
@@ -159,6 +160,13 @@ pub fn clean_all(base: &mut ClipperBase) {
         }
         record += 1;
     }
+}
+
+/// The real `build_path64_from_outpt` on a record's ring as it stands; none too where the record has no ring.
+pub fn path_of(base: &ClipperBase, record: usize, reverse: bool, open: bool) -> Option<Vec<Pt>> {
+    let first = base.outrec_list[record].pts?;
+    let path = build_path64_from_outpt(first, reverse, open, &base.outpt_arena)?;
+    Some(path.iter().map(|p| (p.x, p.y)).collect())
 }
 
 /// The real `build_paths64`, closed and open lists: for NoClip the public call runs it on the state as it stands, and nothing

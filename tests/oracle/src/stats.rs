@@ -1,7 +1,7 @@
 // How often each refusal and each event came up, and how that is printed.
 
 /// Everything that is counted, in the order it is printed.
-pub const NAMES: [&str; 37] = [
+pub const NAMES: [&str; 39] = [
     "accepted",
     "refused 1 torn",
     "refused 2 strange",
@@ -39,6 +39,8 @@ pub const NAMES: [&str; 37] = [
     "cut that takes the loop's start away",
     "closed path",
     "open path",
+    "path that drops equal neighbours",
+    "small path that stays, its ring having more points",
 ];
 
 #[derive(Clone)]

@@ -1,8 +1,9 @@
 // Cases of the real geometry functions, one a line: `name numbers = result`. README.md has the format.
 use crate::core::{dot_product_three_points, get_segment_intersect_pt, is_collinear, segments_intersect, Point64};
 use crate::engine_fns::{area_triangle, pts_really_close};
-use crate::job::COORDINATE;
+use crate::job::{Job, COORDINATE, NONE};
 use crate::rng::Rng;
+use crate::{gen, real};
 
 /// A coordinate of one of three kinds: small, near a limit, or anywhere.
 fn coordinate(rng: &mut Rng, kind: usize) -> i64 {
@@ -78,4 +79,24 @@ pub fn geometry(seed: u64, index: u64) -> String {
     out += &format!("segments_intersect{four} = {}\n", segments_intersect(a, b, c, d, false) as u8);
     out += &format!("get_segment_intersect_pt{four} = {}\n", crossing(a, b, c, d));
     out
+}
+
+/// One case of the real `build_path64_from_outpt`: `path REVERSE OPEN points = path` or `none`.
+pub fn path(seed: u64, index: u64) -> String {
+    let mut rng = Rng::of(seed, index);
+    let mut ring = gen::ring(&mut rng);
+    // Equal neighbours, and now and then an end equal to the first.
+    for k in 1..ring.len() {
+        if rng.one_in(3) {
+            ring[k] = ring[k - 1];
+        }
+    }
+    let (reverse, open) = (rng.one_in(2), rng.one_in(3));
+    let mut job = Job::default();
+    job.add_ring(0, NONE, &ring);
+    let path = real::path_of(&real::open_untested(&job), 0, reverse, open);
+    let text = |points: &[(i64, i64)]| points.iter().map(|(x, y)| format!(" {x} {y}")).collect::<String>();
+    let ring: Vec<_> = ring.iter().map(|&(x, y)| (x as i64, y as i64)).collect();
+    let result = path.map_or_else(|| " none".to_string(), |path| text(&path));
+    format!("path {} {}{} ={result}\n", reverse as u8, open as u8, text(&ring))
 }

@@ -1,7 +1,7 @@
 // Jobs that fill the store, jobs on which the Rust does not end, and jobs at a limit and one past it.
 use super::good::{closed_points, edges, level, renumber, tangled};
 use super::shapes::{self, At};
-use crate::job::{field, Job, Record, COORDINATE, JOINS, NONE, OPEN, POINTS, RECORDS, SEGMENTS};
+use crate::job::{field, Job, Record, COORDINATE, FRONT, JOINS, NONE, OPEN, POINTS, RECORDS, SEGMENTS};
 use crate::rng::Rng;
 
 /// Fills up to a number of points with one more ring, which is open or an outline without crossings.
@@ -79,7 +79,8 @@ pub fn many_segments(rng: &mut Rng) -> Job {
             ring.reverse();
         }
         let base = job.points.len() as u16;
-        job.add_ring(0, NONE, &ring);
+        let front = if rng.one_in(4) { FRONT } else { 0 };
+        job.add_ring(front, NONE, &ring);
         let corner = if rng.one_in(8) { 2 } else { rng.below(2) };
         job.segments.push(base + corner as u16);
     }

@@ -23,3 +23,8 @@ pub fn job(seed: u64, index: u64) -> Vec<u8> {
         _ => damage::damaged(&mut rng),
     }
 }
+
+/// A small ring of any shape, its points in walk order.
+pub fn ring(rng: &mut Rng) -> Vec<(i32, i32)> {
+    shapes::any(rng)
+}
