@@ -69,7 +69,7 @@ impl Comparer {
             for (reverse, open) in [(false, false), (true, false), (false, true), (true, true)] {
                 let path = real::path_of(&opened.base, record, reverse, open);
                 expect(path == model::path::path(&ring, reverse, open), "the path of a ring as opened")?;
-                if path.is_some_and(|path| path.len() < ring.len()) {
+                if path.map_or(false, |path| path.len() < ring.len()) {
                     self.stats.add("path that drops equal neighbours", 1);
                 }
             }

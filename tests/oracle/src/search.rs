@@ -9,8 +9,9 @@ const STEPS: usize = 100_000;
 
 /// A lone ring's state with its present place in front: the rest of its steps follow from it.
 fn state(lone: &Lone) -> Option<(Vec<(i64, i64)>, usize, Option<usize>)> {
-    let Due::Split { at, start } = lone.due else {
-        return None;
+    let (at, start) = match lone.due {
+        Due::Split { at, start } => (at, start),
+        _ => return None,
     };
     let n = lone.circle.len();
     let from = |place: usize| (place + n - at) % n;

@@ -10,7 +10,7 @@ fn fill_points(rng: &mut Rng, job: &mut Job, to: usize) {
     if n == 0 {
         return;
     }
-    let half = n.div_ceil(2) as i32;
+    let half = (n + 1) as i32 / 2;
     let outline = |k: usize| {
         let k = k as i32;
         if k < half {

@@ -44,8 +44,9 @@ impl Forest {
     /// One step on a record number.
     pub fn step(&mut self, record: usize) -> Result<Act, u8> {
         let held = self.records.len();
-        let Some(Entry::Closed { lone, .. }) = self.records.get_mut(record) else {
-            return Err(OUT_OF_TURN);
+        let lone = match self.records.get_mut(record) {
+            Some(Entry::Closed { lone, .. }) => lone,
+            _ => return Err(OUT_OF_TURN),
         };
         let act = lone.decide(self.keep).ok_or(OUT_OF_TURN)?;
         let (points, records) = act.takes();
