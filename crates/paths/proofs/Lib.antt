@@ -4,5 +4,6 @@ pub mod Walks
 pub mod Rounds
 pub mod Directions
 pub mod Sizes
+pub mod Counts
 pub mod Laying
 pub mod Writing

@@ -2,4 +2,5 @@
 pub mod Path
 pub mod Tray
 pub mod Walking
+pub mod Count
 pub mod Wrote

@@ -1,5 +1,6 @@
 -- The tray's bytes: document 01, "Output fields: tag 6 closed, then tag 7 open, records ascending, value x, y (i32) for each point".
 use Prim.Native.Nat.{ℕ, zero, suc, _+_, _-_, _*_, _/_, _%_, _^_}
+use mathlib.Core.Bool.{Bool, true, false}
 use mathlib.Core.List.{List, [], _∷_, _++_}
 use lib.IntN.{ℤ}
 use lib.ListN.{length, replicate, drop}
@@ -29,13 +30,18 @@ pathBytes (p ∷ ps) = pointBytes p ++ pathBytes ps
 unfoldable pub pathField : ℕ → List Point → List ℕ
 pathField tag path = (tag ∷ []) ++ lowBytes 2 (8 * length path) ++ pathBytes path
 
+-- "tag 6 closed, then tag 7 open"
+abbrev pub tagOf : Bool → ℕ
+tagOf false = 6
+tagOf true = 7
+
 abbrev pub fields : ℕ → List (List Point) → List ℕ
 fields tag [] = []
 fields tag (p ∷ ps) = pathField tag p ++ fields tag ps
 
 -- all of a store's paths
 unfoldable pub fieldsOf : Store → List ℕ
-fieldsOf s = fields 6 (closedPaths s) ++ fields 7 (openPaths s)
+fieldsOf s = fields (tagOf false) (closedPaths s) ++ fields (tagOf true) (openPaths s)
 
 -- a tray of n bytes that begins with these; past them it is zero
 abbrev pub padded : ℕ → List ℕ → List ℕ

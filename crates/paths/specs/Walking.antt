@@ -87,7 +87,12 @@ pub record Known (w : List ℕ) (i : ℕ) : Type 0 where
   pub ready : Ready w
   pub known : i < recs (view w)
 
--- the same, with the settings' direction
+-- a work space and its settings' direction
+pub record Directed (w : List ℕ) (rev : Bool) : Type 0 where
+  pub ready : Ready w
+  pub direction : rev ≡ reverseSolution (view w)
+
+-- record i, with the settings' direction
 pub record Asked (w : List ℕ) (rev : Bool) (i : ℕ) : Type 0 where
   pub of : Known w i
   pub direction : rev ≡ reverseSolution (view w)

@@ -5,7 +5,7 @@ use job::refusal::Refusal;
 use store::Col;
 ghost use mathlib.Core.Path.{_≡_};
 ghost use Prim.Native.Nat.{ℕ, _+_, _*_, _<_, _≤_, _^_};
-ghost use mathlib.Core.Bool.{false, cond, not, _&&_};
+ghost use mathlib.Core.Bool.{false, cond, not, _&&_, Bool·beq};
 ghost use mathlib.Core.List.{map};
 ghost use lib.Dec.{eqb, leb};
 ghost use lib.ListN.{length};
@@ -15,9 +15,11 @@ ghost use Rattle.lone.specs.Plane.{plane};
 ghost use Rattle.lone.specs.Path.{isSmallRing};
 ghost use Rattle.store.specs.Field.{LENGTH};
 ghost use Rattle.store.specs.Words.{view};
-ghost use Rattle.paths.specs.Path.{pointAt, preserveCollinear, reverseSolution, pathBy, sizeOf};
+ghost use Rattle.store.specs.Sound.{isOpen};
+ghost use Rattle.paths.specs.Path.{pointAt, preserveCollinear, reverseSolution, pathBy, pathIf, sizeOf};
+ghost use Rattle.paths.specs.Count.{pathCount, fieldSize, needOf};
 ghost use Rattle.paths.specs.Tray.{pathBytes, over};
-ghost use Rattle.paths.specs.Walking.{linkOf, startFrom, roundFrom, Ready, Known, Asked, Three, Sized, Readable, Round, Room, pathRound, more, putPoint, laid, putMore};
+ghost use Rattle.paths.specs.Walking.{linkOf, startFrom, roundFrom, Ready, Known, Directed, Asked, Three, Sized, Readable, Round, Room, pathRound, more, putPoint, laid, putMore};
 
 // What writing out answers: how many closed and open paths the tray holds, or a refusal.
 pub enum Written {
@@ -215,4 +217,90 @@ fn path_size(w: &[u32], rev: bool, opened: bool, i: usize) -> usize
         return 0;
     }
     n
+}
+
+// Whether record i is open.
+fn is_open(w: &[u32], i: usize) -> bool
+    requires { ⌜ (LENGTH ≤ length (now w)) × (i < 512) ⌝ }
+    ensures { λ r. ⌜ r ≡ isOpen (view (now (w .entry))) i ⌝ }
+{
+    let flags = store::get(w, Col::Flags, i);
+    flags % 2 == 1
+}
+
+// The setting `reverse_solution`.
+fn reverse_solution(w: &[u32]) -> bool
+    requires { ⌜ LENGTH ≤ length (now w) ⌝ }
+    ensures { λ r. ⌜ r ≡ reverseSolution (view (now (w .entry))) ⌝ }
+{
+    let bits = store::get(w, Col::Settings, 0);
+    bits / 2 % 2 == 1
+}
+
+fn same(a: bool, b: bool) -> bool
+    ensures { λ r. ⌜ r ≡ Bool·beq a b ⌝ }
+{
+    if a {
+        return b;
+    }
+    !b
+}
+
+// The same of a record that is open or closed as asked, else 0.
+fn size_if(w: &[u32], rev: bool, opened: bool, i: usize) -> usize
+    requires { ⌜ Asked (now w) rev i ⌝ }
+    ensures { λ r. ⌜ r ≡ sizeOf (pathIf (view (now (w .entry))) opened i) ⌝ }
+{
+    let o = is_open(w, i);
+    let fits = same(o, opened);
+    if fits {
+        return path_size(w, rev, o, i);
+    }
+    0
+}
+
+// ---- how many bytes
+
+// What the open, or the closed, paths come to.
+struct Need {
+    paths: usize,
+    bytes: usize,
+}
+
+fn path_count(k: usize) -> usize
+    ensures { λ r. ⌜ r ≡ pathCount k ⌝ }
+{
+    if k == 0 {
+        return 0;
+    }
+    1
+}
+
+fn field_size(k: usize) -> usize
+    requires { ⌜ k ≤ 2048 ⌝ }
+    ensures { λ r. ⌜ r ≡ fieldSize k ⌝ }
+{
+    if k == 0 {
+        return 0;
+    }
+    3 + 8 * k
+}
+
+fn count_paths(w: &[u32], rev: bool, opened: bool) -> Need
+    requires { ⌜ Directed (now w) rev ⌝ }
+    ensures { λ r. ⌜ r ≡ needOf (view (now (w .entry))) opened ⌝ }
+{
+    let n = store::get(w, Col::Records, 0);
+    let mut paths: usize = 0;
+    let mut bytes: usize = 0;
+    let mut i: usize = 0;
+    while i < n {
+        let k = size_if(w, rev, opened, i);
+        let one = path_count(k);
+        let size = field_size(k);
+        paths += one;
+        bytes += size;
+        i += 1;
+    }
+    Need { paths, bytes }
 }

@@ -1,0 +1,30 @@
+-- What the closed, or the open, paths of a store come to: how many, and how many bytes their fields have.
+use Prim.Native.Nat.{ℕ, _+_, _*_, _≤_}
+use mathlib.Core.Path.{_≡_}
+use mathlib.Core.Bool.{Bool, true, false, cond}
+use mathlib.Core.List.{List}
+use lib.Dec.{eqb}
+use lib.ListN.{length}
+use Rattle.store.specs.Words.{Store, view}
+use Rattle.store.specs.Sound.{recs}
+use Rattle.paths.specs.declared.Need.{Need}
+use Rattle.paths.specs.Path.{pathsBelow}
+use Rattle.paths.specs.Tray.{tagOf, fields}
+
+-- of a path of k points, 0 for no path
+abbrev pub pathCount : ℕ → ℕ
+pathCount k = cond (eqb k 0) 0 1
+
+abbrev pub fieldSize : ℕ → ℕ
+fieldSize k = cond (eqb k 0) 0 (3 + 8 * k)
+
+unfoldable pub needOf : Store → Bool → Need
+needOf s o = record { paths = length (pathsBelow (recs s) o s); bytes = length (fields (tagOf o) (pathsBelow (recs s) o s)) }
+
+-- the records below i are counted
+pub record Tally (w : List ℕ) (o : Bool) (i paths bytes : ℕ) : Type 0 where
+  pub within : i ≤ recs (view w)
+  pub paths-are : paths ≡ length (pathsBelow i o (view w))
+  pub bytes-are : bytes ≡ length (fields (tagOf o) (pathsBelow i o (view w)))
+  pub few-paths : paths ≤ i
+  pub few-bytes : bytes ≤ i * 16387
