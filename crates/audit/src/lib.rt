@@ -127,7 +127,7 @@ fn loose(w: &[u32], k: usize) -> bool
     !(c == k) | !(d == k)
 }
 
-fn point_fails(w: &[u32], t: PointTest, k: usize) -> bool
+pub fn point_fails(w: &[u32], t: PointTest, k: usize) -> bool
     requires { ⌜ LENGTH ≤ length (now w) ⌝ }
     ensures { λ r. ⌜ r ≡ fails t (now (w .entry)) k ⌝ }
 {
@@ -253,7 +253,7 @@ fn record_fails(w: &[u32], t: RecordTest, i: usize) -> bool
 }
 
 // Whether a record fails the test.
-fn any_record(w: &[u32], t: RecordTest) -> bool
+pub fn any_record(w: &[u32], t: RecordTest) -> bool
     requires { ⌜ LENGTH ≤ length (now w) ⌝ }
     ensures { λ r. ⌜ r ≡ anyBelow (recordsOf (now (w .entry))) (failsOf t (now (w .entry))) ⌝ }
 {

@@ -1,0 +1,118 @@
+-- After row 7 has passed, the record whose ring a point is on is the one that it resolves to; so row 8 can ask that record.
+use mathlib.Core.Path.{_≡_, refl, sym, ap, _∙_}
+use mathlib.Core.Bool.{Bool, true, false, _&&_, _||_}
+use mathlib.Core.List.{List, [], _∷_}
+use Prim.Native.Nat.{ℕ, zero, suc, _+_, _<_, _≤_}
+use native.Mathlib.Decide.{ℕ-discrete, decLt}
+use native.Mathlib.Omega.{arith}
+use lib.Dec.{eqb, leb}
+use lib.ListN.{getD}
+use borrow.Author.Tests.{eqb-true, leb-false, not-false}
+use Rattle.store.specs.Words.{view}
+use Rattle.store.specs.Named.{pointsOf, recordsOf}
+use Rattle.store.specs.Sound.{ringAt, isOpen}
+use Rattle.audit.specs.Tests.{isIn, anyBelow}
+use Rattle.audit.proofs.Testing.{more, hit, whole}
+use Rattle.rows.specs.Owners.{resolved, circles}
+use Rattle.rows.specs.Rings.{anyIn, onRing, alone, elsewhere, estranged}
+use Rattle.rows.specs.Rows.{muddled, onOpen, Named}
+use Rattle.rows.proofs.Marking.{in-else}
+
+pub or-left : (a b : Bool) → (a || b) ≡ false → a ≡ false
+or-left true b h = h
+or-left false b h = refl
+
+pub or-right : (a b : Bool) → (a || b) ≡ false → b ≡ false
+or-right true b h = elim b [ true ↦ h | false ↦ refl ]
+or-right false b h = h
+
+-- a test that holds of no number below n holds of none of them, and back
+pub none-below : (n : ℕ) (q : ℕ → Bool) (k : ℕ) → anyBelow n q ≡ false → k < n → q k ≡ false
+unfolding anyBelow
+none-below zero q k e h = absurd (omega arith)
+none-below (suc n) q k e h = by (decLt k n) (λ l. none-below n q k (or-left (anyBelow n q) (q n) e) l) (or-right (anyBelow n q) (q n) e)
+  where
+    by : Dec (k < n) → (k < n → q k ≡ false) → q n ≡ false → q k ≡ false
+    by (yes l) f g = f l
+    by (no l) f g = let d : k ≡ n = omega arith in ap q d ∙ g
+
+pub never : (n : ℕ) (q : ℕ → Bool) → ((k : ℕ) → k < n → q k ≡ false) → anyBelow n q ≡ false
+unfolding anyBelow
+never zero q h = refl
+never (suc n) q h = rw (never n q (λ k l. h k (omega arith)), h n (omega arith))
+
+-- one that holds of some
+pub some-below : (n : ℕ) (q : ℕ → Bool) → anyBelow n q ≡ true → (k : ℕ) × (k < n) × (q k ≡ true)
+unfolding anyBelow
+some-below zero q e = absurd (let z : _≡_ {A = ℕ} 0 1 = cc in omega arith)
+some-below (suc n) q e = by (anyBelow n q) refl (q n) refl e (some-below n q)
+  where
+    by : (a : Bool) → anyBelow n q ≡ a → (b : Bool) → q n ≡ b → (a || b) ≡ true → (anyBelow n q ≡ true → (k : ℕ) × (k < n) × (q k ≡ true)) → (k : ℕ) × (k < suc n) × (q k ≡ true)
+    by true x b y z f = let r = f x in (r .0, omega (arith, r .1), r .2)
+    by false x b y z f = (n, omega arith, y ∙ z)
+
+none-in : (q : ℕ → Bool) (k : ℕ) (l : List ℕ) → anyIn q l ≡ false → isIn k l ≡ true → q k ≡ false
+unfolding anyIn
+none-in q k [] e h = absurd (let z : _≡_ {A = ℕ} 0 1 = cc in omega arith)
+none-in q k (x ∷ l) e h = by (ℕ-discrete x k) (or-left (q x) (anyIn q l) e) (none-in q k l (or-right (q x) (anyIn q l) e))
+  where
+    by : Dec (x ≡ k) → q x ≡ false → (isIn k l ≡ true → q k ≡ false) → q k ≡ false
+    by (yes d) f g = ap q (sym d) ∙ f
+    by (no d) f g = g (sym (in-else k x l d) ∙ h)
+
+module _ (w : List ℕ) (clear : muddled w ≡ false) where
+  passed : (anyBelow (recordsOf w) (estranged w) || anyBelow (pointsOf w) (alone w)) ≡ false
+  passed = or-right (anyBelow (recordsOf w) (circles w)) (anyBelow (recordsOf w) (estranged w) || anyBelow (pointsOf w) (alone w)) clear
+
+  -- a ring that has the point is that of the record it resolves to
+  pub ring-home : (i k : ℕ) → i < recordsOf w → onRing w i k ≡ true → resolved w k ≡ i
+  ring-home i k h r =
+      let a = or-left (anyBelow (recordsOf w) (estranged w)) (anyBelow (pointsOf w) (alone w)) passed in
+      let b = none-below (recordsOf w) (estranged w) i a h in
+      eqb-true (resolved w k) i (not-false (eqb (resolved w k) i) (none-in (elsewhere w i) k (ringAt (view w) i) b r))
+
+  -- and there is one
+  pub has-home : (k : ℕ) → k < pointsOf w → (resolved w k < recordsOf w) × (onRing w (resolved w k) k ≡ true)
+  has-home k h =
+      let a = or-right (anyBelow (recordsOf w) (estranged w)) (anyBelow (pointsOf w) (alone w)) passed in
+      let b = none-below (pointsOf w) (alone w) k a h in
+      let s = some-below (recordsOf w) (λ i. onRing w i k) (not-false (anyBelow (recordsOf w) (λ i. onRing w i k)) b) in
+      let e = ring-home (s .0) k (s .1) (s .2) in
+      rw e (s .1, s .2)
+
+  pub open-is : (k : ℕ) → k < pointsOf w → isOpen (view w) (resolved w k) ≡ onOpen w k
+  open-is k h = by (isOpen (view w) (resolved w k)) refl
+    where
+      with-ring : (i : ℕ) → i < recordsOf w → isOpen (view w) (resolved w k) ≡ false → (b : Bool) → onRing w i k ≡ b → (isOpen (view w) i && b) ≡ false
+      with-ring i l o true r = rw (← ring-home i k l r) (and-true (isOpen (view w) (resolved w k)) ∙ o)
+        where
+          and-true : (b : Bool) → (b && true) ≡ b
+          and-true true = refl
+          and-true false = refl
+      with-ring i l o false r = and-false (isOpen (view w) i)
+        where
+          and-false : (b : Bool) → (b && false) ≡ false
+          and-false true = refl
+          and-false false = refl
+
+      by : (b : Bool) → isOpen (view w) (resolved w k) ≡ b → b ≡ onOpen w k
+      by true o =
+          let s = has-home k h in
+          hit (λ i. isOpen (view w) i && onRing w i k) (recordsOf w) (recordsOf w) (resolved w k) (isOpen (view w) (resolved w k) && onRing w (resolved w k) k) (s .0) refl refl (rw (o, s .1))
+      by false o = sym (never (recordsOf w) (λ i. isOpen (view w) i && onRing w i k) (λ i l. with-ring i l o (onRing w i k) refl))
+
+-- the loop over a list
+module _ {w l : List ℕ} {n : ℕ} (g : Named w l n) (i p : ℕ) (b : Bool) (h : i < n) (e : p ≡ getD l i 0) (f : b ≡ isOpen (view w) (resolved w p)) where
+  is-open : b ≡ onOpen w (getD l i 0)
+  is-open =
+      let a = leb-false (pointsOf w) (getD l i 0) (none-below n (λ j. leb (pointsOf w) (getD l j 0)) i (g .named) h) in
+      rw (← e) (f ∙ open-is w (g .clear) p (omega (arith, e, a)))
+
+  pub open-hit : b ≡ true → true ≡ anyBelow n (λ j. onOpen w (getD l j 0))
+  open-hit t = hit (λ j. onOpen w (getD l j 0)) n n i b h refl is-open t
+
+  pub open-more : anyBelow i (λ j. onOpen w (getD l j 0)) ≡ false → b ≡ false → anyBelow (i + 1) (λ j. onOpen w (getD l j 0)) ≡ false
+  open-more a t = more (λ j. onOpen w (getD l j 0)) i b a is-open t
+
+pub open-over : (w l : List ℕ) (n i : ℕ) → n ≤ i → i ≤ n → anyBelow i (λ j. onOpen w (getD l j 0)) ≡ false → false ≡ anyBelow n (λ j. onOpen w (getD l j 0))
+open-over w l n i h k e = whole (λ j. onOpen w (getD l j 0)) n n i h refl k e

@@ -1,0 +1,5 @@
+pub mod Chains
+pub mod Rounds
+pub mod Marking
+pub mod Homes
+pub mod Judging

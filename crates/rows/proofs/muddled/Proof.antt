@@ -1,0 +1,18 @@
+-- `rows::muddled` meets its contract: chains, rings, points without a mark.
+use borrow.Author.Needs.{needs}
+use Rattle.rows.proofs.Judging.{circle-found, estranged-found, alone-found}
+use Rattle.rows.proofs.muddled.Statement.{statement}
+use Rattle.rows.proofs.muddled.Tie as tie
+
+pub muddled-spec : {M : Type 1} → statement M
+muddled-spec =
+    tie.close
+    (tie.spec
+    (λ c κs. search needs)
+    (λ c. search (needs, circle-found))
+    (λ c. search needs)
+    (λ c κs. search needs)
+    (λ c. search (needs, estranged-found))
+    (λ c. search needs)
+    (λ c κs. search needs)
+    (λ c. search (needs, alone-found)))

@@ -1,0 +1,3 @@
+pub mod Owners
+pub mod Rings
+pub mod Rows

@@ -1,0 +1,72 @@
+-- Rows 4 to 8 of document 01's table, "each over the whole job": its points and records as words, its m segments and n joins as two lists.
+use Prim.Native.Nat.{ℕ, _*_, _≤_}
+use mathlib.Core.Path.{_≡_}
+use mathlib.Core.Bool.{Bool, false, cond, _&&_, _||_}
+use mathlib.Core.List.{List}
+use lib.Dec.{leb}
+use lib.ListN.{length, getD}
+use Rattle.job.specs.Limits.{POINTS, RECORDS}
+use Rattle.job.specs.declared.refusal.Refusal.the-variants.{OffTheTable, NoSuch, Loose, Muddled, OpenEdge}
+use Rattle.store.specs.Field.{LENGTH}
+use Rattle.store.specs.Words.{view}
+use Rattle.store.specs.Named.{pointsOf, recordsOf}
+use Rattle.store.specs.Sound.{isOpen}
+use Rattle.audit.specs.Tests.{anyBelow, offTable, noSuch, noSuchOf, loose}
+use Rattle.rows.specs.Owners.{circles}
+use Rattle.rows.specs.Rings.{onRing, alone, estranged}
+use Rattle.rows.specs.declared.Verdict.{Verdict}
+use Rattle.rows.specs.declared.Verdict.the-variants.{Passed, Refused}
+
+-- row 4: "a coordinate beyond the limit"
+abbrev pub offTheTable : List ℕ → Bool
+offTheTable w = anyBelow (pointsOf w) (offTable w)
+
+-- one of the first n numbers of a list names no point
+abbrev pub unnamed : List ℕ → List ℕ → ℕ → Bool
+unnamed w l n = anyBelow n (λ i. leb (pointsOf w) (getD l i 0))
+
+-- row 5: "a number naming nothing": a point's, a record's, a segment's or a join's
+abbrev pub noSuchNumber : List ℕ → List ℕ → ℕ → List ℕ → ℕ → Bool
+noSuchNumber w ss m js n =
+    anyBelow (pointsOf w) (noSuch w) || (anyBelow (recordsOf w) (noSuchOf w) || (unnamed w ss m || unnamed w js (2 * n)))
+
+-- row 6: "next of prev, or prev of next, isn't the point"
+abbrev pub looseLink : List ℕ → Bool
+looseLink w = anyBelow (pointsOf w) (loose w)
+
+-- row 7: "an owner chain circles; a point on no record's ring; a ring point that resolves to any record but its ring's, or to none"
+abbrev pub muddled : List ℕ → Bool
+muddled w = anyBelow (recordsOf w) (circles w) || (anyBelow (recordsOf w) (estranged w) || anyBelow (pointsOf w) (alone w))
+
+-- point k is on an open ring
+abbrev pub onOpen : List ℕ → ℕ → Bool
+onOpen w k = anyBelow (recordsOf w) (λ i. isOpen (view w) i && onRing w i k)
+
+-- row 8: "a segment or join point on an open ring"
+abbrev pub openEdge : List ℕ → List ℕ → ℕ → List ℕ → ℕ → Bool
+openEdge w ss m js n = anyBelow m (λ i. onOpen w (getD ss i 0)) || anyBelow (2 * n) (λ i. onOpen w (getD js i 0))
+
+-- "4 to 8, each over the whole job", the first that holds
+unfoldable pub rowsOf : List ℕ → List ℕ → ℕ → List ℕ → ℕ → Verdict
+rowsOf w ss m js n =
+    cond (offTheTable w) (Refused OffTheTable)
+    (cond (noSuchNumber w ss m js n) (Refused NoSuch)
+    (cond (looseLink w) (Refused Loose)
+    (cond (muddled w) (Refused Muddled)
+    (cond (openEdge w ss m js n) (Refused OpenEdge)
+    Passed))))
+
+-- a job that was read: counts within the limits, and the lists as long as they say
+pub record Filled (w ss : List ℕ) (m : ℕ) (js : List ℕ) (n : ℕ) : Type 0 where
+  pub long : LENGTH ≤ length w
+  pub points : pointsOf w ≤ POINTS
+  pub records : recordsOf w ≤ RECORDS
+  pub segments : m ≤ length ss
+  pub joins : 2 * n ≤ length js
+
+-- row 7 has passed, and the first n numbers of a list name points
+pub record Named (w l : List ℕ) (n : ℕ) : Type 0 where
+  pub long : LENGTH ≤ length w
+  pub clear : muddled w ≡ false
+  pub fits : n ≤ length l
+  pub named : unnamed w l n ≡ false

@@ -1,0 +1,155 @@
+// Rows 4 to 8 of document 01's table, each over the whole job as it was read.
+pub mod owners;
+pub mod marks;
+
+use audit::PointTest;
+use audit::RecordTest;
+use job::refusal::Refusal;
+use store::Col;
+use store::get;
+use store::read;
+ghost use mathlib.Core.Path.{_≡_};
+ghost use Prim.Native.Nat.{ℕ, _*_, _≤_};
+ghost use lib.ListN.{length, getD};
+ghost use Rattle.store.specs.Field.{LENGTH};
+ghost use Rattle.store.specs.Words.{view};
+ghost use Rattle.store.specs.Named.{pointsOf};
+ghost use Rattle.store.specs.Sound.{isOpen};
+ghost use Rattle.audit.specs.Tests.{anyBelow};
+ghost use Rattle.audit.specs.Marks.{fails, Counted};
+ghost use Rattle.rows.specs.Rows.{unnamed, noSuchNumber, onOpen, muddled, openEdge, rowsOf, Filled, Named};
+ghost use Rattle.rows.specs.Owners.{resolved};
+
+// What rows 4 to 8 say of a job.
+pub enum Verdict {
+    Passed,
+    Refused(Refusal),
+}
+
+// Whether a point fails the test.
+fn any_point(w: &[u32], t: PointTest) -> bool
+    requires { ⌜ LENGTH ≤ length (now w) ⌝ }
+    ensures { λ r. ⌜ r ≡ anyBelow (pointsOf (now (w .entry))) (fails t (now (w .entry))) ⌝ }
+{
+    let m = get(w, Col::Points, 0);
+    let mut k: usize = 0;
+    while k < m {
+        let found = audit::point_fails(w, t, k);
+        if found {
+            return true;
+        }
+        k += 1;
+    }
+    false
+}
+
+fn wide(x: u32) -> usize
+    ensures { λ r. ⌜ r ≡ x ⌝ }
+{
+    x as usize
+}
+
+// Whether one of the first n numbers of a list names no point.
+fn any_unnamed(w: &[u32], list: &[u32], n: usize) -> bool
+    requires { ⌜ (LENGTH ≤ length (now w)) × (n ≤ length (now list)) ⌝ }
+    ensures { λ r. ⌜ r ≡ unnamed (now (w .entry)) (now (list .entry)) n ⌝ }
+{
+    let m = get(w, Col::Points, 0);
+    let mut i: usize = 0;
+    while i < n {
+        let p = wide(list[i]);
+        if m <= p {
+            return true;
+        }
+        i += 1;
+    }
+    false
+}
+
+// Row 5.
+fn no_such_number(w: &[u32], segments: &[u32], m: usize, joins: &[u32], n: usize) -> bool
+    requires { ⌜ Filled (now w) (now segments) m (now joins) n ⌝ }
+    ensures { λ r. ⌜ r ≡ noSuchNumber (now (w .entry)) (now (segments .entry)) m (now (joins .entry)) n ⌝ }
+{
+    let a = any_point(w, PointTest::Numbers);
+    let b = audit::any_record(w, RecordTest::Named);
+    let c = any_unnamed(w, segments, m);
+    let d = any_unnamed(w, joins, 2 * n);
+    a | (b | (c | d))
+}
+
+// Whether the point is on an open ring: its ring's record is the one it resolves to.
+fn on_open(w: &[u32], k: usize) -> bool
+    requires { ⌜ LENGTH ≤ length (now w) ⌝ }
+    ensures { λ r. ⌜ r ≡ isOpen (view (now (w .entry))) (resolved (now (w .entry)) k) ⌝ }
+{
+    let r = read(w, Col::Rec, k);
+    let i = owners::find(w, r);
+    let g = read(w, Col::Flags, i);
+    g % 2 == 1
+}
+
+// Whether one of the first n points of a list is on an open ring.
+fn any_open(w: &[u32], list: &[u32], n: usize) -> bool
+    requires { ⌜ Named (now w) (now list) n ⌝ }
+    ensures { λ r. ⌜ r ≡ anyBelow n (λ i. onOpen (now (w .entry)) (getD (now (list .entry)) i 0)) ⌝ }
+{
+    let mut i: usize = 0;
+    while i < n {
+        let p = wide(list[i]);
+        let found = on_open(w, p);
+        if found {
+            return true;
+        }
+        i += 1;
+    }
+    false
+}
+
+// Row 7.
+fn muddled(w: &[u32]) -> bool
+    requires { ⌜ Counted (now w) ⌝ }
+    ensures { λ r. ⌜ r ≡ muddled (now (w .entry)) ⌝ }
+{
+    if owners::any_circle(w) {
+        return true;
+    }
+    let mut marks = [0u8; 2048];
+    if marks::walk_all(w, &mut marks) {
+        return true;
+    }
+    marks::any_bare(w, &marks)
+}
+
+// Row 8.
+fn open_edge(w: &[u32], segments: &[u32], m: usize, joins: &[u32], n: usize) -> bool
+    requires { ⌜ Named (now w) (now segments) m × Named (now w) (now joins) (2 * n) ⌝ }
+    ensures { λ r. ⌜ r ≡ openEdge (now (w .entry)) (now (segments .entry)) m (now (joins .entry)) n ⌝ }
+{
+    let a = any_open(w, segments, m);
+    let b = any_open(w, joins, 2 * n);
+    a | b
+}
+
+// Rows 4 to 8, in order.
+pub fn rows(w: &[u32], segments: &[u32], m: usize, joins: &[u32], n: usize) -> Verdict
+    requires { ⌜ Filled (now w) (now segments) m (now joins) n ⌝ }
+    ensures { λ r. ⌜ r ≡ rowsOf (now (w .entry)) (now (segments .entry)) m (now (joins .entry)) n ⌝ }
+{
+    if any_point(w, PointTest::Table) {
+        return Verdict::Refused(Refusal::OffTheTable);
+    }
+    if no_such_number(w, segments, m, joins, n) {
+        return Verdict::Refused(Refusal::NoSuch);
+    }
+    if any_point(w, PointTest::Links) {
+        return Verdict::Refused(Refusal::Loose);
+    }
+    if muddled(w) {
+        return Verdict::Refused(Refusal::Muddled);
+    }
+    if open_edge(w, segments, m, joins, n) {
+        return Verdict::Refused(Refusal::OpenEdge);
+    }
+    Verdict::Passed
+}
