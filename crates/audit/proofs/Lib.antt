@@ -1,2 +1,3 @@
 -- Laws of the tests.
 pub mod Testing
+pub mod Marking

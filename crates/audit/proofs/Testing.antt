@@ -14,8 +14,12 @@ use Rattle.rings.specs.Count.{one, occ}
 use Rattle.rings.specs.Walk.{run}
 use Rattle.rings.proofs.Counting.{one-here, one-else}
 use Rattle.store.specs.Named.{pointsOf, recordsOf, nextOf, firstOf, flagsOf, progressOf, presentOf, ringOf}
-use Rattle.audit.specs.Tests.{isIn, anyBelow, astray}
-use Rattle.audit.specs.Marks.{Counted, isMarked, markFrom, marksBy, meets, AllMarked}
+use Rattle.job.specs.declared.refusal.Refusal.the-variants.{Crowded, OffTheTable, NoSuch, Loose, Muddled}
+use Rattle.audit.specs.declared.Verdict.{Verdict}
+use Rattle.audit.specs.declared.Verdict.the-variants.{Passed, Refused}
+use Rattle.audit.specs.declared.PointTest.the-variants.{Table, Numbers, Links}
+use Rattle.audit.specs.Tests.{isIn, anyBelow, anyRecord, crowded, noSuchOf, astray, testsOf}
+use Rattle.audit.specs.Marks.{Counted, isMarked, markFrom, marksBy, meets, AllMarked, anyMarked, linksOf, pointsTested}
 
 -- ---- the first number below n that fails
 
@@ -146,3 +150,44 @@ module _ (w : List ℕ) (i f : ℕ) (ef : f ≡ firstOf w i) where
 
       pub astray-else : (p : ℕ) (b : Bool) → d ≤ 4 → d ≢ 4 → p ≡ presentOf w i → b ≡ isIn p (ringOf w f) → not b ≡ astray w i
       astray-else p b l n ep eb = rw (ringed, shut, le-ltb 4 (progressOf w i) (omega arith), lt-ltb (progressOf w i) 4 (omega arith), eb, ep, ef)
+
+-- ---- the tests together
+
+module _ (w ms : List ℕ) (s a : Bool) (ea : a ≡ (anyMarked w ms Numbers || anyRecord w (noSuchOf w))) where
+  pub says-no-such : a ≡ true → Refused NoSuch ≡ linksOf w ms s
+  unfolding linksOf
+  says-no-such h = rw (sym ea ∙ h)
+
+  module _ (ha : a ≡ false) (b : Bool) (eb : b ≡ anyMarked w ms Links) where
+    pub says-loose : b ≡ true → Refused Loose ≡ linksOf w ms s
+    unfolding linksOf
+    says-loose h = rw (sym ea ∙ ha, sym eb ∙ h)
+
+    pub says-shared : b ≡ false → s ≡ true → Refused Muddled ≡ linksOf w ms s
+    unfolding linksOf
+    says-shared h k = rw (sym ea ∙ ha, sym eb ∙ h, k)
+
+    module _ (hb : b ≡ false) (hs : s ≡ false) (d : Bool) (ed : d ≡ anyRecord w (astray w)) where
+      pub says-astray : d ≡ true → Refused Muddled ≡ linksOf w ms s
+      unfolding linksOf
+      says-astray h = rw (sym ea ∙ ha, sym eb ∙ hb, hs, sym ed ∙ h)
+
+      pub says-passed : d ≡ false → Passed ≡ linksOf w ms s
+      unfolding linksOf
+      says-passed h = rw (sym ea ∙ ha, sym eb ∙ hb, hs, sym ed ∙ h)
+
+module _ (w ms : List ℕ) (s a : Bool) (m : AllMarked w ms s) (ea : a ≡ anyMarked w ms Table) where
+  here : anyMarked w (marksBy w (recordsOf w)) Table ≡ a
+  here = sym (ea ∙ ap (λ (l : List ℕ). anyMarked w l Table) (m .marks))
+
+  pub says-off : a ≡ true → Refused OffTheTable ≡ pointsTested w
+  unfolding pointsTested
+  says-off h = rw (here ∙ h)
+
+  pub says-links : (r : Verdict) → a ≡ false → r ≡ linksOf w ms s → r ≡ pointsTested w
+  unfolding pointsTested
+  says-links r h e = rw (here ∙ h) (e ∙ ap (λ (l : List ℕ). linksOf w l s) (m .marks) ∙ ap (linksOf w (marksBy w (recordsOf w))) (m .shares))
+
+pub says-crowded : (w : List ℕ) (b : Bool) → b ≡ crowded w → b ≡ true → Refused Crowded ≡ testsOf w
+unfolding testsOf
+says-crowded w b e h = rw (sym e ∙ h)

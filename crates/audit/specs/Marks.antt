@@ -1,14 +1,17 @@
 -- The tests as the code goes through them: one mark for each point, set by the walks, and a test by its name.
 use Prim.Native.Nat.{ℕ, zero, suc, _≤_}
 use mathlib.Core.Path.{_≡_}
-use mathlib.Core.Bool.{Bool, cond, not, _&&_}
+use mathlib.Core.Bool.{Bool, cond, not, _&&_, _||_}
 use mathlib.Core.List.{List, [], _∷_}
 use lib.Dec.{eqb, ltb}
 use lib.ListN.{length, getD, set, replicate}
 use Rattle.job.specs.Limits as limit
+use Rattle.job.specs.declared.refusal.Refusal.the-variants.{OffTheTable, NoSuch, Loose, Muddled}
+use Rattle.audit.specs.declared.Verdict.{Verdict}
+use Rattle.audit.specs.declared.Verdict.the-variants.{Passed, Refused}
 use Rattle.store.specs.Field.{LENGTH}
 use Rattle.store.specs.Named.{pointsOf, recordsOf, nextOf, firstOf}
-use Rattle.audit.specs.Tests.{anyBelow, offTable, noSuch, loose, noSuchOf, astray}
+use Rattle.audit.specs.Tests.{anyBelow, anyRecord, offTable, noSuch, loose, noSuchOf, astray}
 use Rattle.audit.specs.declared.PointTest.{PointTest}
 use Rattle.audit.specs.declared.PointTest.the-variants.{Table, Numbers, Links}
 use Rattle.audit.specs.declared.RecordTest.{RecordTest}
@@ -51,3 +54,19 @@ fails Links w k = loose w k
 abbrev pub failsOf : RecordTest → List ℕ → ℕ → Bool
 failsOf Named w i = noSuchOf w i
 failsOf Placed w i = astray w i
+
+-- a marked point fails the test
+abbrev pub anyMarked : List ℕ → List ℕ → PointTest → Bool
+anyMarked w ms t = anyBelow (pointsOf w) (λ k. isMarked ms k && fails t w k)
+
+-- the tests by the marks; whether records share a ring is known by then
+unfoldable pub linksOf : List ℕ → List ℕ → Bool → Verdict
+linksOf w ms shares =
+    cond (anyMarked w ms Numbers || anyRecord w (noSuchOf w)) (Refused NoSuch)
+    (cond (anyMarked w ms Links) (Refused Loose)
+    (cond (shares || anyRecord w (astray w)) (Refused Muddled) Passed))
+
+unfoldable pub pointsTested : List ℕ → Verdict
+pointsTested w =
+    let ms : List ℕ = marksBy w (recordsOf w) in
+    cond (anyMarked w ms Table) (Refused OffTheTable) (linksOf w ms (anyRecord w (meets w)))

@@ -5,6 +5,9 @@ use mathlib.Core.List.{List, [], _∷_}
 use lib.Dec.{eqb, ltb}
 use Rattle.rings.specs.Count.{occ}
 use Rattle.job.specs.Limits as limit
+use Rattle.job.specs.declared.refusal.Refusal.the-variants.{Crowded, OffTheTable, NoSuch, Loose, Muddled}
+use Rattle.audit.specs.declared.Verdict.{Verdict}
+use Rattle.audit.specs.declared.Verdict.the-variants.{Passed, Refused}
 use Rattle.store.specs.Field.{pt, X, Y, NONE}
 use Rattle.store.specs.Words.{view}
 use Rattle.store.specs.Named.{pointsOf, recordsOf, nextOf, prevOf, recOf, ownerOf, firstOf, progressOf, presentOf}
@@ -75,3 +78,14 @@ abbrev pub astray : List ℕ → ℕ → Bool
 astray w i =
     not (ringless (view w) i) && not (isOpen (view w) i)
     && (ltb 4 (progressOf w i) || (ltb (progressOf w i) 4 && not (isIn (presentOf w i) (ringAt (view w) i))))
+
+-- ---- the tests together, in the paper's order
+
+-- the first that fails
+unfoldable pub testsOf : List ℕ → Verdict
+testsOf w =
+    cond (crowded w) (Refused Crowded)
+    (cond (anyReached w (offTable w)) (Refused OffTheTable)
+    (cond (anyReached w (noSuch w) || anyRecord w (noSuchOf w)) (Refused NoSuch)
+    (cond (anyReached w (loose w)) (Refused Loose)
+    (cond (anyRecord w (shared w) || anyRecord w (astray w)) (Refused Muddled) Passed))))

@@ -1,23 +1,31 @@
 // The tests of a handed work space: read only, linear in points and records.
 use job::Job;
+use job::refusal::Refusal;
 use store::Col;
 use store::get;
 use store::read;
 ghost use mathlib.Core.Path.{_≡_};
-ghost use mathlib.Core.Bool.{_&&_, not};
+ghost use mathlib.Core.Bool.{_&&_, _||_, not};
 ghost use Prim.Native.Nat.{ℕ, _+_, _<_, _≤_, _^_};
 ghost use lib.Dec.{eqb};
 ghost use lib.ListN.{length, getD, replicate};
 ghost use Rattle.store.specs.Field.{LENGTH};
 ghost use Rattle.store.specs.Words.{view};
 ghost use Rattle.store.specs.Named.{pointsOf, recordsOf, nextOf, ringOf};
-ghost use Rattle.audit.specs.Tests.{isIn, anyBelow, offTable, noSuch, noSuchOf, namesNone, loose, astray, crowded};
-ghost use Rattle.audit.specs.Marks.{Counted, isMarked, markFrom, marksBy, AllMarked, fails, failsOf};
+ghost use Rattle.audit.specs.Tests.{isIn, anyBelow, offTable, noSuch, noSuchOf, namesNone, loose, astray, crowded, anyRecord, testsOf};
+ghost use Rattle.audit.specs.declared.PointTest.the-variants.{Numbers};
+ghost use Rattle.audit.specs.Marks.{Counted, isMarked, markFrom, marksBy, AllMarked, fails, failsOf, anyMarked, linksOf, pointsTested};
 
 const NONE: usize = 65535;
 
 // The word of the largest coordinate.
 const FAR: usize = 2 * (Job::COORDINATE as usize);
+
+// What the tests of a work space say.
+pub enum Verdict {
+    Passed,
+    Refused(Refusal),
+}
 
 // A test of a reached point: its coordinates, its numbers, its links.
 pub enum PointTest {
@@ -159,7 +167,7 @@ fn marked_fails(w: &[u32], marks: &[u8; 2048], t: PointTest, k: usize) -> bool
 // Whether a marked point fails the test.
 fn any_marked(w: &[u32], marks: &[u8; 2048], t: PointTest) -> bool
     requires { ⌜ LENGTH ≤ length (now w) ⌝ }
-    ensures { λ r. ⌜ r ≡ anyBelow (pointsOf (now (w .entry))) (λ k. isMarked (now (marks .entry)) k && fails t (now (w .entry)) k) ⌝ }
+    ensures { λ r. ⌜ r ≡ anyMarked (now (w .entry)) (now (marks .entry)) t ⌝ }
 {
     let m = get(w, Col::Points, 0);
     let mut k: usize = 0;
@@ -267,4 +275,65 @@ pub fn any_record(w: &[u32], t: RecordTest) -> bool
         i += 1;
     }
     false
+}
+
+// ---- all tests, in order
+
+// Whether a number names nothing: of a marked point, or of a record.
+fn any_no_such(w: &[u32], marks: &[u8; 2048]) -> bool
+    requires { ⌜ LENGTH ≤ length (now w) ⌝ }
+    ensures { λ r. ⌜ r ≡ (anyMarked (now (w .entry)) (now (marks .entry)) Numbers || anyRecord (now (w .entry)) (noSuchOf (now (w .entry)))) ⌝ }
+{
+    let a = any_marked(w, marks, PointTest::Numbers);
+    let b = any_record(w, RecordTest::Named);
+    a | b
+}
+
+// The tests after the coordinates: numbers, links, rings and progress.
+fn links_of(w: &[u32], marks: &[u8; 2048], shares: bool) -> Verdict
+    requires { ⌜ LENGTH ≤ length (now w) ⌝ }
+    ensures { λ r. ⌜ r ≡ linksOf (now (w .entry)) (now (marks .entry)) shares ⌝ }
+{
+    let a = any_no_such(w, marks);
+    if a {
+        return Verdict::Refused(Refusal::NoSuch);
+    }
+    let b = any_marked(w, marks, PointTest::Links);
+    if b {
+        return Verdict::Refused(Refusal::Loose);
+    }
+    if shares {
+        return Verdict::Refused(Refusal::Muddled);
+    }
+    let d = any_record(w, RecordTest::Placed);
+    if d {
+        return Verdict::Refused(Refusal::Muddled);
+    }
+    Verdict::Passed
+}
+
+// The tests after the counts.
+fn points_of(w: &[u32]) -> Verdict
+    requires { ⌜ Counted (now w) ⌝ }
+    ensures { λ r. ⌜ r ≡ pointsTested (now (w .entry)) ⌝ }
+{
+    let mut marks = [0u8; 2048];
+    let shares = mark_all(w, &mut marks);
+    let a = any_marked(w, &marks, PointTest::Table);
+    if a {
+        return Verdict::Refused(Refusal::OffTheTable);
+    }
+    links_of(w, &marks, shares)
+}
+
+// The tests of a work space that a step, or writing out after steps, is handed.
+pub fn tests_of(w: &[u32]) -> Verdict
+    requires { ⌜ LENGTH ≤ length (now w) ⌝ }
+    ensures { λ r. ⌜ r ≡ testsOf (now (w .entry)) ⌝ }
+{
+    let many = crowded(w);
+    if many {
+        return Verdict::Refused(Refusal::Crowded);
+    }
+    points_of(w)
 }

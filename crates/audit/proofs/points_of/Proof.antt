@@ -1,0 +1,16 @@
+-- points_of meets its contract.
+use borrow.Author.Needs.{needs}
+use Rattle.audit.proofs.Testing.{says-off, says-links}
+use Rattle.audit.proofs.Marking.{no-marks}
+use Rattle.audit.proofs.points_of.Statement.{statement}
+use Rattle.audit.proofs.points_of.Tie as tie
+
+pub points-of-spec : {M : Type 1} → statement M
+points-of-spec =
+    tie.close
+    (tie.spec
+    (λ c κs. search (needs, no-marks))
+    (λ c κs. search needs)
+    (λ c. search says-off)
+    (λ c κs. search needs)
+    (λ c. search says-links))
