@@ -2,3 +2,6 @@
 pub mod Testing
 pub mod Marking
 pub mod Reaching
+pub mod Saying
+pub mod Deciding
+pub mod Agreeing
