@@ -1,5 +1,5 @@
 // Batch mode: length-prefixed jobs in, length-prefixed answers out. README.md has the format.
-use crate::oracle::Oracle;
+use crate::oracle::{self, Oracle};
 use std::io::{self, BufReader, BufWriter, Read, Write};
 
 /// No part may be longer; a job is decided by its first 42,005 bytes.
@@ -51,6 +51,41 @@ pub fn batch(tray: Option<usize>) -> Result<(), String> {
     let mut output = BufWriter::new(io::stdout().lock());
     while let Some(job) = read_part(&mut input)? {
         write_part(&mut output, &answer_part(&mut oracle, &job, tray))?;
+    }
+    output.flush().map_err(|why| format!("cannot write: {why}"))
+}
+
+/// The model's answers to a list of steps on a job, and the rings they leave.
+fn steps_part(job: &[u8], records: &[u8]) -> Vec<u8> {
+    let mut forest = match oracle::open(job) {
+        Err(number) => return vec![number],
+        Ok(opened) => oracle::forest(&opened),
+    };
+    let mut part = vec![0];
+    for record in records.chunks(2) {
+        let record = u16::from_le_bytes([record[0], record[1]]) as usize;
+        part.push(forest.step(record).err().unwrap_or(0));
+    }
+    part.extend((forest.points as u16).to_le_bytes());
+    part.extend((forest.records.len() as u16).to_le_bytes());
+    for record in 0..forest.records.len() {
+        let ring = forest.ring(record);
+        part.push(forest.due(record).number());
+        part.extend((ring.len() as u16).to_le_bytes());
+        part.extend(ring.iter().flat_map(|&(x, y)| [x as i32, y as i32]).flat_map(i32::to_le_bytes));
+    }
+    part
+}
+
+pub fn batch_steps() -> Result<(), String> {
+    let mut input = BufReader::new(io::stdin().lock());
+    let mut output = BufWriter::new(io::stdout().lock());
+    while let Some(job) = read_part(&mut input)? {
+        let records = read_part(&mut input)?.ok_or("the input ends before a list of steps")?;
+        if records.len() % 2 != 0 {
+            return Err("a list of steps has half a record number".into());
+        }
+        write_part(&mut output, &steps_part(&job, &records))?;
     }
     output.flush().map_err(|why| format!("cannot write: {why}"))
 }

@@ -48,7 +48,12 @@ pub fn expect(path: &str) -> Result<(), String> {
         let listing = oracle.answer(&case.job).listing();
         if listing != case.expected {
             let line = |text: &str| text.trim_end().replace('\n', " / ");
-            return Err(format!("{path}: case {}: expected {}, got {}", case.name, line(&case.expected), line(&listing)));
+            return Err(format!(
+                "{path}: case {}: expected {}, got {}",
+                case.name,
+                line(&case.expected),
+                line(&listing)
+            ));
         }
     }
     println!("{path}: {} cases as expected", cases.len());

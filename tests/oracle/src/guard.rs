@@ -12,7 +12,8 @@ use std::sync::atomic::{AtomicUsize, Ordering};
 const CHILD_LIMIT: usize = 2 << 20;
 /// The same for every other run; far above what a job needs, so that a wrong model ends in a message, not in a full machine.
 const LIMIT: usize = 1 << 28;
-const GREW_LINE: &[u8] = b"oracle: a list grows past 256 MB: the model finds room where the real run has none, or the input is too long\n";
+const GREW_LINE: &[u8] =
+    b"oracle: a list grows past 256 MB: the model finds room where the real run has none, or the input is too long\n";
 /// The status that a child ends itself with.
 pub const GREW: i32 = 77;
 const PANICKED: i32 = 101;

@@ -25,7 +25,7 @@ mod vectors;
 
 use std::io::{Read, Write};
 
-const USAGE: &str = "usage: oracle list|tray|opened|acts|show|text|batch, see tests/oracle/README.md";
+const USAGE: &str = "no such command, or not its arguments; tests/oracle/README.md lists the commands";
 
 fn input() -> Result<Vec<u8>, String> {
     let mut bytes = Vec::new();
@@ -70,6 +70,7 @@ fn run(words: &[&str]) -> Result<(), String> {
         }
         ["batch"] => batch::batch(None),
         ["batch", "--tray", length] => batch::batch(Some(number(length)?)),
+        ["batch-steps"] => batch::batch_steps(),
         ["job", seed, index] => output(&gen::job(number(seed)?, number(index)?)),
         ["generate", seed, count] => runs::generate(number(seed)?, number(count)?),
         ["compare", seed, count, threads] => runs::compare(number(seed)?, number(count)?, number(threads)?, 0),

@@ -66,7 +66,8 @@ fn rings(forest: &Forest) -> String {
     let mut out = format!("points {} records {}\n", forest.points, forest.records.len());
     for record in 0..forest.records.len() {
         let ring: String = forest.ring(record).iter().map(|(x, y)| format!(" {x},{y}")).collect();
-        out += &format!("record {record} due {} ring {}{ring}\n", due_word(forest.due(record)), forest.ring(record).len());
+        out +=
+            &format!("record {record} due {} ring {}{ring}\n", due_word(forest.due(record)), forest.ring(record).len());
     }
     out
 }

@@ -30,6 +30,7 @@ fn seeded(path: &str) -> Result<Vec<Case>, String> {
 pub fn make(folder: &str) -> Result<String, String> {
     let mut all = cases::load(&format!("{folder}/paper.txt"))?;
     all.extend(cases::load(&format!("{folder}/refusals.txt"))?);
+    all.extend(cases::load(&format!("{folder}/paths.txt"))?);
     all.extend(seeded(&format!("{folder}/seeds.txt"))?);
     let mut oracle = Oracle::default();
     let mut out = String::new();

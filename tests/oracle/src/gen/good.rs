@@ -101,7 +101,8 @@ pub fn renumber(rng: &mut Rng, job: &mut Job) {
         for _ in 0..if first == NONE { 0 } else { rng.below(4) } {
             first = job.points[first as usize].next;
         }
-        records[record[k] as usize] = Record { flags: r.flags, owner: name(&record, r.owner), first: name(&point, first) };
+        records[record[k] as usize] =
+            Record { flags: r.flags, owner: name(&record, r.owner), first: name(&point, first) };
     }
     (job.points, job.records) = (points, records);
     job.segments.iter_mut().for_each(|s| *s = point[*s as usize]);

@@ -11,6 +11,19 @@ pub enum Due {
     Done,
 }
 
+impl Due {
+    /// 0 for done, else the kinds of step in document 01's order.
+    pub fn number(self) -> u8 {
+        match self {
+            Due::Done => 0,
+            Due::Validity => 1,
+            Due::Removal { .. } => 2,
+            Due::Triangle => 3,
+            Due::Split { .. } => 4,
+        }
+    }
+}
+
 /// What a step does.
 #[derive(Clone, Copy, Debug, PartialEq)]
 pub enum Act {
@@ -24,7 +37,11 @@ pub enum Act {
     /// The triangle test ends the ring.
     Settle,
     Double,
-    Cut { at: Pt, point: bool, offcut: bool },
+    Cut {
+        at: Pt,
+        point: bool,
+        offcut: bool,
+    },
 }
 
 #[derive(Clone, Debug, PartialEq)]
