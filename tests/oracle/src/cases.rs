@@ -1,5 +1,6 @@
 // Cases written by hand: a job as text and the listing that a paper, not a run, says it has. tests/answers/README.md has the format.
 use crate::oracle::Oracle;
+use crate::output;
 use crate::text;
 
 pub struct Case {
@@ -56,6 +57,5 @@ pub fn expect(path: &str) -> Result<(), String> {
             ));
         }
     }
-    println!("{path}: {} cases as expected", cases.len());
-    Ok(())
+    output(format!("{path}: {} cases as expected\n", cases.len()).as_bytes())
 }

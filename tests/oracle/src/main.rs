@@ -24,6 +24,7 @@ mod text;
 mod vectors;
 
 use std::io::{Read, Write};
+use text::number;
 
 const USAGE: &str = "no such command, or not its arguments; tests/oracle/README.md lists the commands";
 
@@ -33,12 +34,9 @@ fn input() -> Result<Vec<u8>, String> {
     Ok(bytes)
 }
 
+/// Writes to standard output; a reader that has gone is an error like any other.
 fn output(bytes: &[u8]) -> Result<(), String> {
     std::io::stdout().write_all(bytes).map_err(|why| format!("cannot write: {why}"))
-}
-
-fn number<T: std::str::FromStr>(word: &str) -> Result<T, String> {
-    word.parse().map_err(|_| format!("not a number in range: {word}"))
 }
 
 fn cases_of(case: fn(u64, u64) -> String, seed: u64, count: u64) -> Result<(), String> {

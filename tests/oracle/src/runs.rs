@@ -2,6 +2,7 @@
 use crate::batch::write_part;
 use crate::compare::Comparer;
 use crate::gen;
+use crate::output;
 use crate::rng::Rng;
 use crate::stats::Stats;
 use std::io::{self, BufWriter, Write};
@@ -34,8 +35,8 @@ pub fn compare(seed: u64, count: u64, threads: u64, least: u64) -> Result<(), St
     }
     let seconds = start.elapsed().as_secs_f64();
     let rate = stats.jobs as f64 / seconds;
-    println!("seed {seed}: {} jobs, no disagreement, {seconds:.1} s, {rate:.0} jobs a second", stats.jobs);
-    print!("{}", stats.print());
+    let head = format!("seed {seed}: {} jobs, no disagreement, {seconds:.1} s, {rate:.0} jobs a second\n", stats.jobs);
+    output((head + &stats.print()).as_bytes())?;
     let rare = stats.rare(least * count / 100_000);
     if rare.is_empty() {
         Ok(())

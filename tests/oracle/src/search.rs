@@ -1,6 +1,7 @@
 // Rings on which the Rust does not end (docs/DIFFERENCES.md): a search for small ones, and a check that one comes back to a state.
 use crate::model::forest::Forest;
 use crate::model::lone::{Due, Lone};
+use crate::output;
 use crate::rng::Rng;
 use std::collections::HashMap;
 
@@ -47,7 +48,7 @@ pub fn endless(seed: u64, count: u64, n: usize, side: i32) -> Result<(), String>
         let mut forest = Forest::new(0, n, vec![(false, ring.clone())]);
         if forest.finish(|_, _, _, _| ()).is_err() {
             let points: String = ring.iter().map(|(x, y)| format!(" {x},{y}")).collect();
-            println!("ring 0 -{points}");
+            output(format!("ring 0 -{points}\n").as_bytes())?;
         }
     }
     Ok(())

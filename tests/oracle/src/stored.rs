@@ -4,6 +4,7 @@ use crate::cases::{self, Case};
 use crate::compare::Comparer;
 use crate::gen;
 use crate::oracle::Oracle;
+use crate::output;
 use crate::rng::Rng;
 use crate::show;
 use crate::stats::{Stats, NAMES};
@@ -110,7 +111,7 @@ pub fn choose(seed: u64, count: u64, each: usize) -> Result<(), String> {
         let rarest = NAMES.iter().rev().filter(|name| names.contains(name)).find(wanted);
         if let Some(name) = rarest {
             *chosen.entry(name).or_default() += 1;
-            println!("{seed} {index} {name}");
+            output(format!("{seed} {index} {name}\n").as_bytes())?;
             jobs.insert(job);
         }
     }

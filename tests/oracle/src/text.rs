@@ -15,7 +15,7 @@ pub fn unhex(text: &str) -> Result<Vec<u8>, String> {
     Ok(pairs.collect())
 }
 
-fn number<T: std::str::FromStr>(word: &str) -> Result<T, String> {
+pub fn number<T: std::str::FromStr>(word: &str) -> Result<T, String> {
     word.parse().map_err(|_| format!("not a number in range: {word}"))
 }
 
