@@ -29,6 +29,10 @@ pointWrites k vx vy r = write (ct POINTS) 0 (suc k) ∷ write (pt X) k vx ∷ wr
 abbrev pub linkWrites : ℕ → ℕ → ℕ → List Write
 linkWrites p k n = write (pt NEXT) k n ∷ write (pt PREV) k p ∷ write (pt NEXT) p k ∷ write (pt PREV) n k ∷ []
 
+-- a new point k between p and n
+abbrev pub putWrites : ℕ → ℕ → ℕ → ℕ → ℕ → ℕ → List Write
+putWrites k vx vy r p n = pointWrites k vx vy r ++ linkWrites p k n
+
 -- what was between p and n goes out
 abbrev pub unlinkWrites : ℕ → ℕ → List Write
 unlinkWrites p n = write (pt NEXT) p n ∷ write (pt PREV) n p ∷ []
@@ -47,7 +51,7 @@ doubleWrites s i vx vy d =
     let x : ℕ = s (rc PRESENT) i in
     let p : ℕ = s (pt PREV) x in
     let k : ℕ = pts s in
-    pointWrites k vx vy (s (pt REC) x) ++ (linkWrites p k x ++ (write (rc MARK) i (markOf d) ∷ []))
+    putWrites k vx vy (s (pt REC) x) p x ++ (write (rc MARK) i (markOf d) ∷ [])
 
 -- first point and present place are p
 abbrev pub placeWrites : ℕ → ℕ → Due → List Write
@@ -68,7 +72,7 @@ cutPutWrites s i vx vy d =
     let p : ℕ = s (pt PREV) x in
     let z : ℕ = s (pt NEXT) (s (pt NEXT) x) in
     let k : ℕ = pts s in
-    pointWrites k vx vy (s (pt REC) p) ++ (linkWrites p k z ++ placeWrites i p d)
+    putWrites k vx vy (s (pt REC) p) p z ++ placeWrites i p d
 
 -- a record r is taken for x and y
 abbrev pub recordWrites : ℕ → ℕ → ℕ → List Write
@@ -82,4 +86,4 @@ startWrites r o b i =
 
 -- x and y, linked already, and a new point b between them become the ring of a new record cut from record i
 abbrev pub offcutWrites : Store → ℕ → ℕ → ℕ → ℕ → ℕ → List Write
-offcutWrites s i x y vx vy = recordWrites (recs s) x y ++ (pointWrites (pts s) vx vy (recs s) ++ (linkWrites y (pts s) x ++ startWrites (recs s) (s (rc OWNER) i) (pts s) i))
+offcutWrites s i x y vx vy = recordWrites (recs s) x y ++ (putWrites (pts s) vx vy (recs s) y x ++ startWrites (recs s) (s (rc OWNER) i) (pts s) i)

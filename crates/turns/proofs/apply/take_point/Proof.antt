@@ -1,0 +1,17 @@
+-- `take_point` meets its contract.
+use borrow.Author.Needs.{needs}
+use Rattle.turns.proofs.Applying.{took-point}
+use Rattle.turns.proofs.apply.take_point.Statement.{statement}
+use Rattle.turns.proofs.apply.take_point.Tie as tie
+
+pub take-point-spec : {M : Type 1} → statement M
+take-point-spec =
+    tie.close
+    (tie.spec
+    (λ c. search needs)
+    (λ c κs. search needs)
+    (λ c κs. search needs)
+    (λ c κs. search needs)
+    (λ c κs. search needs)
+    (λ c. search needs)
+    (λ c. search (took-point)))

@@ -1,0 +1,35 @@
+-- The code's names for the steps due, the acts and the answers.
+use Rattle.geometry.specs.declared.Point.{Point}
+use Rattle.rings.specs.Progress.{validity, removal, triangle, split, done}
+use Rattle.rings.specs.Progress as rings
+use Rattle.lone.specs.Ring.{stay, discard, dropPoint, moveOn, toFirst, double, cut}
+use Rattle.lone.specs.Ring as lone
+use Rattle.lone.specs.Forest.{ok, full, outOfTurn}
+use Rattle.lone.specs.Forest as forest
+use Rattle.turns.specs.declared.Due.{Due}
+use Rattle.turns.specs.declared.Due.the-variants.{Validity, Removal, Triangle, Split, Done}
+use Rattle.turns.specs.declared.Act.{Act}
+use Rattle.turns.specs.declared.Act.the-variants.{Stay, Discard, Drop, MoveOn, ToFirst, Double, Cut}
+use Rattle.turns.specs.declared.Answer.{Answer}
+use Rattle.turns.specs.declared.Answer.the-variants.{Ok, Full, OutOfTurn}
+
+abbrev pub dueIs : Due → rings.Due
+dueIs Validity = validity
+dueIs Removal = removal
+dueIs Triangle = triangle
+dueIs Split = split
+dueIs Done = done
+
+abbrev pub actIs : Act → lone.Act Point
+actIs Stay = stay
+actIs Discard = discard
+actIs Drop = dropPoint
+actIs (MoveOn d) = moveOn (dueIs d)
+actIs (ToFirst d) = toFirst (dueIs d)
+actIs (Double v d) = double v (dueIs d)
+actIs (Cut v put off d) = cut v put off (dueIs d)
+
+abbrev pub answerIs : Answer → forest.Answer
+answerIs Ok = ok
+answerIs Full = full
+answerIs OutOfTurn = outOfTurn

@@ -1,0 +1,73 @@
+// Reading a ring: its points by number and by value, a record's places and its step due.
+use crate::Due;
+use geometry::Point;
+use store::Col;
+use store::get;
+ghost use mathlib.Core.Path.{_≡_};
+ghost use Prim.Native.Nat.{ℕ, _<_, _≤_, _^_};
+ghost use lib.IntN.{pos, _-ℤ_};
+ghost use lib.ListN.{length};
+ghost use Rattle.store.specs.Field.{pt, rc, NEXT, PREV, MARK, LENGTH};
+ghost use Rattle.store.specs.Words.{cell, view};
+ghost use Rattle.store.specs.Sound.{dueAt};
+ghost use Rattle.turns.specs.Code.{dueIs};
+ghost use Rattle.numbers.specs.Raised.{coordinate};
+ghost use Rattle.turns.specs.Reads.{At, Found, Valued};
+
+// The next point.
+pub fn next_of(w: &[u32], x: usize) -> usize
+    requires { ⌜ At (now w) x ⌝ }
+    ensures { λ r. ⌜ Found (now (w .entry)) (cell (pt NEXT) (now (w .entry)) x) r ⌝ }
+{
+    get(w, Col::Next, x)
+}
+
+// The point before.
+pub fn prev_of(w: &[u32], x: usize) -> usize
+    requires { ⌜ At (now w) x ⌝ }
+    ensures { λ r. ⌜ Found (now (w .entry)) (cell (pt PREV) (now (w .entry)) x) r ⌝ }
+{
+    get(w, Col::Prev, x)
+}
+
+// The coordinate of a word.
+fn lowered(v: usize) -> i32
+    requires { ⌜ v ≤ 2097152 ⌝ }
+    ensures { λ r. ⌜ r ≡ coordinate 1048576 v ⌝ }
+{
+    (v as i64 - 1048576) as i32
+}
+
+// A point by value.
+pub fn point_at(w: &[u32], k: usize) -> Point
+    requires { ⌜ At (now w) k ⌝ }
+    ensures { λ r. ⌜ Valued (now (w .entry)) k r ⌝ }
+{
+    let x = get(w, Col::X, k);
+    let y = get(w, Col::Y, k);
+    Point {
+        x: lowered(x),
+        y: lowered(y),
+    }
+}
+
+// The step due: a record's progress mark.
+pub fn due_at(w: &[u32], i: usize) -> Due
+    requires { ⌜ (LENGTH ≤ length (now w)) × (i < 512) ⌝ }
+    ensures { λ r. ⌜ dueIs r ≡ dueAt (view (now (w .entry))) i ⌝ }
+{
+    let m = get(w, Col::Mark, i);
+    if m == 0 {
+        return Due::Validity;
+    }
+    if m == 1 {
+        return Due::Removal;
+    }
+    if m == 2 {
+        return Due::Triangle;
+    }
+    if m == 3 {
+        return Due::Split;
+    }
+    Due::Done
+}
