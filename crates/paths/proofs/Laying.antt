@@ -34,7 +34,7 @@ length-over a t h = omega (arith, length-append a (drop (length a) t), length-dr
 
 -- ---- one byte more, and a number more
 
-set-over : (a t : List ℕ) (b : ℕ) → length a < length t → set (over a t) (length a) b ≡ over (a ++ (b ∷ [])) t
+pub set-over : (a t : List ℕ) (b : ℕ) → length a < length t → set (over a t) (length a) b ≡ over (a ++ (b ∷ [])) t
 set-over a t b h =
     let e : suc (length a) ≡ length (a ++ (b ∷ [])) = omega (arith, length-append a (b ∷ [])) in
     ap (λ (l : List ℕ). set (a ++ l) (length a) b) (drop-cons t (length a) 0 h)

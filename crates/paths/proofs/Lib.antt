@@ -5,5 +5,8 @@ pub mod Rounds
 pub mod Directions
 pub mod Sizes
 pub mod Counts
+pub mod Parts
+pub mod Fields
+pub mod Filling
 pub mod Laying
 pub mod Writing

@@ -3,4 +3,5 @@ pub mod Path
 pub mod Tray
 pub mod Walking
 pub mod Count
+pub mod Filling
 pub mod Wrote

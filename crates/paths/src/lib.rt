@@ -8,17 +8,19 @@ ghost use Prim.Native.Nat.{ℕ, _+_, _*_, _<_, _≤_, _^_};
 ghost use mathlib.Core.Bool.{false, cond, not, _&&_, Bool·beq};
 ghost use mathlib.Core.List.{map};
 ghost use lib.Dec.{eqb, leb};
-ghost use lib.ListN.{length};
+ghost use lib.ListN.{length, set, replicate};
+ghost use Rattle.numbers.specs.Bytes.{putLe};
 ghost use Rattle.numbers.specs.Raised.{coordinate};
 ghost use Rattle.job.specs.Limits.{COORDINATE};
 ghost use Rattle.lone.specs.Plane.{plane};
 ghost use Rattle.lone.specs.Path.{isSmallRing};
 ghost use Rattle.store.specs.Field.{LENGTH};
 ghost use Rattle.store.specs.Words.{view};
-ghost use Rattle.store.specs.Sound.{isOpen};
+ghost use Rattle.store.specs.Sound.{recs, isOpen};
 ghost use Rattle.paths.specs.Path.{pointAt, preserveCollinear, reverseSolution, pathBy, pathIf, sizeOf};
 ghost use Rattle.paths.specs.Count.{pathCount, fieldSize, needOf};
-ghost use Rattle.paths.specs.Tray.{pathBytes, over};
+ghost use Rattle.paths.specs.Tray.{pathBytes, tagOf, fieldsOf, padded, over};
+ghost use Rattle.paths.specs.Filling.{pathPoints, fieldAt, fieldsBelow, layOver, PointsFit, FieldFits, FieldsFit, AllFit};
 ghost use Rattle.paths.specs.Walking.{linkOf, startFrom, roundFrom, Ready, Known, Directed, Asked, Three, Sized, Readable, Round, Room, pathRound, more, putPoint, laid, putMore};
 
 // What writing out answers: how many closed and open paths the tray holds, or a refusal.
@@ -303,4 +305,87 @@ fn count_paths(w: &[u32], rev: bool, opened: bool) -> Need
         i += 1;
     }
     Need { paths, bytes }
+}
+
+// ---- the tray
+
+fn tag_of(opened: bool) -> u8
+    ensures { λ r. ⌜ r ≡ tagOf opened ⌝ }
+{
+    if opened {
+        return 7;
+    }
+    6
+}
+
+// The tag and the length of a field for k points.
+fn put_header(t: &mut [u8], tag: u8, k: usize)
+    requires { ⌜ (3 ≤ length (now t)) × (k ≤ 2048) ⌝ }
+    ensures { λ _. ⌜ now (t .exit) ≡ putLe 2 1 (8 * k) (set (now (t .entry)) 0 tag) ⌝ }
+{
+    t[0] = tag;
+    numbers::write_u16(t, 1, (8 * k) as u32);
+}
+
+// The points of record i's path, laid over the beginning of t.
+fn write_points(w: &[u32], rev: bool, i: usize, t: &mut [u8])
+    requires { ⌜ PointsFit (now w) rev i (now t) ⌝ }
+    ensures { λ _. ⌜ now (t .exit) ≡ over (pathBytes (pathPoints (view (now (w .entry))) rev i)) (now (t .entry)) ⌝ }
+{
+    let f = store::get(w, Col::First, i);
+    let a = start_from(w, rev, f);
+    write_round(w, rev, a, t);
+}
+
+// The field of record i's path, if it has one and is open or closed as asked; answers how long it is.
+fn write_path(w: &[u32], rev: bool, opened: bool, i: usize, t: &mut [u8]) -> usize
+    requires { ⌜ FieldFits (now w) rev opened i (now t) ⌝ }
+    ensures { λ r. ⌜ laid r (now (t .exit)) ≡ layOver (fieldAt (view (now (w .entry))) opened i) (now (t .entry)) ⌝ }
+{
+    let k = size_if(w, rev, opened, i);
+    if k == 0 {
+        return 0;
+    }
+    let tag = tag_of(opened);
+    put_header(t, tag, k);
+    write_points(w, rev, i, &mut t[3..]);
+    3 + 8 * k
+}
+
+// The fields of all records that are open or closed as asked; answers how many bytes they have.
+fn write_paths(w: &[u32], rev: bool, opened: bool, t: &mut [u8]) -> usize
+    requires { ⌜ FieldsFit (now w) rev opened (now t) ⌝ }
+    ensures { λ r. ⌜ laid r (now (t .exit)) ≡ layOver (fieldsBelow (recs (view (now (w .entry)))) (view (now (w .entry))) opened) (now (t .entry)) ⌝ }
+{
+    let n = store::get(w, Col::Records, 0);
+    let mut at: usize = 0;
+    let mut i: usize = 0;
+    while i < n {
+        let size = write_path(w, rev, opened, i, &mut t[at..]);
+        at += size;
+        i += 1;
+    }
+    at
+}
+
+// Zeros.
+fn clear(t: &mut [u8])
+    ensures { λ _. ⌜ now (t .exit) ≡ replicate (length (now (t .entry))) 0 ⌝ }
+{
+    let mut i: usize = 0;
+    while i < t.len() {
+        t[i] = 0;
+        i += 1;
+    }
+}
+
+// All fields, and zeros past them.
+fn fill(w: &[u32], rev: bool, t: &mut [u8])
+    requires { ⌜ AllFit (now w) rev (now t) ⌝ }
+    ensures { λ _. ⌜ now (t .exit) ≡ padded (length (now (t .entry))) (fieldsOf (view (now (w .entry)))) ⌝ }
+{
+    let closed = write_paths(w, rev, false, t);
+    let opened = write_paths(w, rev, true, &mut t[closed..]);
+    let used = closed + opened;
+    clear(&mut t[used..]);
 }

@@ -1,0 +1,170 @@
+-- A record's field is written: its header, then its path in the part after it.
+use Prim.Native.Nat.{ℕ, suc, _+_, _-_, _*_, _≤_, _<_}
+use mathlib.Core.Path.{_≡_, refl, sym, ap, _∙_, subst}
+use mathlib.Core.Logic.{_≢_}
+use mathlib.Core.Bool.{Bool, true, false, cond, not, _&&_, Bool·beq}
+use mathlib.Core.List.{List, [], _∷_, _++_, append-nil}
+use mathlib.Core.Option.{Option, none, some}
+use native.Mathlib.Omega.{arith}
+use lib.Dec.{eqb, leb}
+use lib.ListN.{length, set, take, drop, length-append, length-drop, length-set}
+use borrow.Author.Tests.{ne-eqb}
+use borrow.Rule.Slice.PartMut.{putMid}
+use Rattle.numbers.specs.Bytes.{putLe}
+use Rattle.numbers.proofs.Written.{length-put}
+use Rattle.rings.specs.Circle.{turn}
+use Rattle.geometry.specs.declared.Point.{Point}
+use Rattle.lone.specs.Lone.{Geo}
+use Rattle.lone.specs.Plane.{plane}
+use Rattle.lone.specs.Path.{inOrder, withoutEquals, isSmallRing, buildPath64FromOutpt}
+use Rattle.store.specs.Field.{rc, FIRST}
+use Rattle.store.specs.Words.{Store, view}
+use Rattle.store.specs.Sound.{recs, ringless, isOpen}
+use Rattle.paths.specs.Path.{pointsAt, preserveCollinear, reverseSolution, pathBy, pathAt, pathIf, listed, pathsBelow, sizeOf}
+use Rattle.paths.specs.Tray.{lowBytes, pathBytes, pathField, tagOf, fields, over}
+use Rattle.paths.specs.Walking.{startFrom, Round, Room, Known, Asked, Laid, laid, pathRound}
+use Rattle.paths.specs.Count.{fieldSize}
+use Rattle.paths.specs.Filling.{pathPoints, fieldAt, fieldsBelow, layOver, PointsFit, FieldFits, FieldsFit, Filled}
+use Rattle.paths.proofs.Directions.{Ringed, ringed, path-of}
+use Rattle.paths.proofs.Laying.{length-lowBytes, length-pathBytes, length-over, put-over, set-over}
+use Rattle.paths.proofs.Counts.{field-length, fields-append, size-fits}
+use Rattle.paths.proofs.Parts.{tray-length, part-is, part-over}
+
+-- ---- the points of a path
+
+module _ (w : List ℕ) (rev : Bool) (i : ℕ) (t : List ℕ) (p : PointsFit w rev i t) (f : ℕ) (e : f ≡ view w (rc FIRST) i) where
+  on : (d : Bool) → Ringed w d i
+  on d = ringed w (p .of .ready) i (p .of .known) (p .ringed) d
+
+  pub points-first : Round w false f
+  points-first = rw e (on rev .first)
+
+  points-is : (a : ℕ) → a ≡ startFrom (view w) rev f → pathRound (view w) rev a ≡ pathPoints (view w) rev i
+  points-is a g = rw (g, e) (path-of w rev i (on rev))
+
+  pub points-room : (a : ℕ) → a ≡ startFrom (view w) rev f → Room w rev a t
+  points-room a g =
+      record {
+        round = subst (Round w rev) (sym (g ∙ ap (startFrom (view w) rev) e)) (on rev .along);
+        room = omega (arith, p .room, ap length (points-is a g));
+      }
+
+  pub points-laid : (a : ℕ) (u : List ℕ) → a ≡ startFrom (view w) rev f → u ≡ over (pathBytes (pathRound (view w) rev a)) t → u ≡ over (pathBytes (pathPoints (view w) rev i)) t
+  points-laid a u g h = h ∙ ap (λ (l : List Point). over (pathBytes l) t) (points-is a g)
+
+-- ---- a path that is there
+
+build-some : (G : Geo Point) (rev o : Bool) (c : List Point) → sizeOf (buildPath64FromOutpt G rev o c) ≢ 0 → buildPath64FromOutpt G rev o c ≡ some (withoutEquals G (inOrder rev c))
+unfolding buildPath64FromOutpt
+build-some G rev o c d =
+    go
+    (leb (length c) (cond o 1 2))
+    (not o && eqb (length (withoutEquals G (inOrder rev c))) 3 && isSmallRing G (cond rev c (turn c)))
+    (leb 2 (length (withoutEquals G (inOrder rev c))))
+    d
+  where
+    go : (a b t : Bool) → sizeOf (cond a none (cond b none (cond t (some (withoutEquals G (inOrder rev c))) none))) ≢ 0
+        → cond a none (cond b none (cond t (some (withoutEquals G (inOrder rev c))) none)) ≡ some (withoutEquals G (inOrder rev c))
+    go true b t d = absurd (d refl)
+    go false true t d = absurd (d refl)
+    go false false false d = absurd (d refl)
+    go false false true d = refl
+
+build-none : (G : Geo Point) (rev o : Bool) → buildPath64FromOutpt G rev o [] ≡ none
+unfolding buildPath64FromOutpt
+build-none G rev true = refl
+build-none G rev false = refl
+
+pub record There (s : Store) (rev o : Bool) (i k : ℕ) : Type 0 where
+  pub is : pathIf s o i ≡ some (pathPoints s rev i)
+  pub size : k ≡ length (pathPoints s rev i)
+  pub ringed : ringless s i ≡ false
+  pub field-is : fieldAt s o i ≡ (tagOf o ∷ []) ++ lowBytes 2 (8 * k) ++ pathBytes (pathPoints s rev i)
+
+path-there : (s : Store) (rev o : Bool) (i : ℕ) → rev ≡ reverseSolution s → sizeOf (pathIf s o i) ≢ 0 → pathIf s o i ≡ some (pathPoints s rev i)
+unfolding pathIf pathAt
+path-there s rev o i e d = by (Bool·beq (isOpen s i) o) d
+  where
+    by : (t : Bool) → sizeOf (cond t (pathBy s (reverseSolution s) (isOpen s i) i) none) ≢ 0 → cond t (pathBy s (reverseSolution s) (isOpen s i) i) none ≡ some (pathPoints s rev i)
+    by true h = rw e (build-some (plane (preserveCollinear s)) (reverseSolution s) (isOpen s i) (pointsAt s i) h)
+    by false h = absurd (h refl)
+
+-- a ringless record has no path
+none-ringless : (s : Store) (o : Bool) (i : ℕ) → ringless s i ≡ true → pathIf s o i ≡ none
+unfolding pathIf pathAt
+none-ringless s o i e = rw (e, build-none (plane (preserveCollinear s)) (reverseSolution s) (isOpen s i)) (by (Bool·beq (isOpen s i) o))
+  where
+    by : (t : Bool) → _≡_ {A = Option (List Point)} (cond t none none) none
+    by true = refl
+    by false = refl
+
+pub there : (s : Store) (rev o : Bool) (i k : ℕ) → rev ≡ reverseSolution s → k ≡ sizeOf (pathIf s o i) → k ≢ 0 → There s rev o i k
+unfolding fieldAt pathField
+there s rev o i k e f d =
+    let a = path-there s rev o i e (λ z. d (f ∙ z)) in
+    let b : k ≡ length (pathPoints s rev i) = f ∙ ap sizeOf a in
+    record { is = a; size = b; ringed = has-ring (ringless s i) refl; field-is = rw (a, append-nil (pathField (tagOf o) (pathPoints s rev i)), b) }
+  where
+    has-ring : (t : Bool) → ringless s i ≡ t → t ≡ false
+    has-ring false g = refl
+    has-ring true g = absurd (d (f ∙ ap sizeOf (none-ringless s o i g)))
+
+-- ---- its header, and the part after it
+
+pub header-length : (t u : List ℕ) (tag v : ℕ) → u ≡ putLe 2 1 v (set t 0 tag) → length u ≡ length t
+header-length t u tag v e = ap length e ∙ length-put 2 1 v (set t 0 tag) ∙ length-set t 0 tag
+
+header-over : (t : List ℕ) (tag v : ℕ) → 3 ≤ length t → putLe 2 1 v (set t 0 tag) ≡ over ((tag ∷ []) ++ lowBytes 2 v) t
+header-over t tag v h = ap (λ (l : List ℕ). putLe 2 1 v l) (set-over [] t tag (omega arith)) ∙ put-over 2 v (tag ∷ []) t (omega arith)
+
+pub no-field : (s : Store) (o : Bool) (i k : ℕ) (t : List ℕ) → k ≡ sizeOf (pathIf s o i) → k ≡ 0 → laid 0 t ≡ layOver (fieldAt s o i) t
+unfolding fieldAt
+no-field s o i k t e f =
+    let h : length (fields (tagOf o) (listed (pathIf s o i))) ≡ 0 = field-length s (tagOf o) o i ∙ ap fieldSize (sym e ∙ f) in
+    go (fields (tagOf o) (listed (pathIf s o i))) h
+  where
+    go : (l : List ℕ) → length l ≡ 0 → laid 0 t ≡ layOver l t
+    go [] g = refl
+    go (x ∷ l) g = absurd (omega arith)
+
+module _ (w : List ℕ) (rev o : Bool) (i : ℕ) (t : List ℕ) (p : FieldFits w rev o i t) (k : ℕ) (e : k ≡ sizeOf (pathIf (view w) o i)) (d : k ≢ 0) where
+  is-there : There (view w) rev o i k
+  is-there = there (view w) rev o i k (p .asked .direction) e d
+
+  field-room : 3 + 8 * k ≤ length t
+  field-room =
+      let z = pathBytes (pathPoints (view w) rev i) in
+      omega (arith, p .room, ap length (is-there .field-is), length-append ((tagOf o ∷ []) ++ lowBytes 2 (8 * k)) z, length-pathBytes (pathPoints (view w) rev i), is-there .size)
+
+  pub header-room : 3 ≤ length t
+  header-room = omega (arith, field-room)
+
+  pub field-sum : k ≤ 2048
+  field-sum = size-fits w o i k (p .asked .of) e
+
+  module _ (tag : ℕ) (u : List ℕ) (f : tag ≡ tagOf o) (g : u ≡ putLe 2 1 (8 * k) (set t 0 tag)) where
+    laid-head : u ≡ over ((tagOf o ∷ []) ++ lowBytes 2 (8 * k)) t
+    laid-head = g ∙ ap (λ (x : ℕ). putLe 2 1 (8 * k) (set t 0 x)) f ∙ header-over t (tagOf o) (8 * k) header-room
+
+    pub points-fit : PointsFit w rev i (take (length u - 3) (drop 3 u))
+    points-fit =
+        record {
+          of = p .asked .of;
+          ringed = is-there .ringed;
+          room =
+              omega (
+                arith,
+                field-room,
+                is-there .size,
+                ap length (part-is ((tagOf o ∷ []) ++ lowBytes 2 (8 * k)) t u 3 refl laid-head header-room),
+                length-drop 3 t,
+              );
+        }
+
+    pub field-laid : (ys : List ℕ) → ys ≡ over (pathBytes (pathPoints (view w) rev i)) (take (length u - 3) (drop 3 u)) → laid (3 + 8 * k) (putMid 3 (length u - 3) u ys) ≡ layOver (fieldAt (view w) o i) t
+    field-laid ys h =
+        let z = pathBytes (pathPoints (view w) rev i) in
+        let n : 3 + 8 * k ≡ length ((tagOf o ∷ []) ++ lowBytes 2 (8 * k) ++ z) =
+        omega (arith, length-append ((tagOf o ∷ []) ++ lowBytes 2 (8 * k)) z, length-pathBytes (pathPoints (view w) rev i), is-there .size)
+        in
+        rw (is-there .field-is, n, part-over ((tagOf o ∷ []) ++ lowBytes 2 (8 * k)) t u 3 refl laid-head header-room z ys h)
