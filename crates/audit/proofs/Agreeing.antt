@@ -1,7 +1,7 @@
 -- A sound store passes the tests; so they pass exactly when it is sound.
 use Prim.Native.Nat.{ℕ, zero, suc, _+_, _≤_, _<_}
 use mathlib.Core.Path.{_≡_, refl, ap, _∙_, sym, subst}
-use mathlib.Core.Logic.{_≢_, _⊎_, inl, inr}
+use mathlib.Core.Logic.{_⊎_, inl, inr, _↔_}
 use mathlib.Core.Bool.{Bool, true, false}
 use mathlib.Core.List.{List}
 use native.Mathlib.Omega.{arith}
@@ -125,9 +125,12 @@ module _ (w : List ℕ) (s : Sound (view w)) where
         meant = all-none (recordsOf w) (astray w) placed;
       }
 
--- the tests pass exactly when the store is sound
 pub passed-sound : (w : List ℕ) → testsOf w ≡ Passed → Sound (view w)
 passed-sound w e = passing-sound w (passing w e)
 
 pub sound-passed : (w : List ℕ) → Sound (view w) → testsOf w ≡ Passed
 sound-passed w s = passed w (sound-passing w s)
+
+-- the tests pass exactly when the store is sound
+pub tests-decide : (w : List ℕ) → (testsOf w ≡ Passed) ↔ Sound (view w)
+tests-decide w = (passed-sound w, sound-passed w)
