@@ -3,5 +3,9 @@ pub mod Stable
 pub mod Sinking
 pub mod Walks
 pub mod Running
-pub mod Pairs
+pub mod Moving
 pub mod Updates
+pub mod Doubling
+pub mod Making
+pub mod Looping
+pub mod Converting

@@ -3,3 +3,4 @@ pub mod Level
 pub mod Row
 pub mod Pair
 pub mod Update
+pub mod Make

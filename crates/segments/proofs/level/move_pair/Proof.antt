@@ -1,7 +1,7 @@
 -- `segments::level::move_pair` meets its contract.
 use borrow.Author.Needs.{needs}
 use Rattle.segments.specs.Pair.{oneOf, twoOf}
-use Rattle.segments.proofs.Pairs.{overlap-low, pair-one, pair-low, pair-two}
+use Rattle.segments.proofs.Moving.{overlap-low, pair-one, pair-low, pair-two}
 use Rattle.segments.proofs.level.move_pair.Statement.{statement}
 use Rattle.segments.proofs.level.move_pair.Tie as tie
 
