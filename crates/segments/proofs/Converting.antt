@@ -58,6 +58,10 @@ rows-256 : (w : List ℕ) (n : ℕ) (ps : List ℕ) → length (segmentRows w n 
 unfolding segmentRows
 rows-256 w n ps = sorted-length (updateFrom n 0 w ps (replicate 2048 0) (replicate 256 blank)) ∙ updated-length n 0 w ps (replicate 2048 0) (replicate 256 blank)
 
+-- no segment yet
+pub blank-rows : rowsOf (replicate 256 4294967295) (replicate 256 0) (replicate 256 65535) (replicate 256 0) ≡ replicate 256 blank
+blank-rows = refl
+
 -- ---- every row is struck out or spans
 
 blanks : (w : List ℕ) (n : ℕ) → Each (Row-fit w) (replicate n blank)
