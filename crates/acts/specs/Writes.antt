@@ -8,6 +8,7 @@ use Rattle.rings.specs.Progress.{Due, validity, done}
 use Rattle.store.specs.Field.{pt, rc, ct, X, Y, NEXT, PREV, REC, FLAGS, OWNER, FIRST, MARK, PRESENT, START, CUT, POINTS, RECORDS, NONE}
 use Rattle.store.specs.Sound.{pts, recs, markOf}
 use Rattle.store.specs.Words.{Store, Write, write}
+use Rattle.store.specs.Primitive.{pointWrites, linkWrites, unlinkWrites, startWrites}
 
 -- the present place's next becomes the present place
 abbrev pub moveWrites : Store → ℕ → Due → List Write
@@ -21,21 +22,9 @@ toFirstWrites s i d = write (rc PRESENT) i (s (rc FIRST) i) ∷ write (rc START)
 abbrev pub discardWrites : ℕ → List Write
 discardWrites i = write (rc FIRST) i NONE ∷ write (rc MARK) i (markOf done) ∷ []
 
--- a point k is taken: its value (vx, vy) and its record r
-abbrev pub pointWrites : ℕ → ℕ → ℕ → ℕ → List Write
-pointWrites k vx vy r = write (ct POINTS) 0 (suc k) ∷ write (pt X) k vx ∷ write (pt Y) k vy ∷ write (pt REC) k r ∷ []
-
--- k goes in between p and n
-abbrev pub linkWrites : ℕ → ℕ → ℕ → List Write
-linkWrites p k n = write (pt NEXT) k n ∷ write (pt PREV) k p ∷ write (pt NEXT) p k ∷ write (pt PREV) n k ∷ []
-
 -- a new point k between p and n
 abbrev pub putWrites : ℕ → ℕ → ℕ → ℕ → ℕ → ℕ → List Write
 putWrites k vx vy r p n = pointWrites k vx vy r ++ linkWrites p k n
-
--- what was between p and n goes out
-abbrev pub unlinkWrites : ℕ → ℕ → List Write
-unlinkWrites p n = write (pt NEXT) p n ∷ write (pt PREV) n p ∷ []
 
 -- the present point x goes out, between p and n; a first point that was x is p then
 abbrev pub dropWrites : Store → ℕ → List Write
@@ -77,12 +66,6 @@ cutPutWrites s i vx vy d =
 -- a record r is taken for x and y
 abbrev pub recordWrites : ℕ → ℕ → ℕ → List Write
 recordWrites r x y = write (ct RECORDS) 0 (suc r) ∷ write (pt REC) x r ∷ write (pt REC) y r ∷ []
-
--- record r is a closed ring at its start, cut from record i; o is its owner and b its first point
-abbrev pub startWrites : ℕ → ℕ → ℕ → ℕ → List Write
-startWrites r o b i =
-    write (rc FLAGS) r 0 ∷ write (rc OWNER) r o ∷ write (rc FIRST) r b ∷ write (rc MARK) r (markOf validity)
-    ∷ write (rc PRESENT) r b ∷ write (rc START) r b ∷ write (rc CUT) r i ∷ []
 
 -- x and y, linked already, and a new point b between them become the ring of a new record cut from record i
 abbrev pub offcutWrites : Store → ℕ → ℕ → ℕ → ℕ → ℕ → List Write

@@ -145,7 +145,7 @@ pub fn start_record(w: &mut [u32], k: usize, o: usize, b: usize, i: usize)
 // ---- the primitives
 
 // The word of a coordinate.
-fn raise(x: i32) -> usize
+pub fn raise(x: i32) -> usize
     requires { ⌜ Within limit.COORDINATE x ⌝ }
     ensures { λ r. ⌜ (r ≡ wordOf x) × (r < 2 ^ 32) ⌝ }
 {

@@ -11,6 +11,7 @@ use lib.ListN.{length}
 use borrow.Author.Tests.{eq-eqb, ne-eqb}
 use mir.Syntax.{w32}
 use mir.Val.{toZ, ofZ}
+use mir.Facts.{toZ-ofZ}
 use Rattle.rings.specs.Progress.{Due}
 use Rattle.geometry.specs.declared.Point.{Point}
 use Rattle.geometry.specs.Plane.{InTable}
@@ -19,14 +20,16 @@ use Rattle.store.specs.Field.{pt, rc, ct, X, Y, NEXT, PREV, REC, FLAGS, OWNER, 
 use Rattle.store.specs.Sound.{pts, recs, markOf}
 use Rattle.store.specs.Words.{Store, view, cell, put, onWords, onStore, Within}
 use Rattle.store.proofs.Storing.{view-writes, length-writes}
-use Rattle.acts.specs.Writes.{moveWrites, toFirstWrites, discardWrites, dropWrites, pointWrites, linkWrites, putWrites, unlinkWrites, doubleWrites, placeWrites, cutWrites, cutPutWrites, recordWrites, startWrites, offcutWrites}
+use Rattle.store.specs.Value.{wordOf}
+use Rattle.store.specs.Primitive.{pointWrites, linkWrites, unlinkWrites, startWrites}
+use Rattle.store.proofs.Coordinates.{fits}
+use Rattle.acts.specs.Writes.{moveWrites, toFirstWrites, discardWrites, dropWrites, putWrites, doubleWrites, placeWrites, cutWrites, cutPutWrites, recordWrites, offcutWrites}
 use Rattle.acts.specs.Apply.{ringWrites, offWrites, afterW}
-use Rattle.turns.proofs.Coordinates.{as-i32}
 use Rattle.turns.specs.declared.Act.{Act}
 use Rattle.turns.specs.declared.Act.the-variants.{Stay, Discard, Drop, MoveOn, ToFirst, Double, Cut}
 use Rattle.turns.specs.declared.Due as code
 use Rattle.turns.specs.Code.{dueIs, actIs}
-use Rattle.turns.specs.Form.{wordOf, raised}
+use Rattle.turns.specs.Form.{raised}
 use Rattle.turns.specs.Applies.{Reach, PointFits, NewPoint, CutFits, OffcutFits, Applies}
 
 -- ---- what is read is in its column
@@ -56,9 +59,6 @@ module _ (w w₁ w₂ : List ℕ) (i : ℕ) where
 
   pub went-first : (m f : ℕ) (d : Due) → m ≡ markOf d → f ≡ cell (rc FIRST) w i → w₁ ≡ put (rc START) (put (rc PRESENT) w i f) i f → w₂ ≡ put (rc MARK) w₁ i m → w₂ ≡ onWords w (toFirstWrites (view w) i d)
   went-first m f d em ef e₁ e₂ = rw (e₂, e₁, em, ef)
-
-  pub unlinked : (p n : ℕ) → w₁ ≡ put (pt NEXT) w p n → w₂ ≡ put (pt PREV) w₁ n p → w₂ ≡ onWords w (unlinkWrites p n)
-  unlinked p n e₁ e₂ = rw (e₂, e₁)
 
 -- the two arms of the first point's store
 pub first-is : (w w′ : List ℕ) (i x p f : ℕ) → f ≡ cell (rc FIRST) w i → f ≡ x → w′ ≡ put (rc FIRST) w i p → w′ ≡ put (rc FIRST) w i (cond (eqb (cell (rc FIRST) w i) x) p (cell (rc FIRST) w i))
@@ -92,23 +92,12 @@ pub cut-out : (w w₁ w₂ : List ℕ) (i x y z p : ℕ) (d : Due) → x ≡ cel
     → w₁ ≡ onWords w (unlinkWrites p z) → w₂ ≡ onWords w₁ (placeWrites i p d) → w₂ ≡ onWords w (cutWrites (view w) i d)
 cut-out w w₁ w₂ i x y z p d ex ey ez ep e₁ e₂ = rw (e₂, e₁, ez, ey, ep, ex)
 
-pub took-point : (w w₁ w₂ w₃ w₄ : List ℕ) (k vx vy r : ℕ) → w₁ ≡ put (ct POINTS) w 0 (k + 1) → w₂ ≡ put (pt X) w₁ k vx → w₃ ≡ put (pt Y) w₂ k vy → w₄ ≡ put (pt REC) w₃ k r
-    → w₄ ≡ onWords w (pointWrites k vx vy r)
-took-point w w₁ w₂ w₃ w₄ k vx vy r e₁ e₂ e₃ e₄ = rw (e₄, e₃, e₂, e₁, add-one k)
-
 pub new-point : (w w′ : List ℕ) (k x y r : ℕ) (v : Point) → NewPoint w k v → x ≡ wordOf (toZ w32 (ofZ w32 (v .x))) → y ≡ wordOf (toZ w32 (ofZ w32 (v .y))) → w′ ≡ onWords w (pointWrites k x y r)
     → w′ ≡ onWords w (pointWrites k (wordOf (v .x)) (wordOf (v .y)) r)
-new-point w w′ k x y r v h ex ey e = rw (← as-i32 (v .x) (h .in-table .x), ← as-i32 (v .y) (h .in-table .y), ← ex, ← ey) e
-
-pub linked-in : (w w₁ w₂ w₃ w₄ : List ℕ) (p k n : ℕ) → w₁ ≡ put (pt NEXT) w k n → w₂ ≡ put (pt PREV) w₁ k p → w₃ ≡ put (pt NEXT) w₂ p k → w₄ ≡ put (pt PREV) w₃ n k → w₄ ≡ onWords w (linkWrites p k n)
-linked-in w w₁ w₂ w₃ w₄ p k n e₁ e₂ e₃ e₄ = rw (e₄, e₃, e₂, e₁)
+new-point w w′ k x y r v h ex ey e = subst (λ (a : ℕ). w′ ≡ onWords w (pointWrites k a (wordOf (v .y)) r)) (ex ∙ ap wordOf (toZ-ofZ (fits (v .x) (h .in-table .x)))) (subst (λ (b : ℕ). w′ ≡ onWords w (pointWrites k x b r)) (ey ∙ ap wordOf (toZ-ofZ (fits (v .y) (h .in-table .y)))) e)
 
 pub took-record : (w w₁ w₂ w₃ : List ℕ) (r x y : ℕ) → w₁ ≡ put (ct RECORDS) w 0 (r + 1) → w₂ ≡ put (pt REC) w₁ x r → w₃ ≡ put (pt REC) w₂ y r → w₃ ≡ onWords w (recordWrites r x y)
 took-record w w₁ w₂ w₃ r x y e₁ e₂ e₃ = rw (e₃, e₂, e₁, add-one r)
-
-pub started : (w w₁ w₂ w₃ w₄ w₅ w₆ w₇ : List ℕ) (r o b i : ℕ) → w₁ ≡ put (rc FLAGS) w r 0 → w₂ ≡ put (rc OWNER) w₁ r o → w₃ ≡ put (rc FIRST) w₂ r b → w₄ ≡ put (rc MARK) w₃ r 0 → w₅ ≡ put (rc PRESENT) w₄ r b
-    → w₆ ≡ put (rc START) w₅ r b → w₇ ≡ put (rc CUT) w₆ r i → w₇ ≡ onWords w (startWrites r o b i)
-started w w₁ w₂ w₃ w₄ w₅ w₆ w₇ r o b i e₁ e₂ e₃ e₄ e₅ e₆ e₇ = rw (e₇, e₆, e₅, e₄, e₃, e₂, e₁)
 
 pub made-offcut : (w w₁ w₂ w₃ : List ℕ) (i x y vx vy r b o : ℕ) → r ≡ cell (ct RECORDS) w 0 → b ≡ cell (ct POINTS) w 0 → o ≡ cell (rc OWNER) w i
     → w₁ ≡ onWords w (recordWrites r x y) → w₂ ≡ onWords w₁ (putWrites b vx vy r y x) → w₃ ≡ onWords w₂ (startWrites r o b i)

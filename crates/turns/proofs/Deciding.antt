@@ -24,7 +24,7 @@ use Rattle.acts.proofs.Progressing.{rested}
 use Rattle.acts.specs.Rep.{value}
 use Rattle.turns.proofs.Removing.{removal-is}
 use Rattle.turns.proofs.Splitting.{split-is}
-use Rattle.turns.specs.Decide.{threeFrom, decideDue, decideAt}
+use Rattle.turns.specs.Decide.{threeFrom, validityAt, decideDue, decideAt}
 
 module _ {P : Type 0} (of : ℕ → ℕ → P) (G : Geo P) (s : Store) where
   three-from : (a : ℕ) (xs : List ℕ) → Whole (s (pt NEXT)) (s (pt PREV)) (pts s) (a ∷ xs) → threeFrom s a ≡ oneOrThree (map (value of s) (a ∷ xs))
@@ -40,7 +40,7 @@ module _ {P : Type 0} (of : ℕ → ℕ → P) (G : Geo P) (s : Store) where
       ne-eqb (s (pt PREV) a) (s (pt NEXT) (s (pt NEXT) a)) (λ e. n (sym (prev-is (s (pt NEXT)) (s (pt PREV)) a (b ∷ c ∷ d ∷ r) l) ∙ e ∙ ap (s (pt NEXT)) (l .0) ∙ l .2 .0))
 
   pub decide-is : ((a b c : P) → G .segmentsIntersect a b c a ≡ false) → ((a b : P) → G .segmentsIntersect a b a b ≡ false) → Sound s → (i : ℕ) → Closed s i → decideAt of G s i ≡ actOf G (mapRing (value of s) (loneAt s i))
-  unfolding decideAt actOf decide
+  unfolding decideAt validityAt actOf decide
   decide-is f g o i c = go (dueAt s i) refl
     where
       first : Seen (s (pt NEXT)) (s (pt PREV)) (pts s) (ringAt s i) (s (rc FIRST) i)

@@ -27,7 +27,7 @@ use Rattle.acts.proofs.Positions.{Loop, loop}
 use Rattle.acts.specs.Rep.{value}
 use Rattle.turns.proofs.Reading.{back-whole}
 use Rattle.turns.proofs.Removing.{turn-is}
-use Rattle.turns.specs.Decide.{threeLeft, ringFrom, splitOpAt, splitAt}
+use Rattle.turns.specs.Decide.{threeLeft, ringFrom, cutAt, splitOpAt, crossedAt, splitAt}
 
 module _ {P : Type 0} (of : ℕ → ℕ → P) (G : Geo P) (s : Store) where
   -- three are left exactly if so after the cut
@@ -87,7 +87,7 @@ module _ {P : Type 0} (of : ℕ → ℕ → P) (G : Geo P) (s : Store) where
 
     by : (xs : List ℕ) → Whole (s (pt NEXT)) (s (pt PREV)) (pts s) (s (rc PRESENT) i ∷ xs) → place (s (rc FIRST) i) (s (rc PRESENT) i ∷ xs) ≡ some far
         → splitAt of G s i ≡ splitTurn G (map (value of s) (s (rc PRESENT) i ∷ xs)) far (place (s (rc START) i) (s (rc PRESENT) i ∷ xs))
-    unfolding splitAt splitOpAt splitTurn doSplitOp
+    unfolding splitAt crossedAt splitOpAt cutAt splitTurn doSplitOp
     by [] w e =
         let l = w .linked in
         let m = move-due (s (rc PRESENT) i) [] w e in

@@ -1,12 +1,14 @@
 -- A step decided on the store, by its links and the values of its points: what the code reads. That it is the lone ring's decision is a law.
-use Prim.Native.Nat.{ℕ}
-use mathlib.Core.Bool.{Bool, true, false, cond, not, _||_}
+use Prim.Native.Nat.{ℕ, _*_}
+use mathlib.Core.Bool.{Bool, true, false, cond, not, _&&_, _||_, Bool·beq}
 use mathlib.Core.List.{List, map}
-use lib.Dec.{eqb}
+use lib.Dec.{eqb, ltb, leb}
+use lib.IntN.{ℤ, pos, natAbs}
+use lib.Signed.{ltZ}
 use Rattle.rings.specs.Progress.{Due, validity, removal, triangle, split, done}
 use Rattle.rings.specs.Walk.{walk}
 use Rattle.lone.specs.Ring.{Act, stay, discard, dropPoint, moveOn, toFirst, double, cut}
-use Rattle.lone.specs.Lone.{Geo, isValidClosedPath, tooSmall, keepsOffcut}
+use Rattle.lone.specs.Lone.{Geo, isValidClosedPath, tooSmall}
 use Rattle.store.specs.Field.{pt, rc, NEXT, PREV, FIRST, PRESENT, START}
 use Rattle.store.specs.Words.{Store}
 use Rattle.store.specs.Sound.{dueAt}
@@ -21,6 +23,19 @@ module _ (s : Store) where
   abbrev pub threeLeft : Bool → ℕ → Bool
   threeLeft true x = eqb (s (pt NEXT) (s (pt NEXT) (s (pt NEXT) (s (pt NEXT) x)))) x
   threeLeft false x = eqb (s (pt NEXT) (s (pt NEXT) (s (pt NEXT) (s (pt NEXT) (s (pt NEXT) x))))) x
+
+  -- the split loop ends at k, if that is the first point or the loop's start
+  abbrev pub dueOn : ℕ → ℕ → Due
+  dueOn i k = cond (eqb k (s (rc FIRST) i) || eqb k (s (rc START) i)) done split
+
+  -- the triangle test
+  abbrev pub triangleAt : {P : Type 0} → ℕ → Act P
+  triangleAt i = toFirst (cond (threeFrom (s (rc FIRST) i)) done split)
+
+-- "An offcut needs |area_triangle| at least 1.0, which is twice the area, and then a larger magnitude than the ring's area or its sign", by the
+-- doubled area of the ring and that of the triangle
+abbrev pub keepsBy : ℤ → ℤ → Bool
+keepsBy area1 area2 = leb 1 (natAbs area2) && (ltb (natAbs area1) (2 * natAbs area2) || Bool·beq (ltZ (pos 0) area2) (ltZ (pos 0) area1))
 
 module _ {P : Type 0} (of : ℕ → ℕ → P) (G : Geo P) (s : Store) where
   -- of a ring of three from a: are two of them really close
@@ -49,29 +64,41 @@ module _ {P : Type 0} (of : ℕ → ℕ → P) (G : Geo P) (s : Store) where
   abbrev pub ringFrom : ℕ → List P
   ringFrom a = map (value of s) (walk (s (pt NEXT)) a)
 
-  -- `do_split_op` at x: c is the ring from the point before, then the values of the point before, of x, of the next and of the one after
-  unfoldable pub splitOpAt : ℕ → List P → P → P → P → P → Act P
-  splitOpAt x c p a b d =
-      let v : P = G .crossingPoint p a b d in
-      let put : Bool = not (G .samePoint v p || G .samePoint v d) in
-      cond (tooSmall G c) discard (cut v put (keepsOffcut G c v a b) (cond (threeLeft s put x) done split))
+  -- the validity test
+  unfoldable pub validityAt : ℕ → Act P
+  validityAt i = cond (isValidClosedPath G (ringFrom (s (rc FIRST) i))) (toFirst removal) discard
+
+  -- whether the edges from a to b and from c to d cross
+  abbrev pub crossAt : ℕ → ℕ → ℕ → ℕ → Bool
+  crossAt a b c d = G .segmentsIntersect (value of s a) (value of s b) (value of s c) (value of s d)
+
+  -- the cut at x, of a ring whose doubled area is area1: p is the point before, y the next and z the one after
+  unfoldable pub cutAt : ℤ → ℕ → ℕ → ℕ → ℕ → Act P
+  cutAt area1 p x y z =
+      let v : P = G .crossingPoint (value of s p) (value of s x) (value of s y) (value of s z) in
+      let put : Bool = not (G .samePoint v (value of s p) || G .samePoint v (value of s z)) in
+      cut v put (keepsBy area1 (G .areaTriangle v (value of s x) (value of s y))) (cond (threeLeft s put x) done split)
+
+  -- `do_split_op` at x
+  unfoldable pub splitOpAt : ℕ → ℕ → ℕ → ℕ → Act P
+  splitOpAt p x y z = cond (tooSmall G (ringFrom p)) discard (cutAt (G .areaOutpt (ringFrom p)) p x y z)
+
+  -- a split turn at x, where the edges about it cross
+  unfoldable pub crossedAt : ℕ → ℕ → ℕ → ℕ → ℕ → Act P
+  crossedAt i p x y z = cond (crossAt p x z (s (pt NEXT) z)) (double (value of s z) (dueOn s i x)) (splitOpAt p x y z)
 
   unfoldable pub splitAt : ℕ → Act P
   splitAt i =
       let x : ℕ = s (rc PRESENT) i in
       let y : ℕ = s (pt NEXT) x in
       let z : ℕ = s (pt NEXT) y in
-      let p : P = value of s (s (pt PREV) x) in
-      cond (G .segmentsIntersect p (value of s x) (value of s y) (value of s z))
-      (cond (G .segmentsIntersect p (value of s x) (value of s z) (value of s (s (pt NEXT) z)))
-      (double (value of s z) (cond (eqb x (s (rc FIRST) i) || eqb x (s (rc START) i)) done split))
-      (splitOpAt x (ringFrom (s (pt PREV) x)) p (value of s x) (value of s y) (value of s z)))
-      (moveOn (cond (eqb y (s (rc FIRST) i) || eqb y (s (rc START) i)) done split))
+      let p : ℕ = s (pt PREV) x in
+      cond (crossAt p x y z) (crossedAt i p x y z) (moveOn (dueOn s i y))
 
   abbrev pub decideDue : ℕ → Due → Act P
-  decideDue i validity = cond (isValidClosedPath G (ringFrom (s (rc FIRST) i))) (toFirst removal) discard
+  decideDue i validity = validityAt i
   decideDue i removal = removalAt i
-  decideDue i triangle = toFirst (cond (threeFrom s (s (rc FIRST) i)) done split)
+  decideDue i triangle = triangleAt s i
   decideDue i split = splitAt i
   decideDue i done = stay
 

@@ -1,37 +1,51 @@
--- What the functions that read a ring require, and what they answer: points of a ring, and their values.
-use Prim.Native.Nat.{ℕ, _≤_, _<_, _^_}
+-- What the functions that read a ring require and answer: points of a ring, and their values.
+use Prim.Native.Nat.{ℕ, _≤_, _<_}
 use mathlib.Core.Path.{_≡_}
-use mathlib.Core.List.{List, _∷_}
+use mathlib.Core.List.{List}
+use mathlib.Core.Bool.{false}
 use lib.ListN.{length}
-use Rattle.rings.specs.Count.{occ}
-use Rattle.rings.specs.Walk.{Whole}
+use Rattle.rings.specs.Progress.{isDone}
 use Rattle.geometry.specs.declared.Point.{Point}
 use Rattle.geometry.specs.Plane.{InTable}
-use Rattle.store.specs.Field.{pt, NEXT, PREV, LENGTH}
-use Rattle.store.specs.Words.{Store, view}
-use Rattle.store.specs.Sound.{pts, PointIn}
-use Rattle.acts.specs.Rep.{value}
-use Rattle.turns.specs.Form.{raised}
-
--- x is on a ring: the circle from it is whole, and its points are in range
-pub record Member (s : Store) (x : ℕ) : Type 0 where
-  pub others : List ℕ
-  pub whole : Whole (s (pt NEXT)) (s (pt PREV)) (pts s) (x ∷ others)
-  pub points-in : (k : ℕ) → 0 < occ k (x ∷ others) → PointIn s k
-  pub few : pts s ≤ 2048
-
--- the words are long enough, and x is on one of their rings
-pub record At (w : List ℕ) (x : ℕ) : Type 0 where
-  pub long : LENGTH ≤ length w
-  pub member : Member (view w) x
+use Rattle.store.specs.Field.{rc, FIRST, PRESENT, LENGTH}
+use Rattle.store.specs.Words.{view}
+use Rattle.store.specs.Sound.{Sound, Closed, dueAt}
+use Rattle.store.specs.Value.{pointOf}
+use Rattle.walks.specs.Ring.{OnRing}
 
 -- r is the point k, which is on a ring
 pub record Found (w : List ℕ) (k r : ℕ) : Type 0 where
   pub is : r ≡ k
-  pub here : At w r
+  pub on : OnRing w r
   pub low : r < 2048
 
 -- p is the value of the point k
 pub record Valued (w : List ℕ) (k : ℕ) (p : Point) : Type 0 where
-  pub is : p ≡ value (raised .of) (view w) k
+  pub is : p ≡ pointOf w k
   pub in-table : InTable p
+
+-- an unfinished closed ring of a sound work space
+pub record Steps (w : List ℕ) (i : ℕ) : Type 0 where
+  pub long : LENGTH ≤ length w
+  pub sound : Sound (view w)
+  pub closed : Closed (view w) i
+  pub unfinished : isDone (dueAt (view w) i) ≡ false
+
+-- what its decision reads: its first point and its present place are on a ring
+pub record Going (w : List ℕ) (i : ℕ) : Type 0 where
+  pub long : LENGTH ≤ length w
+  pub record-in : i < 512
+  pub first-on : OnRing w (view w (rc FIRST) i)
+  pub present-on : OnRing w (view w (rc PRESENT) i)
+
+-- points of rings
+pub record Three (w : List ℕ) (a b c : ℕ) : Type 0 where
+  pub one : OnRing w a
+  pub two : OnRing w b
+  pub three : OnRing w c
+
+pub record Four (w : List ℕ) (a b c d : ℕ) : Type 0 where
+  pub one : OnRing w a
+  pub two : OnRing w b
+  pub three : OnRing w c
+  pub four : OnRing w d

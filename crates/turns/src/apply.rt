@@ -4,20 +4,26 @@ use crate::Due;
 use geometry::Point;
 use store::Col;
 use store::get;
+use store::points::link_between;
+use store::points::raise;
+use store::points::start_record;
+use store::points::take_point;
+use store::points::unlink;
 use store::set;
 ghost use mathlib.Core.Path.{_≡_};
 ghost use mathlib.Core.Bool.{cond};
 ghost use Prim.Native.Nat.{ℕ, _+_, _<_, _≤_, _^_};
 ghost use lib.Dec.{eqb};
 ghost use lib.ListN.{length};
-ghost use Rattle.exact.specs.Num.{Within};
 ghost use Rattle.store.specs.Field.{rc, FIRST, PRESENT, START, LENGTH};
 ghost use Rattle.store.specs.Sound.{markOf};
 ghost use Rattle.store.specs.Words.{cell, put, view, onWords};
-ghost use Rattle.acts.specs.Writes.{moveWrites, toFirstWrites, discardWrites, dropWrites, pointWrites, linkWrites, putWrites, unlinkWrites, doubleWrites, placeWrites, cutWrites, cutPutWrites, recordWrites, startWrites, offcutWrites};
+ghost use Rattle.store.specs.Primitive.{pointWrites};
+ghost use Rattle.acts.specs.Writes.{moveWrites, toFirstWrites, discardWrites, dropWrites, putWrites, doubleWrites, placeWrites, cutWrites, cutPutWrites, recordWrites, offcutWrites};
 ghost use Rattle.acts.specs.Apply.{ringWrites, offWrites, afterW};
 ghost use Rattle.turns.specs.Code.{dueIs, actIs};
-ghost use Rattle.turns.specs.Form.{wordOf, raised};
+ghost use Rattle.store.specs.Value.{wordOf};
+ghost use Rattle.turns.specs.Form.{raised};
 ghost use Rattle.lone.specs.Ring.{cut};
 ghost use Rattle.turns.specs.Applies.{Reach, PointFits, NewPoint, CutFits, OffcutFits, Applies};
 
@@ -75,15 +81,6 @@ fn discard_ring(w: &mut [u32], i: usize)
     set(w, Col::Mark, i, 4);
 }
 
-// What was between p and n goes out.
-fn unlink(w: &mut [u32], p: usize, n: usize)
-    requires { ⌜ (LENGTH ≤ length (now w)) × (p < 2048) × (n < 2048) ⌝ }
-    ensures { λ _. ⌜ now (w .exit) ≡ onWords (now (w .entry)) (unlinkWrites p n) ⌝ }
-{
-    set(w, Col::Next, p, n);
-    set(w, Col::Prev, n, p);
-}
-
 // A first point that is x is p from now on.
 fn fix_first(w: &mut [u32], i: usize, x: usize, p: usize)
     requires { ⌜ (LENGTH ≤ length (now w)) × (i < 512) × (p < 2 ^ 32) ⌝ }
@@ -110,26 +107,7 @@ fn drop_point(w: &mut [u32], i: usize)
     set_loop(w, i, n);
 }
 
-// The word of a coordinate.
-fn raise(z: i32) -> usize
-    requires { ⌜ Within (2 ^ 20) z ⌝ }
-    ensures { λ r. ⌜ (r ≡ wordOf z) × (r < 2 ^ 32) ⌝ }
-{
-    (z + 1048576) as usize
-}
-
-// A point's words and record go to place k, the next free one.
-fn take_point(w: &mut [u32], k: usize, vx: usize, vy: usize, r: usize)
-    requires { ⌜ (LENGTH ≤ length (now w)) × (k < 2048) × (vx < 2 ^ 32) × (vy < 2 ^ 32) × (r < 2 ^ 32) ⌝ }
-    ensures { λ _. ⌜ now (w .exit) ≡ onWords (now (w .entry)) (pointWrites k vx vy r) ⌝ }
-{
-    set(w, Col::Points, 0, k + 1);
-    set(w, Col::X, k, vx);
-    set(w, Col::Y, k, vy);
-    set(w, Col::Rec, k, r);
-}
-
-// The same of a point by value: `new_out_pt`.
+// A point of value v is taken: `new_out_pt`.
 fn new_point(w: &mut [u32], k: usize, v: Point, r: usize)
     requires { ⌜ NewPoint (now w) k v × (r < 2 ^ 32) ⌝ }
     ensures { λ _. ⌜ now (w .exit) ≡ onWords (now (w .entry)) (pointWrites k (wordOf (v .x)) (wordOf (v .y)) r) ⌝ }
@@ -137,17 +115,6 @@ fn new_point(w: &mut [u32], k: usize, v: Point, r: usize)
     let x = raise(v.x);
     let y = raise(v.y);
     take_point(w, k, x, y, r);
-}
-
-// Point k goes in between p and n.
-fn link_between(w: &mut [u32], p: usize, k: usize, n: usize)
-    requires { ⌜ (LENGTH ≤ length (now w)) × (p < 2048) × (k < 2048) × (n < 2048) ⌝ }
-    ensures { λ _. ⌜ now (w .exit) ≡ onWords (now (w .entry)) (linkWrites p k n) ⌝ }
-{
-    set(w, Col::Next, k, n);
-    set(w, Col::Prev, k, p);
-    set(w, Col::Next, p, k);
-    set(w, Col::Prev, n, k);
 }
 
 // A new point k of value v between p and n.
@@ -220,20 +187,6 @@ fn take_record(w: &mut [u32], r: usize, x: usize, y: usize)
     set(w, Col::Records, 0, r + 1);
     set(w, Col::Rec, x, r);
     set(w, Col::Rec, y, r);
-}
-
-// Record r is a closed ring at its start, cut from record i.
-fn start_record(w: &mut [u32], r: usize, o: usize, b: usize, i: usize)
-    requires { ⌜ (LENGTH ≤ length (now w)) × (r < 512) × (o < 2 ^ 32) × (b < 2048) × (i < 512) ⌝ }
-    ensures { λ _. ⌜ now (w .exit) ≡ onWords (now (w .entry)) (startWrites r o b i) ⌝ }
-{
-    set(w, Col::Flags, r, 0);
-    set(w, Col::Owner, r, o);
-    set(w, Col::First, r, b);
-    set(w, Col::Mark, r, 0);
-    set(w, Col::Present, r, b);
-    set(w, Col::Start, r, b);
-    set(w, Col::Cut, r, i);
 }
 
 // x and y, and a new point of value v, become the ring of a new record.

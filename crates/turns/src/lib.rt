@@ -30,4 +30,5 @@ pub enum Answer {
 }
 
 pub mod apply;
+pub mod decide;
 pub mod ring;

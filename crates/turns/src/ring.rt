@@ -3,20 +3,20 @@ use crate::Due;
 use geometry::Point;
 use store::Col;
 use store::get;
+use store::points::point;
 ghost use mathlib.Core.Path.{_≡_};
 ghost use Prim.Native.Nat.{ℕ, _<_, _≤_, _^_};
-ghost use lib.IntN.{pos, _-ℤ_};
 ghost use lib.ListN.{length};
 ghost use Rattle.store.specs.Field.{pt, rc, NEXT, PREV, MARK, LENGTH};
 ghost use Rattle.store.specs.Words.{cell, view};
 ghost use Rattle.store.specs.Sound.{dueAt};
 ghost use Rattle.turns.specs.Code.{dueIs};
-ghost use Rattle.numbers.specs.Raised.{coordinate};
-ghost use Rattle.turns.specs.Reads.{At, Found, Valued};
+ghost use Rattle.walks.specs.Ring.{OnRing};
+ghost use Rattle.turns.specs.Reads.{Found, Valued};
 
 // The next point.
 pub fn next_of(w: &[u32], x: usize) -> usize
-    requires { ⌜ At (now w) x ⌝ }
+    requires { ⌜ OnRing (now w) x ⌝ }
     ensures { λ r. ⌜ Found (now (w .entry)) (cell (pt NEXT) (now (w .entry)) x) r ⌝ }
 {
     get(w, Col::Next, x)
@@ -24,31 +24,18 @@ pub fn next_of(w: &[u32], x: usize) -> usize
 
 // The point before.
 pub fn prev_of(w: &[u32], x: usize) -> usize
-    requires { ⌜ At (now w) x ⌝ }
+    requires { ⌜ OnRing (now w) x ⌝ }
     ensures { λ r. ⌜ Found (now (w .entry)) (cell (pt PREV) (now (w .entry)) x) r ⌝ }
 {
     get(w, Col::Prev, x)
 }
 
-// The coordinate of a word.
-fn lowered(v: usize) -> i32
-    requires { ⌜ v ≤ 2097152 ⌝ }
-    ensures { λ r. ⌜ r ≡ coordinate 1048576 v ⌝ }
-{
-    (v as i64 - 1048576) as i32
-}
-
 // A point by value.
 pub fn point_at(w: &[u32], k: usize) -> Point
-    requires { ⌜ At (now w) k ⌝ }
+    requires { ⌜ OnRing (now w) k ⌝ }
     ensures { λ r. ⌜ Valued (now (w .entry)) k r ⌝ }
 {
-    let x = get(w, Col::X, k);
-    let y = get(w, Col::Y, k);
-    Point {
-        x: lowered(x),
-        y: lowered(y),
-    }
+    point(w, k)
 }
 
 // The step due: a record's progress mark.

@@ -8,8 +8,5 @@ pub point-at-spec : {M : Type 1} → statement M
 point-at-spec =
     tie.close
     (tie.spec
-    (λ c κs. search (low, x-low, y-low, valued, needs))
-    (λ c κs. search (low, x-low, y-low, valued, needs))
-    (λ c κs. search (low, x-low, y-low, valued, needs))
-    (λ c κs. search (low, x-low, y-low, valued, needs))
-    (λ c. search (low, x-low, y-low, valued, needs)))
+    (λ c κs. search (low, x-low, y-low, needs))
+    (λ c. search (valued)))

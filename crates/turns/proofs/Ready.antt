@@ -1,0 +1,84 @@
+-- A sound work space meets what the code of a step requires: its points are on rings, its words in their columns; and the real geometry has the laws.
+use Prim.Native.Nat.{ℕ, zero, suc, _+_, _≤_, _<_}
+use mathlib.Core.Path.{_≡_, refl, ap, _∙_, sym, subst}
+use mathlib.Core.Bool.{Bool, true, false, cond}
+use mathlib.Core.List.{List, [], _∷_}
+use native.Mathlib.Omega.{arith}
+use lib.IntN.{ℤ}
+use lib.ListN.{length}
+use Rattle.rings.specs.Count.{occ}
+use Rattle.rings.specs.Progress.{isDone}
+use Rattle.geometry.specs.declared.Point.{Point}
+use Rattle.geometry.specs.Plane.{InTable}
+use Rattle.geometry.proofs.Crossings.{crossing-in-table}
+use Rattle.lone.specs.Ring.{Act}
+use Rattle.lone.specs.Plane.{plane}
+use Rattle.lone.proofs.Plane.{plane-laws}
+use Rattle.numbers.specs.Raised.{coordinate}
+use Rattle.job.specs.Limits as limit
+use Rattle.store.specs.Value.{wordOf}
+use Rattle.store.specs.Field.{pt, rc, NEXT, PREV, FIRST, PRESENT, LENGTH}
+use Rattle.store.specs.Words.{view, cell}
+use Rattle.store.specs.Sound.{pts, recs, ringAt, Closed, Sound, dueAt}
+use Rattle.store.proofs.Soundness.{first-on}
+use Rattle.store.proofs.Coordinates.{lowered-in, raise-low, raised-back}
+use Rattle.walks.specs.Ring.{OnRing}
+use Rattle.walks.proofs.Visiting.{on-ring}
+use Rattle.acts.specs.Apply.{Coding, Codes}
+use Rattle.acts.specs.Laws.{Laws}
+use Rattle.acts.specs.Step.{actAt}
+use Rattle.turns.specs.Form.{raised, preserves, geometryOf}
+use Rattle.turns.specs.Reads.{Steps, Going}
+use Rattle.turns.specs.Decide.{decideAt}
+use Rattle.turns.specs.Applies.{Reach}
+use Rattle.turns.proofs.Reading.{low, on-next, on-prev}
+use Rattle.turns.proofs.Deciding.{decide-is}
+
+-- a value on the table is one that two words hold
+pub codes : (p : Point) → InTable p → Codes raised p
+codes p t =
+    record {
+      x-in = raise-low (p .x) (t .x);
+      y-in = raise-low (p .y) (t .y);
+      again = ap (λ (a : ℤ). made a (coordinate limit.COORDINATE (wordOf (p .y)))) (raised-back (p .x) (t .x)) ∙ ap (made (p .x)) (raised-back (p .y) (t .y));
+    }
+  where
+    made : ℤ → ℤ → Point
+    made a b = record { x = a; y = b }
+
+pub in-codes : (p : Point) → Codes raised p → InTable p
+in-codes p c = subst InTable (c .again) (record { x = lowered-in (raised .xw p) (c .x-in); y = lowered-in (raised .yw p) (c .y-in) })
+
+-- what a step needs of the geometry
+pub laws : (keep : Bool) → Laws (plane keep) raised
+laws keep =
+    record {
+      flat-3 = plane-laws keep .back-to-start;
+      flat-2 = plane-laws keep .same-edge;
+      meets = λ a b c d A B C D h. codes _ (crossing-in-table c d (in-codes a A) (in-codes b B));
+      reads = λ a b ha hb. codes _ (record { x = lowered-in a ha; y = lowered-in b hb });
+    }
+
+module _ (w : List ℕ) (i : ℕ) (s : Steps w i) where
+  pub going : Going w i
+  going =
+      record {
+        long = s .long;
+        record-in = omega (arith, s .closed .known, s .sound .few-records);
+        first-on = on-ring w (s .long) (s .sound) i (s .closed .known) (view w (rc FIRST) i) (first-on (view w) i (s .closed .ringed));
+        present-on = on-ring w (s .long) (s .sound) i (s .closed .known) (view w (rc PRESENT) i) (s .sound .good i (s .closed .known) .going (s .closed) (s .unfinished));
+      }
+
+  pub decided : (r : Act Point) → r ≡ decideAt (raised .of) (geometryOf (view w)) (view w) i → r ≡ actAt (geometryOf (view w)) raised (view w) i
+  decided r e = e ∙ decide-is (raised .of) (geometryOf (view w)) (view w) (laws (preserves (view w)) .flat-3) (laws (preserves (view w)) .flat-2) (s .sound) i (s .closed)
+
+  pub reach : Reach w i
+  reach =
+      record {
+        long = s .long;
+        record-in = going .record-in;
+        present-in = low w _ (going .present-on);
+        next-in = low w _ (on-next w _ (going .present-on));
+        prev-in = low w _ (on-prev w _ (going .present-on));
+        second-in = low w _ (on-next w _ (on-next w _ (going .present-on)));
+      }

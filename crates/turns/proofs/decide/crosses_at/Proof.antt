@@ -1,0 +1,16 @@
+-- `crosses_at` meets its contract.
+use borrow.Author.Needs.{needs}
+use Rattle.turns.proofs.Decisions.{crosses-at}
+use Rattle.turns.proofs.decide.crosses_at.Statement.{statement}
+use Rattle.turns.proofs.decide.crosses_at.Tie as tie
+
+pub crosses-at-spec : {M : Type 1} → statement M
+crosses-at-spec =
+    tie.close
+    (tie.spec
+    (λ c κs. search needs)
+    (λ c κs. search needs)
+    (λ c κs. search needs)
+    (λ c κs. search needs)
+    (λ c κs. search needs)
+    (λ c. search (crosses-at)))

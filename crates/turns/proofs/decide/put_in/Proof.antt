@@ -1,0 +1,13 @@
+-- `put_in` meets its contract.
+use borrow.Author.Needs.{needs}
+use Rattle.turns.proofs.Decisions.{put-is}
+use Rattle.turns.proofs.decide.put_in.Statement.{statement}
+use Rattle.turns.proofs.decide.put_in.Tie as tie
+
+pub put-in-spec : {M : Type 1} → statement M
+put-in-spec =
+    tie.close
+    (tie.spec
+    (λ c κs. search needs)
+    (λ c κs. search needs)
+    (λ c. search (put-is)))
