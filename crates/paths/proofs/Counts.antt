@@ -97,7 +97,7 @@ module _ (n : ℕ) where
 pub field-length : (s : Store) (tag : ℕ) (o : Bool) (i : ℕ) → length (fields tag (listed (pathIf s o i))) ≡ fieldSize (sizeOf (pathIf s o i))
 field-length s tag o i = field-one (length (ringAt s i)) tag (pathIf s o i) (if-proper s o i)
 
-fieldSize-le : (k : ℕ) → fieldSize k ≤ 3 + 8 * k
+pub fieldSize-le : (k : ℕ) → fieldSize k ≤ 3 + 8 * k
 fieldSize-le k = go (eqb k 0)
   where
     go : (t : Bool) → cond t 0 (3 + 8 * k) ≤ 3 + 8 * k

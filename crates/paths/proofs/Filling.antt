@@ -16,7 +16,7 @@ use Rattle.paths.specs.Filling.{fieldAt, fieldsBelow, layOver, FieldFits
 use Rattle.paths.proofs.Counts.{fields-append}
 use Rattle.paths.proofs.Parts.{tray-length, part-is, part-over, part-clear}
 
-below-more : (n : ℕ) (s : Store) (o : Bool) → fieldsBelow (suc n) s o ≡ fieldsBelow n s o ++ fieldAt s o n
+pub below-more : (n : ℕ) (s : Store) (o : Bool) → fieldsBelow (suc n) s o ≡ fieldsBelow n s o ++ fieldAt s o n
 unfolding fieldsBelow fieldAt
 below-more n s o = fields-append (tagOf o) (pathsBelow n o s) (listed (pathIf s o n))
 

@@ -8,5 +8,6 @@ pub mod Counts
 pub mod Parts
 pub mod Fields
 pub mod Filling
+pub mod Bound
 pub mod Laying
 pub mod Writing

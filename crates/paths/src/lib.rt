@@ -21,6 +21,7 @@ ghost use Rattle.paths.specs.Path.{pointAt, preserveCollinear, reverseSo
 ghost use Rattle.paths.specs.Count.{pathCount, fieldSize, needOf};
 ghost use Rattle.paths.specs.Tray.{pathBytes, tagOf, fieldsOf, padded, over};
 ghost use Rattle.paths.specs.Filling.{pathPoints, fieldAt, fieldsBelow, layOver, PointsFit, FieldFits, FieldsFit, AllFit};
+ghost use Rattle.paths.specs.Wrote.{wrote, buildPaths64};
 ghost use Rattle.paths.specs.Walking.{linkOf, startFrom, roundFrom, Ready, Known, Directed, Asked, Three, Sized, Readable, Round, Room, pathRound, more, putPoint, laid, putMore};
 
 // What writing out answers: how many closed and open paths the tray holds, or a refusal.
@@ -333,8 +334,8 @@ fn write_points(w: &[u32], rev: bool, i: usize, t: &mut [u8])
     ensures { λ _. ⌜ now (t .exit) ≡ over (pathBytes (pathPoints (view (now (w .entry))) rev i)) (now (t .entry)) ⌝ }
 {
     let f = store::get(w, Col::First, i);
-    let a = start_from(w, rev, f);
-    write_round(w, rev, a, t);
+    let start = start_from(w, rev, f);
+    write_round(w, rev, start, t);
 }
 
 // The field of record i's path, if it has one and is open or closed as asked; answers how long it is.
@@ -358,14 +359,14 @@ fn write_paths(w: &[u32], rev: bool, opened: bool, t: &mut [u8]) -> usize
     ensures { λ r. ⌜ laid r (now (t .exit)) ≡ layOver (fieldsBelow (recs (view (now (w .entry)))) (view (now (w .entry))) opened) (now (t .entry)) ⌝ }
 {
     let n = store::get(w, Col::Records, 0);
-    let mut at: usize = 0;
+    let mut used: usize = 0;
     let mut i: usize = 0;
     while i < n {
-        let size = write_path(w, rev, opened, i, &mut t[at..]);
-        at += size;
+        let size = write_path(w, rev, opened, i, &mut t[used..]);
+        used += size;
         i += 1;
     }
-    at
+    used
 }
 
 // Zeros.
@@ -388,4 +389,23 @@ fn fill(w: &[u32], rev: bool, t: &mut [u8])
     let opened = write_paths(w, rev, true, &mut t[closed..]);
     let used = closed + opened;
     clear(&mut t[used..]);
+}
+
+// `build_paths64`: all paths into the tray, or a refusal, found before anything is written.
+pub fn build_paths64(w: &[u32], tray: &mut [u8]) -> Written
+    requires { ⌜ Ready (now w) ⌝ }
+    ensures { λ r. ⌜ wrote r (now (tray .exit)) ≡ buildPaths64 (view (now (w .entry))) (now (tray .entry)) ⌝ }
+{
+    let rev = reverse_solution(w);
+    let closed = count_paths(w, rev, false);
+    let opened = count_paths(w, rev, true);
+    let bytes = closed.bytes + opened.bytes;
+    if tray.len() < bytes {
+        return Written::Refused(Refusal::SmallTray);
+    }
+    fill(w, rev, tray);
+    Written::Paths {
+        closed: closed.paths,
+        open: opened.paths,
+    }
 }

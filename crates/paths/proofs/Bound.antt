@@ -1,0 +1,127 @@
+-- "17,920 bytes always suffice": three bytes for each record and eight for each point, since a point is on at most one ring.
+use Prim.Native.Nat.{ℕ, zero, suc, _+_, _*_, _≤_, _<_}
+use mathlib.Core.Path.{_≡_, refl, sym, ap, _∙_, subst}
+use mathlib.Core.Bool.{Bool, true, false, cond, Bool·beq}
+use mathlib.Core.List.{List, [], _∷_, _++_}
+use mathlib.Core.Option.{Option, none, some}
+use native.Mathlib.Omega.{arith}
+use native.Mathlib.Decide.{decLt}
+use lib.Dec.{eqb, leb}
+use lib.ListN.{length, length-append, length-drop}
+use borrow.Author.Tests.{le-leb, lt-leb}
+use Rattle.job.specs.declared.refusal.Refusal.the-variants.{SmallTray}
+use Rattle.rings.specs.Count.{sumTo, occ}
+use Rattle.rings.proofs.Counting.{pigeon}
+use Rattle.rings.proofs.Members.{occ-append}
+use Rattle.store.specs.Words.{Store, view}
+use Rattle.store.specs.Sound.{pts, recs, ringAt, isOpen, Sound}
+use Rattle.paths.specs.declared.Need.{Need}
+use Rattle.paths.specs.declared.Written.the-variants.{Paths, Refused}
+use Rattle.paths.specs.Path.{reverseSolution, pathIf, listed, pathsBelow, closedPaths, openPaths, sizeOf}
+use Rattle.paths.specs.Tray.{tagOf, fields, fieldsOf, padded}
+use Rattle.paths.specs.Walking.{Ready, Directed}
+use Rattle.paths.specs.Count.{fieldSize, needOf}
+use Rattle.paths.specs.Filling.{fieldAt, fieldsBelow, AllFit}
+use Rattle.paths.specs.Wrote.{Wrote, wrote, buildPaths64}
+use Rattle.paths.proofs.Counts.{field-length, fieldSize-le, size-le}
+use Rattle.paths.proofs.Filling.{below-more}
+
+-- ---- all rings together have at most as many points as there are
+
+-- the points of the rings of the records below n
+ringsBelow : Store → ℕ → List ℕ
+ringsBelow s zero = []
+ringsBelow s (suc n) = ringsBelow s n ++ ringAt s n
+
+module _ (s : Store) where
+  occ-rings : (k n : ℕ) → occ k (ringsBelow s n) ≡ sumTo n (λ i. occ k (ringAt s i))
+  unfolding ringsBelow
+  occ-rings k zero = refl
+  occ-rings k (suc n) = omega (arith, occ-append k (ringsBelow s n) (ringAt s n), occ-rings k n)
+
+  length-rings : (n : ℕ) → length (ringsBelow s n) ≡ sumTo n (λ i. length (ringAt s i))
+  unfolding ringsBelow
+  length-rings zero = refl
+  length-rings (suc n) = omega (arith, length-append (ringsBelow s n) (ringAt s n), length-rings n)
+
+  module _ (o : Sound s) where
+    rings-below : (k n : ℕ) → n ≤ recs s → 0 < occ k (ringsBelow s n) → k < pts s
+    unfolding ringsBelow
+    rings-below k zero h p = absurd (omega arith)
+    rings-below k (suc n) h p = go (decLt 0 (occ k (ringAt s n))) (rings-below k n (omega arith))
+      where
+        go : Dec (0 < occ k (ringAt s n)) → (0 < occ k (ringsBelow s n) → k < pts s) → k < pts s
+        go (yes q) r = o .good n h .points-in k q .below
+        go (no q) r = r (omega (arith, occ-append k (ringsBelow s n) (ringAt s n)))
+
+    pub rings-few : sumTo (recs s) (λ i. length (ringAt s i)) ≤ pts s
+    rings-few =
+        omega (
+          arith,
+          length-rings (recs s),
+          pigeon (pts s) (ringsBelow s (recs s)) (λ k. omega (arith, occ-rings k (recs s), o .once k)) (λ k p. rings-below k (recs s) (omega arith) p),
+        )
+
+  -- ---- a record has one field at most
+
+  field-le : (o : Bool) (i : ℕ) → length (fieldAt s o i) ≤ 3 + 8 * length (ringAt s i)
+  unfolding fieldAt
+  field-le o i = omega (arith, field-length s (tagOf o) o i, fieldSize-le (sizeOf (pathIf s o i)), size-le s o i)
+
+  none-of : (o : Bool) (i : ℕ) → Bool·beq (isOpen s i) o ≡ false → length (fieldAt s o i) ≡ 0
+  unfolding fieldAt pathIf
+  none-of o i e = rw e
+
+  one-field : (i : ℕ) → length (fieldAt s false i) + length (fieldAt s true i) ≤ 3 + 8 * length (ringAt s i)
+  one-field i = go (isOpen s i) refl
+    where
+      go : (t : Bool) → isOpen s i ≡ t → length (fieldAt s false i) + length (fieldAt s true i) ≤ 3 + 8 * length (ringAt s i)
+      go true e = omega (arith, none-of false i (rw e), field-le true i)
+      go false e = omega (arith, none-of true i (rw e), field-le false i)
+
+  all-fields : (n : ℕ) → length (fieldsBelow n s false) + length (fieldsBelow n s true) ≤ 3 * n + 8 * sumTo n (λ i. length (ringAt s i))
+  unfolding fieldsBelow
+  all-fields zero = omega arith
+  all-fields (suc n) =
+      omega (
+        arith,
+        all-fields n,
+        one-field n,
+        ap length (below-more n s false),
+        length-append (fieldsBelow n s false) (fieldAt s false n),
+        ap length (below-more n s true),
+        length-append (fieldsBelow n s true) (fieldAt s true n),
+      )
+
+  length-fieldsOf : length (fieldsOf s) ≡ length (fieldsBelow (recs s) s false) + length (fieldsBelow (recs s) s true)
+  unfolding fieldsOf fieldsBelow
+  length-fieldsOf = length-append (fields (tagOf false) (closedPaths s)) (fields (tagOf true) (openPaths s))
+
+  pub always-suffice : Sound s → length (fieldsOf s) ≤ 17920
+  always-suffice o = omega (arith, length-fieldsOf, all-fields (recs s), rings-few o, o .few-points, o .few-records)
+
+  -- so a tray of that length is never too small
+  pub never-small : Sound s → (t : List ℕ) → 17920 ≤ length t → buildPaths64 s t ≡ wrote (Paths (length (closedPaths s)) (length (openPaths s))) (padded (length t) (fieldsOf s))
+  unfolding buildPaths64
+  never-small o t h = rw (le-leb (length (fieldsOf s)) (length t) (omega (arith, always-suffice o)))
+
+-- ---- the two counts against the tray
+
+module _ (w : List ℕ) (r : Ready w) (c d : Need) (e : c ≡ needOf (view w) false) (f : d ≡ needOf (view w) true) where
+  pub bytes-are : c .bytes + d .bytes ≡ length (fieldsOf (view w))
+  unfolding needOf fieldsBelow
+  bytes-are = rw (e, f) (sym (length-fieldsOf (view w)))
+
+  pub bytes-fit : c .bytes + d .bytes ≤ 17920
+  bytes-fit = omega (arith, bytes-are, always-suffice (view w) (r .sound))
+
+  pub all-fit : (rev : Bool) (t : List ℕ) → rev ≡ reverseSolution (view w) → c .bytes + d .bytes ≤ length t → AllFit w rev t
+  all-fit rev t g h = record { directed = record { ready = r; direction = g }; room = omega (arith, bytes-are) }
+
+  pub too-small : (t : List ℕ) → length t < c .bytes + d .bytes → wrote (Refused SmallTray) t ≡ buildPaths64 (view w) t
+  unfolding buildPaths64
+  too-small t h = rw (lt-leb (length (fieldsOf (view w))) (length t) (omega (arith, bytes-are)))
+
+  pub all-written : (t u : List ℕ) → c .bytes + d .bytes ≤ length t → u ≡ padded (length t) (fieldsOf (view w)) → wrote (Paths (c .paths) (d .paths)) u ≡ buildPaths64 (view w) t
+  unfolding buildPaths64 needOf
+  all-written t u h g = rw (le-leb (length (fieldsOf (view w))) (length t) (omega (arith, bytes-are)), g, e, f)
