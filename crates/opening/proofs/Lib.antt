@@ -1,0 +1,2 @@
+-- Laws of opening: rings at their start.
+pub mod Starting

@@ -1,0 +1,2 @@
+-- Definitions of opening: rings at their start.
+pub mod Start

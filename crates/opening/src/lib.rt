@@ -1,0 +1,3 @@
+// Opening: from a job's bytes to joined rings, each at its start.
+pub mod clear;
+pub mod start;
