@@ -21,7 +21,8 @@ pub enum Outcome {
     Refused(Refusal),
 }
 
-fn put(w: &mut [u32], c: Col, i: usize, v: u32)
+// Stores a word of a column.
+pub fn put(w: &mut [u32], c: Col, i: usize, v: u32)
     requires { ⌜ (LENGTH ≤ length (now w)) × (i < size (fieldOf c)) ⌝ }
     ensures { λ _. ⌜ now (w .exit) ≡ words.put (fieldOf c) (now (w .entry)) i v ⌝ }
 {

@@ -3,3 +3,4 @@ pub mod Rounds
 pub mod Marking
 pub mod Homes
 pub mod Judging
+pub mod Readiness

@@ -1,6 +1,6 @@
 // Rows 4 to 8 of document 01's table, each over the whole job as it was read.
-pub mod owners;
 pub mod marks;
+pub mod owners;
 
 use audit::PointTest;
 use audit::RecordTest;

@@ -1,0 +1,179 @@
+-- Rows 4 to 8 passed: the invariant of opening while it joins. Every point is on one ring, linked both ways, and resolves to its record.
+use mathlib.Core.Path.{_≡_, refl, sym, ap, _∙_}
+use mathlib.Core.Logic.{_≢_, _⊎_, inl, inr}
+use mathlib.Core.Bool.{Bool, true, false, cond, not, _&&_, _||_}
+use mathlib.Core.List.{List, [], _∷_}
+use Prim.Native.Nat.{ℕ, zero, suc, _*_, _<_, _≤_}
+use native.Mathlib.Decide.{ℕ-discrete}
+use native.Mathlib.Omega.{arith}
+use lib.Dec.{eqb, ltb}
+use borrow.Author.Tests.{eq-eqb, ne-eqb, lt-ltb, ltb-true, ltb-false, eqb-true, not-false}
+use Rattle.rings.specs.Count.{occ}
+use Rattle.rings.specs.Relink.{Mutual}
+use Rattle.rings.specs.Walk.{Whole, walk}
+use Rattle.rings.proofs.Counting.{sum-term}
+use Rattle.rings.proofs.Orbits.{orbit}
+use Rattle.rings.proofs.Walking.{ring-is}
+use Rattle.job.specs.Limits.{COORDINATE}
+use Rattle.job.specs.declared.refusal.Refusal.{Refusal}
+use Rattle.job.specs.declared.refusal.Refusal.the-variants.{OffTheTable, NoSuch, Loose, Muddled, OpenEdge}
+use Rattle.store.specs.Field.{pt, X, Y, NONE}
+use Rattle.store.specs.Words.{view}
+use Rattle.store.specs.Named.{pointsOf, recordsOf, nextOf, prevOf, recOf, ownerOf, firstOf}
+use Rattle.store.specs.Sound.{ringAt, total}
+use Rattle.audit.specs.Tests.{anyBelow, offTable, noSuch, noSuchOf, namesNone, loose}
+use Rattle.joins.specs.Resolve.{Resolves}
+use Rattle.joins.specs.Resolved.{Ready}
+use Rattle.rows.specs.declared.Verdict.{Verdict}
+use Rattle.rows.specs.declared.Verdict.the-variants.{Passed, Refused}
+use Rattle.rows.specs.Owners.{findIn, resolved}
+use Rattle.rows.specs.Rows.{offTheTable, unnamed, noSuchNumber, looseLink, muddled, openEdge, rowsOf, Filled}
+use Rattle.rows.proofs.Homes.{or-left, or-right, none-below, ring-home, has-home}
+
+-- a row that refuses was passed by a job that passes
+past : (b : Bool) (x : Refusal) (r : Verdict) → cond b (Refused x) r ≡ Passed → (b ≡ false) × (r ≡ Passed)
+past true x r e = absurd (let z : _≡_ {A = ℕ} 0 1 = cc in omega arith)
+past false x r e = (refl, e)
+
+-- the rows that a job passed
+pub record Clear (w ss : List ℕ) (m : ℕ) (js : List ℕ) (n : ℕ) : Type 0 where
+  pub on-the-table : offTheTable w ≡ false
+  pub numbers : noSuchNumber w ss m js n ≡ false
+  pub links : looseLink w ≡ false
+  pub rings : muddled w ≡ false
+  pub edges : openEdge w ss m js n ≡ false
+
+pub clear : (w ss : List ℕ) (m : ℕ) (js : List ℕ) (n : ℕ) → rowsOf w ss m js n ≡ Passed → Clear w ss m js n
+unfolding rowsOf
+clear w ss m js n e =
+    let r8 = cond (openEdge w ss m js n) (Refused OpenEdge) Passed in
+    let r7 = cond (muddled w) (Refused Muddled) r8 in
+    let r6 = cond (looseLink w) (Refused Loose) r7 in
+    let r5 = cond (noSuchNumber w ss m js n) (Refused NoSuch) r6 in
+    let a = past (offTheTable w) OffTheTable r5 e in
+    let b = past (noSuchNumber w ss m js n) NoSuch r6 (a .1) in
+    let c = past (looseLink w) Loose r7 (b .1) in
+    let d = past (muddled w) Muddled r8 (c .1) in
+    let f = past (openEdge w ss m js n) OpenEdge Passed (d .1) in
+    record { on-the-table = a .0; numbers = b .0; links = c .0; rings = d .0; edges = f .0 }
+
+-- none, or a number below n
+name-of : (n v : ℕ) → namesNone n v ≡ false → (v ≡ NONE) ⊎ (v < n)
+name-of n v e = by (eqb v NONE) refl (ltb v n) refl e
+  where
+    by : (a : Bool) → eqb v NONE ≡ a → (b : Bool) → ltb v n ≡ b → (not a && not b) ≡ false → (v ≡ NONE) ⊎ (v < n)
+    by true x b y z = inl (eqb-true v NONE x)
+    by false x true y z = inr (ltb-true v n y)
+    by false x false y z = absurd (let u : _≡_ {A = ℕ} 0 1 = cc in omega arith)
+
+-- what a record resolves to is reached along owners without points
+found : (w : List ℕ) (q : ℕ) → ((i : ℕ) → i < recordsOf w → (ownerOf w i ≡ NONE) ⊎ (ownerOf w i < recordsOf w)) → q ≢ NONE → (f r : ℕ) → r < recordsOf w → findIn f (firstOf w) (ownerOf w) r ≡ q → Resolves (view w) r q
+unfolding findIn
+found w q o h zero r l e = absurd (h (sym e))
+found w q o h (suc f) r l e = by (ℕ-discrete (firstOf w r) NONE) (o r l) (λ k. found w q o h f (ownerOf w r) k)
+  where
+    by : Dec (firstOf w r ≡ NONE) → (ownerOf w r ≡ NONE) ⊎ (ownerOf w r < recordsOf w) → (ownerOf w r < recordsOf w → findIn f (firstOf w) (ownerOf w) (ownerOf w r) ≡ q → Resolves (view w) (ownerOf w r) q) → Resolves (view w) r q
+    by (no d) s t =
+        let a : r ≡ q = rw (ne-eqb (firstOf w r) NONE d) at e in
+        record { via = []; path = a; low = tt; real = rw (← a) l; some = λ y. d (ap (firstOf w) a ∙ y) }
+    by (yes d) (inl n) t = absurd (h (sym (rw (eq-eqb (firstOf w r) NONE d, eq-eqb (ownerOf w r) NONE n) at e)))
+    by (yes d) (inr n) t = go (ℕ-discrete (ownerOf w r) NONE)
+      where
+        go : Dec (ownerOf w r ≡ NONE) → Resolves (view w) r q
+        go (yes y) = absurd (h (sym (rw (eq-eqb (firstOf w r) NONE d, eq-eqb (ownerOf w r) NONE y) at e)))
+        go (no y) =
+            let z = t n (rw (eq-eqb (firstOf w r) NONE d, ne-eqb (ownerOf w r) NONE y) at e) in
+            record { via = r ∷ z .via; path = (refl, d, z .path); low = (l, z .low); real = z .real; some = z .some }
+
+module _ {w ss : List ℕ} {m : ℕ} {js : List ℕ} {n : ℕ} (g : Filled w ss m js n) (c : Clear w ss m js n) where
+  -- row 4
+  coordinates : (k : ℕ) → k < pointsOf w → (view w (pt X) k ≤ 2097152) × (view w (pt Y) k ≤ 2097152)
+  coordinates k h =
+      let e = none-below (pointsOf w) (offTable w) k (c .on-the-table) h in
+      let x = ltb (2 * COORDINATE) (view w (pt X) k) in
+      let y = ltb (2 * COORDINATE) (view w (pt Y) k) in
+      (ltb-false (2 * COORDINATE) (view w (pt X) k) (or-left x y e), ltb-false (2 * COORDINATE) (view w (pt Y) k) (or-right x y e))
+
+  -- row 5, of points
+  pub record PointNames (k : ℕ) : Type 0 where
+    pub next : nextOf w k < pointsOf w
+    pub prev : prevOf w k < pointsOf w
+    pub rec : recOf w k < recordsOf w
+
+  named : (k : ℕ) → k < pointsOf w → PointNames k
+  named k h =
+      let e = none-below (pointsOf w) (noSuch w) k (or-left (anyBelow (pointsOf w) (noSuch w)) (anyBelow (recordsOf w) (noSuchOf w) || (unnamed w ss m || unnamed w js (2 * n))) (c .numbers)) h in
+      let x = not (ltb (nextOf w k) (pointsOf w)) in
+      let y = not (ltb (prevOf w k) (pointsOf w)) in
+      let z = not (ltb (recOf w k) (recordsOf w)) in
+      let u = or-right x (y || z) e in
+      record {
+        next = ltb-true _ _ (not-false (ltb (nextOf w k) (pointsOf w)) (or-left x (y || z) e));
+        prev = ltb-true _ _ (not-false (ltb (prevOf w k) (pointsOf w)) (or-left y z u));
+        rec = ltb-true _ _ (not-false (ltb (recOf w k) (recordsOf w)) (or-right y z u));
+      }
+
+  -- row 5, of records
+  record-named : (i : ℕ) → i < recordsOf w → noSuchOf w i ≡ false
+  record-named i h =
+      let e = or-right (anyBelow (pointsOf w) (noSuch w)) (anyBelow (recordsOf w) (noSuchOf w) || (unnamed w ss m || unnamed w js (2 * n))) (c .numbers) in
+      none-below (recordsOf w) (noSuchOf w) i (or-left (anyBelow (recordsOf w) (noSuchOf w)) (unnamed w ss m || unnamed w js (2 * n)) e) h
+
+  owned : (i : ℕ) → i < recordsOf w → (ownerOf w i ≡ NONE) ⊎ (ownerOf w i < recordsOf w)
+  owned i h = name-of (recordsOf w) (ownerOf w i) (or-left (namesNone (recordsOf w) (ownerOf w i)) (namesNone (pointsOf w) (firstOf w i)) (record-named i h))
+
+  first-named : (i : ℕ) → i < recordsOf w → (firstOf w i ≡ NONE) ⊎ (firstOf w i < pointsOf w)
+  first-named i h = name-of (pointsOf w) (firstOf w i) (or-right (namesNone (recordsOf w) (ownerOf w i)) (namesNone (pointsOf w) (firstOf w i)) (record-named i h))
+
+  -- row 6
+  mutual-links : Mutual (nextOf w) (prevOf w) (pointsOf w)
+  mutual-links =
+      record {
+        next-low = λ k h. named k h .next;
+        prev-next = λ k h.
+            let e = none-below (pointsOf w) (loose w) k (c .links) h in
+            eqb-true (prevOf w (nextOf w k)) k (not-false (eqb (prevOf w (nextOf w k)) k) (or-right (not (eqb (nextOf w (prevOf w k)) k)) (not (eqb (prevOf w (nextOf w k)) k)) e));
+      }
+
+  -- a record's ring, from its first point, is whole
+  wholes : (i : ℕ) → i < recordsOf w → Whole (nextOf w) (prevOf w) (pointsOf w) (ringAt (view w) i)
+  wholes i h = by (ℕ-discrete (firstOf w i) NONE) (first-named i h)
+    where
+      empty : Whole (nextOf w) (prevOf w) (pointsOf w) []
+      empty = record { linked = tt; once = λ k. omega arith; below = λ k y. absurd (omega arith) }
+
+      by : Dec (firstOf w i ≡ NONE) → (firstOf w i ≡ NONE) ⊎ (firstOf w i < pointsOf w) → Whole (nextOf w) (prevOf w) (pointsOf w) (ringAt (view w) i)
+      by (yes e) s = rw (eq-eqb (firstOf w i) NONE e) empty
+      by (no d) (inl e) = absurd (d e)
+      by (no d) (inr l) =
+          let o = orbit (nextOf w) (prevOf w) (pointsOf w) mutual-links (firstOf w i) l in
+          let e : walk (nextOf w) (firstOf w i) ≡ firstOf w i ∷ o .others = ring-is (nextOf w) (prevOf w) (pointsOf w) (firstOf w i) (o .others) (g .points) (o .whole) in
+          rw (ne-eqb (firstOf w i) NONE d, e) (o .whole)
+
+  -- row 7
+  homes : (i k : ℕ) → i < recordsOf w → 0 < occ k (ringAt (view w) i) → Resolves (view w) (recOf w k) i
+  homes i k h r =
+      let e = ring-home w (c .rings) i k h (lt-ltb 0 (occ k (ringAt (view w) i)) r) in
+      found w i owned (λ y. omega (arith, g .records)) 512 (recOf w k) (named k (wholes i h .below k r) .rec) e
+
+  places : (k : ℕ) → k < pointsOf w → 0 < total (view w) k
+  places k h =
+      let s = has-home w (c .rings) k h in
+      let i = resolved w k in
+      omega (arith, ltb-true 0 (occ k (ringAt (view w) i)) (s .1), sum-term (recordsOf w) i (λ j. occ k (ringAt (view w) j)) (s .0))
+
+  pub ready : Ready w
+  ready =
+      record {
+        long = g .long;
+        resolved = record {
+          few-points = g .points;
+          few-records = g .records;
+          whole = wholes;
+          home = homes;
+          placed = places;
+          x-in = λ k h. coordinates k h .0;
+          y-in = λ k h. coordinates k h .1;
+          owner-in = owned;
+        };
+      }
