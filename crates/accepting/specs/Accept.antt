@@ -1,0 +1,38 @@
+-- Rows 1 to 8 of document 01's table: a job is read, then judged over the whole.
+use Prim.Native.Nat.{ℕ, _*_}
+use mathlib.Core.Path.{_≡_}
+use mathlib.Core.Bool.{false}
+use mathlib.Core.List.{List}
+use Rattle.job.specs.declared.Job.{Job}
+use Rattle.reading.specs.declared.fill.Outcome.{Outcome}
+use Rattle.reading.specs.declared.fill.Outcome.the-variants.{State, Refused}
+use Rattle.reading.specs.Fill.{End, end}
+use Rattle.reading.specs.Read.{readOf, Counts}
+use Rattle.rows.specs.declared.Verdict.{Verdict}
+use Rattle.rows.specs.declared.Verdict.the-variants as verdict
+use Rattle.rows.specs.Rows.{unnamed, openEdge, rowsOf}
+use Rattle.joins.specs.Resolved.{Ready}
+
+abbrev pub answer : Verdict → Job → Outcome
+answer verdict.Passed j = State j
+answer (verdict.Refused r) j = Refused r
+
+-- rows 4 to 8 of a job that was read, with as many segments and joins as were counted
+abbrev pub judgeOf : Job → List ℕ → List ℕ → List ℕ → Outcome
+judgeOf j w ss js = answer (rowsOf w ss (j .segments) js (j .joins)) j
+
+abbrev pub judged : End → End
+judged (end (State j) w ss js) = end (judgeOf j w ss js) w ss js
+judged (end (Refused r) w ss js) = end (Refused r) w ss js
+
+-- the first of rows 1 to 8 that holds, or the job as words and two lists
+unfoldable pub acceptOf : List ℕ → List ℕ → List ℕ → List ℕ → End
+acceptOf bytes w ss js = judged (readOf bytes w ss js)
+
+-- what holds of a job that is accepted so far
+pub record Accepted (j : Job) (w ss js : List ℕ) : Type 0 where
+  pub counts : Counts j w
+  pub ready : Ready w
+  pub segments : unnamed w ss (j .segments) ≡ false
+  pub joins : unnamed w js (2 * j .joins) ≡ false
+  pub closed : openEdge w ss (j .segments) js (j .joins) ≡ false
