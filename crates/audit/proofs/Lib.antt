@@ -5,3 +5,4 @@ pub mod Reaching
 pub mod Saying
 pub mod Deciding
 pub mod Agreeing
+mod Examples

@@ -2,6 +2,7 @@
 use job::Job;
 use job::refusal::Refusal;
 use store::Col;
+use store::NONE;
 use store::get;
 use store::read;
 ghost use mathlib.Core.Path.{_≡_};
@@ -15,8 +16,6 @@ ghost use Rattle.store.specs.Named.{pointsOf, recordsOf, nextOf, ringOf};
 ghost use Rattle.audit.specs.Tests.{isIn, anyBelow, offTable, noSuch, noSuchOf, namesNone, loose, astray, crowded, anyRecord, testsOf};
 ghost use Rattle.audit.specs.declared.PointTest.the-variants.{Numbers};
 ghost use Rattle.audit.specs.Marks.{Counted, isMarked, markFrom, marksBy, AllMarked, fails, failsOf, anyMarked, linksOf, pointsTested};
-
-const NONE: usize = 65535;
 
 // The word of the largest coordinate.
 const FAR: usize = 2 * (Job::COORDINATE as usize);

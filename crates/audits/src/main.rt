@@ -3,14 +3,13 @@ use audit::Verdict;
 use audit::tests_of;
 use libc::STDOUT_FILENO;
 use store::Col;
+use store::NONE;
 use store::points::start_record;
 use store::set;
 ghost use Prim.Native.Nat.{ℕ, _+_, _<_, _≤_, _^_};
 ghost use lib.ListN.{length};
 ghost use Rattle.store.specs.Field.{size, LENGTH};
 ghost use Rattle.store.specs.Column.{fieldOf};
-
-const NONE: usize = 65535;
 
 // Point i at (x, y), by the words of its coordinates, between p and n, of record r.
 fn put_point(w: &mut [u32], i: usize, x: usize, y: usize, n: usize, p: usize, r: usize)

@@ -7,6 +7,9 @@ ghost use Rattle.store.specs.Field.{size, base, LENGTH};
 ghost use Rattle.store.specs.Words.{cell, put};
 ghost use Rattle.store.specs.Column.{fieldOf};
 
+// No point, no record.
+pub const NONE: usize = 65535;
+
 // The columns: the only index into the work space.
 pub enum Col {
     X,

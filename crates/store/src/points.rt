@@ -1,5 +1,6 @@
 // Points and records by value, and the Rust's primitives that make and unlink them.
 use crate::Col;
+use crate::NONE;
 use crate::get;
 use crate::set;
 use geometry::Point;
@@ -36,9 +37,8 @@ pub struct OutRec {
     pub cut: usize,
 }
 
-const NONE: usize = 65535;
-
-const RAISE: i32 = 1048576;
+// What a coordinate's word is raised by.
+const RAISE: i32 = Job::COORDINATE as i32;
 
 // ---- by value
 

@@ -1,6 +1,7 @@
 // Walks round a ring: how many points, the doubled area, whether it is valid.
 use geometry::edge_area;
 use store::Col;
+use store::NONE;
 use store::get;
 use store::points::point;
 ghost use mathlib.Core.Path.{_≡_};
@@ -13,8 +14,6 @@ ghost use Rattle.lone.specs.Plane.{plane};
 ghost use Rattle.store.specs.Named.{nextOf, prevOf, ringOf};
 ghost use Rattle.store.specs.Value.{pointOf};
 ghost use Rattle.walks.specs.Ring.{OnRing, MaybeOnRing, Edge, Three, valuesFrom, valuesOf, isVerySmall};
-
-const NONE: usize = 65535;
 
 // How many points the ring has.
 pub fn point_count(w: &[u32], op_start: usize) -> usize
