@@ -20,7 +20,7 @@ use Rattle.rings.proofs.Walking.{Seen, seen}
 use Rattle.store.specs.Field.{Field, pt, rc, ct, X, Y, NEXT, PREV, REC, FLAGS, OWNER, FIRST, POINTS, RECORDS, NONE, LENGTH, same}
 use Rattle.store.specs.Words.{Store, view, Write, write, onWords, onStore, Within, upd}
 use Rattle.store.specs.Named.{nextOf, prevOf, recOf, firstOf, pointsOf, recordsOf, setRec, setFirst}
-use Rattle.store.specs.Sound.{pts, recs, ringAt}
+use Rattle.store.specs.Sound.{pts, recs, ringAt, isOpen}
 use Rattle.store.proofs.Soundness.{first-on}
 use Rattle.store.proofs.Storing.{view-writes, length-writes, length-put, view-put}
 use Rattle.joins.specs.Resolve.{Resolves, Lives}
@@ -28,7 +28,7 @@ use Rattle.joins.specs.Resolved.{Resolved, Ready}
 use Rattle.joins.specs.Join.{relinkOf, newOutRec, nameAll, fixOutrecPts, settleOf, cutOf, mergeOf}
 use Rattle.joins.specs.Needs.{Four, Ringed, Pair}
 use Rattle.joins.proofs.Homes.{table, lives-on, on-ring, from, next-lives, prev-lives, next-prev}
-use Rattle.joins.proofs.Joining.{Split, split-resolved, Merged, merge-resolved}
+use Rattle.joins.proofs.Joining.{Split, split-resolved, split-opened, Merged, merge-resolved, merge-opened, Opened}
 use Rattle.joins.proofs.Naming.{name-length, name-col, name-out, name-in}
 
 -- ---- the four links
@@ -96,6 +96,7 @@ module _ (w : List ℕ) (a c i j : ℕ) (t : Pair w a c i j) where
             named = λ k. refl;
             xs = λ k. refl;
             ys = λ k. refl;
+            flags = λ t. refl;
           }
 
   pub merge-points : pointsOf (mergeOf w a c i j) ≡ pointsOf w
@@ -104,6 +105,13 @@ module _ (w : List ℕ) (a c i j : ℕ) (t : Pair w a c i j) where
   merge-long : LENGTH ≤ length (mergeOf w a c i j)
   unfolding mergeOf relinkOf merges
   merge-long = omega (arith, t .ready .long, length-writes w merges)
+
+  pub merge-open : i ≢ j → isOpen (view w) i ≡ false → isOpen (view w) j ≡ false → Opened (view w) (view (mergeOf w a c i j))
+  merge-open d =
+      let o = t .ready .resolved in
+      let f = from (view w) o i a (t .one) in
+      let g = from (view w) o j (prevOf w c) mate in
+      merge-opened (view w) (view (mergeOf w a c i j)) o a (prevOf w c) i j (f .others) (g .others) d (t .one .res .real) (t .two .res .real) (t .one .res .some) (t .two .res .some) (f .whole) (g .whole) (f .occs) (g .occs) merged
 
   pub merge-ready : i ≢ j → Ready (mergeOf w a c i j)
   merge-ready d =
@@ -315,10 +323,15 @@ module _ (w : List ℕ) (a c i k : ℕ) (t : Pair w a c i i) (kn : k ≡ records
         named-else = λ m h d. z .rec-else m d ∙ y-else m h;
         xs = λ m. z .cols (pt X) m refl refl;
         ys = λ m. z .cols (pt Y) m refl refl;
+        flags-new = rw (← kn) (z .cols (rc FLAGS) k refl refl ∙ rw (eq-eqb k k refl));
+        flags-else = λ j e. z .cols (rc FLAGS) j refl refl ∙ rw (ne-eqb j k (λ h. e (h ∙ kn)));
       }
 
   pub split-points : pointsOf (settleOf y i k a) ≡ pointsOf w
   split-points = split .points
+
+  pub split-open : isOpen (view w) i ≡ false → Opened (view w) (view (settleOf y i k a))
+  split-open = split-opened (view w) (view (settleOf y i k a)) (t .ready .resolved) a (prevOf w c) i l r (t .one .res .real) (omega arith) (t .one .res .some) (q .whole) (q .occs) split
 
   pub split-ready : Ready (settleOf y i k a)
   split-ready =
@@ -334,3 +347,7 @@ cut-ready w a c i k t kn kf = split-ready w a c i k t kn kf (parts w a c i t)
 pub cut-points : (w : List ℕ) (a c i k : ℕ) → Pair w a c i i → k ≡ recordsOf w → k < 512 → pointsOf (cutOf w a c i k) ≡ pointsOf w
 unfolding cutOf
 cut-points w a c i k t kn kf = split-points w a c i k t kn kf (parts w a c i t)
+
+pub cut-open : (w : List ℕ) (a c i k : ℕ) → Pair w a c i i → k ≡ recordsOf w → k < 512 → isOpen (view w) i ≡ false → Opened (view w) (view (cutOf w a c i k))
+unfolding cutOf
+cut-open w a c i k t kn kf = split-open w a c i k t kn kf (parts w a c i t)

@@ -9,21 +9,22 @@ use native.Mathlib.Decide.{ℕ-discrete, decLt}
 use borrow.Author.Tests.{eq-eqb, ne-eqb}
 use Rattle.rings.specs.Count.{one, occ}
 use Rattle.rings.specs.Links.{All}
-use Rattle.rings.specs.Walk.{Whole}
+use Rattle.rings.specs.Walk.{walk, Whole}
 use Rattle.rings.specs.Relink.{Crossed}
 use Rattle.rings.specs.Table.{Table, with, Starts, nowhere, on-it}
 use Rattle.rings.specs.Table as rings
 use Rattle.rings.proofs.Counting.{all-in, in-all}
 use Rattle.rings.proofs.Members.{one-is, occ-append}
+use Rattle.rings.proofs.Walking.{run-agree}
 use Rattle.rings.proofs.Splicing.{occ-halves, occ-spliced}
 use Rattle.rings.proofs.Tables.{with-here, with-else, table-cut, total-cut, table-splice, total-splice, Walked, walked, table-walked, total-walked, elsewhere}
-use Rattle.store.specs.Field.{pt, rc, X, Y, NEXT, PREV, REC, OWNER, FIRST, NONE}
+use Rattle.store.specs.Field.{pt, rc, X, Y, NEXT, PREV, REC, FLAGS, OWNER, FIRST, NONE}
 use Rattle.store.specs.Words.{Store}
-use Rattle.store.specs.Sound.{pts, recs, ringAt, total}
+use Rattle.store.specs.Sound.{pts, recs, ringless, ringAt, isOpen, total}
 use Rattle.joins.specs.Resolve.{Path, Resolves, Lives}
 use Rattle.joins.specs.Resolved.{Resolved}
-use Rattle.joins.proofs.Resolving.{path-join, path-kept}
-use Rattle.joins.proofs.Homes.{starts, table, lives-on}
+use Rattle.joins.proofs.Resolving.{path-join, path-kept, res-same}
+use Rattle.joins.proofs.Homes.{starts, table, lives-on, home-of, on-ring}
 
 -- the ring of record i is a, l.., b, r..; a new record takes b, l..
 pub record Split (s u : Store) (a b i : ℕ) (l r : List ℕ) : Type 0 where
@@ -40,6 +41,8 @@ pub record Split (s u : Store) (a b i : ℕ) (l r : List ℕ) : Type 0 where
   pub named-else : (k : ℕ) → occ k (b ∷ l) ≡ 0 → k ≢ a → u (pt REC) k ≡ s (pt REC) k
   pub xs : (k : ℕ) → u (pt X) k ≡ s (pt X) k
   pub ys : (k : ℕ) → u (pt Y) k ≡ s (pt Y) k
+  pub flags-new : u (rc FLAGS) (recs s) ≡ 0
+  pub flags-else : (j : ℕ) → j ≢ recs s → u (rc FLAGS) j ≡ s (rc FLAGS) j
 
 -- a is on the ring of record i, b on that of record j; j is emptied, and owned by i
 pub record Merged (s u : Store) (a b i j : ℕ) : Type 0 where
@@ -53,6 +56,37 @@ pub record Merged (s u : Store) (a b i j : ℕ) : Type 0 where
   pub named : (k : ℕ) → u (pt REC) k ≡ s (pt REC) k
   pub xs : (k : ℕ) → u (pt X) k ≡ s (pt X) k
   pub ys : (k : ℕ) → u (pt Y) k ≡ s (pt Y) k
+  pub flags : (j : ℕ) → u (rc FLAGS) j ≡ s (rc FLAGS) j
+
+-- the point is on no open ring
+abbrev pub Shut : Store → ℕ → Type 0
+Shut s k = (i : ℕ) → Lives s i k → isOpen s i ≡ false
+
+-- open rings stay as they are; no new record is open; and points on closed rings stay on closed rings
+pub record Opened (s u : Store) : Type 0 where
+  pub records : recs s ≤ recs u
+  pub points : pts s ≤ pts u
+  pub flags : (i : ℕ) → i < recs s → u (rc FLAGS) i ≡ s (rc FLAGS) i
+  pub new : (i : ℕ) → recs s ≤ i → i < recs u → isOpen u i ≡ false
+  pub rings : (i : ℕ) → i < recs s → isOpen s i ≡ true → ringAt u i ≡ ringAt s i
+  pub xs : (k : ℕ) → k < pts s → u (pt X) k ≡ s (pt X) k
+  pub ys : (k : ℕ) → k < pts s → u (pt Y) k ≡ s (pt Y) k
+  pub shut : (k : ℕ) → k < pts s → Shut s k → Shut u k
+
+-- a ring whose first point and links stay
+pub ring-kept : (s u : Store) (j : ℕ) → u (rc FIRST) j ≡ s (rc FIRST) j → ((k : ℕ) → 0 < occ k (ringAt s j) → u (pt NEXT) k ≡ s (pt NEXT) k) → ringAt u j ≡ ringAt s j
+ring-kept s u j e f = rw e (go (ringless s j) refl)
+  where
+    go : (z : Bool) → ringless s j ≡ z → cond z [] (walk (u (pt NEXT)) (s (rc FIRST) j)) ≡ cond z [] (walk (s (pt NEXT)) (s (rc FIRST) j))
+    go true d = refl
+    go false d = run-agree (s (pt NEXT)) (u (pt NEXT)) (s (rc FIRST) j) 2048 (s (rc FIRST) j) (λ k p. f k (rw d p))
+
+-- a point that lives on a closed ring lives on no open one
+shut-by : (u : Store) (i k : ℕ) → Lives u i k → isOpen u i ≡ false → Shut u k
+shut-by u i k z e j y = subst (λ (x : ℕ). isOpen u x ≡ false) (res-same u (u (pt REC) k) i j (z .res) (y .res)) e
+
+differ : (s : Store) (i j : ℕ) → isOpen s i ≡ true → isOpen s j ≡ false → i ≢ j
+differ s i j a b e = let z : _≡_ {A = Bool} true false = sym a ∙ ap (isOpen s) e ∙ b in let y : _≡_ {A = ℕ} 0 1 = cc in omega arith
 
 module _ (s u : Store) (o : Resolved s) (a b i : ℕ) (l r : List ℕ) (hi : i < recs s) (room : recs s < 512) (fi : s (rc FIRST) i ≢ NONE)
     (w : Whole (s (pt NEXT)) (s (pt PREV)) (pts s) (a ∷ l ++ b ∷ r)) (occs : (k : ℕ) → occ k (a ∷ l ++ b ∷ r) ≡ occ k (ringAt s i)) (c : Split s u a b i l r) where
@@ -181,6 +215,40 @@ module _ (s u : Store) (o : Resolved s) (a b i : ℕ) (l r : List ℕ) (hi : i <
           more (inl e) = inl e
           more (inr e) = inr (omega (arith, c .records))
 
+  -- where record i is closed
+  pub split-opened : isOpen s i ≡ false → Opened s u
+  split-opened shut =
+      record {
+        records = omega (arith, c .records);
+        points = omega (arith, c .points);
+        flags = λ j h. c .flags-else j (λ z. omega arith);
+        new = λ j h g. let e : j ≡ recs s = omega (arith, c .records) in rw (e, c .flags-new);
+        rings = λ j h g.
+            let d : j ≢ i = differ s j i g shut in
+            ring-kept s u j (c .first-else j d (λ z. omega arith)) (λ k p. c .crossed .next-else k (off j h d k a p (omega (arith, occs a, one-is a a refl))) (off j h d k b p (omega (arith, occs b, halves b, one-is b b refl))));
+        xs = λ k h. c .xs k;
+        ys = λ k h. c .ys k;
+        shut = λ k h g.
+            let z = home-of s o k h in
+            go k (z .0) (z .1) (g (z .0) (z .1)) (ℕ-discrete (z .0) i);
+      }
+    where
+      off : (j : ℕ) → j < recs s → j ≢ i → (k x : ℕ) → 0 < occ k (ringAt s j) → 0 < occ x (ringAt s i) → k ≢ x
+      off j h d k x p y e = omega (arith, subst (λ (v : ℕ). occ v (ringAt s j) ≡ 0) (sym e) (elsewhere (s (pt NEXT)) (s (pt PREV)) (pts s) (recs s) (ringAt s) (table s o) i j x hi h (λ v. d (sym v)) y))
+
+      closed : (j : ℕ) → j < recs s → isOpen s j ≡ false → isOpen u j ≡ false
+      closed j h e = rw (c .flags-else j (λ z. omega arith)) e
+
+      go : (k h : ℕ) → Lives s h k → isOpen s h ≡ false → Dec (h ≡ i) → Shut u k
+      go k h z e (yes f) =
+          let y : 0 < occ k (a ∷ l ++ b ∷ r) = omega (arith, occs k, subst (λ (v : ℕ). 0 < occ k (ringAt s v)) f (on-ring s o h k z)) in
+          side y (decLt 0 (occ k (b ∷ l)))
+        where
+          side : 0 < occ k (a ∷ l ++ b ∷ r) → Dec (0 < occ k (b ∷ l)) → Shut u k
+          side y (yes g) = shut-by u (recs s) k (record { bound = omega (arith, c .points, z .bound); res = new k g }) (rw (c .flags-new))
+          side y (no g) = shut-by u i k (record { bound = omega (arith, c .points, z .bound); res = own k (omega (arith, halves k)) }) (closed i hi shut)
+      go k h z e (no d) = shut-by u h k (record { bound = omega (arith, c .points, z .bound); res = other h k (z .res .real) d (on-ring s o h k z) }) (closed h (z .res .real) e)
+
 module _ (s u : Store) (o : Resolved s) (a b i j : ℕ) (l r : List ℕ) (ij : i ≢ j) (hi : i < recs s) (hj : j < recs s) (fi : s (rc FIRST) i ≢ NONE) (fj : s (rc FIRST) j ≢ NONE)
     (w : Whole (s (pt NEXT)) (s (pt PREV)) (pts s) (a ∷ l)) (v : Whole (s (pt NEXT)) (s (pt PREV)) (pts s) (b ∷ r))
     (ones : (k : ℕ) → occ k (a ∷ l) ≡ occ k (ringAt s i)) (twos : (k : ℕ) → occ k (b ∷ r) ≡ occ k (ringAt s j)) (c : Merged s u a b i j) where
@@ -284,3 +352,33 @@ module _ (s u : Store) (o : Resolved s) (a b i j : ℕ) (l r : List ℕ) (ij : i
       owners : (t : ℕ) → t < recs s → Dec (t ≡ j) → (u (rc OWNER) t ≡ NONE) ⊎ (u (rc OWNER) t < recs s)
       owners t h (yes e) = inr (subst (λ (x : ℕ). u (rc OWNER) x < recs s) (sym e) (rw (c .owner-gone) hi))
       owners t h (no d) = rw (c .owner-else t d) (o .owner-in t h)
+
+  -- where both records are closed
+  pub merge-opened : isOpen s i ≡ false → isOpen s j ≡ false → Opened s u
+  merge-opened shut-i shut-j =
+      record {
+        records = omega (arith, c .records);
+        points = omega (arith, c .points);
+        flags = λ t h. c .flags t;
+        new = λ t h g. absurd (omega (arith, c .records));
+        rings = λ t h g.
+            let d : t ≢ i = differ s t i g shut-i in
+            let e : t ≢ j = differ s t j g shut-j in
+            ring-kept s u t (c .first-else t e)
+            (λ k p. c .crossed .next-else k (off i t hi h d k a p (omega (arith, ones a, one-is a a refl))) (off j t hj h e k b p (omega (arith, twos b, one-is b b refl))));
+        xs = λ k h. c .xs k;
+        ys = λ k h. c .ys k;
+        shut = λ k h g.
+            let z = home-of s o k h in
+            go k (z .0) (z .1) (g (z .0) (z .1)) (ℕ-discrete (z .0) j);
+      }
+    where
+      off : (m t : ℕ) → m < recs s → t < recs s → t ≢ m → (k x : ℕ) → 0 < occ k (ringAt s t) → 0 < occ x (ringAt s m) → k ≢ x
+      off m t hm ht d k x p y e = omega (arith, subst (λ (v : ℕ). occ v (ringAt s t) ≡ 0) (sym e) (elsewhere (s (pt NEXT)) (s (pt PREV)) (pts s) (recs s) (ringAt s) (table s o) m t x hm ht (λ v. d (sym v)) y))
+
+      closed : (t : ℕ) → isOpen s t ≡ false → isOpen u t ≡ false
+      closed t e = rw (c .flags t) e
+
+      go : (k h : ℕ) → Lives s h k → isOpen s h ≡ false → Dec (h ≡ j) → Shut u k
+      go k h z e (yes f) = shut-by u i k (record { bound = omega (arith, c .points, z .bound); res = rw (c .named k) (taken (s (pt REC) k) (subst (λ (v : ℕ). Resolves s (s (pt REC) k) v) f (z .res))) }) (closed i shut-i)
+      go k h z e (no d) = shut-by u h k (record { bound = omega (arith, c .points, z .bound); res = rw (c .named k) (merge-res (s (pt REC) k) h d (z .res)) }) (closed h e)

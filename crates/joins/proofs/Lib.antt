@@ -8,3 +8,6 @@ pub mod Cutting
 pub mod Finding
 pub mod Renaming
 pub mod Turns
+pub mod Open
+pub mod Tested
+pub mod Bench
