@@ -13,4 +13,5 @@ pub mod Readiness
 pub mod OnWords
 pub mod Stepping
 pub mod Opening
+pub mod Finishing
 pub mod Example

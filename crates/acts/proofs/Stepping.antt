@@ -54,7 +54,7 @@ module _ {P : Type 0} (G : Geo P) (f : Coding P) where
   cut-count (cut v put false d) R = refl
   cut-count (cut v put true d) R = refl
 
-  due-is : (s : Store) (i : ℕ) (d : Due) → loneDue s i d .due ≡ d
+  pub due-is : (s : Store) (i : ℕ) (d : Due) → loneDue s i d .due ≡ d
   due-is s i validity = refl
   due-is s i removal = refl
   due-is s i triangle = refl

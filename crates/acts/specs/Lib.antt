@@ -4,4 +4,5 @@ pub mod Apply
 pub mod Rep
 pub mod Step
 pub mod Opened
+pub mod Finish
 pub mod Laws

@@ -16,10 +16,17 @@ use Rattle.acts.specs.Rep.{value}
 abbrev pub live : Store → ℕ → Bool
 live s i = ltb i (recs s) && (not (isOpen s i) && not (isDone (loneAt s i .due)))
 
+-- an answer, and the words that are left
+pub data Outcome : Type 0 where
+  outcome : Answer → List ℕ → Outcome
+
 module _ {P : Type 0} where
   -- the test of places left: points 2,048, records 512
+  abbrev pub fits : Store → Act P → Bool
+  fits s act = leb (pts s + takesPoints act) 2048 && leb (recs s + takesRecord act) 512
+
   abbrev pub roomFor : Store → Act P → Answer
-  roomFor s act = cond (leb (pts s + takesPoints act) 2048 && leb (recs s + takesRecord act) 512) ok full
+  roomFor s act = cond (fits s act) ok full
 
 module _ {P : Type 0} (G : Geo P) (f : Coding P) where
   -- what the record's lone ring would do
@@ -54,3 +61,7 @@ module _ {P : Type 0} (G : Geo P) (f : Coding P) where
   abbrev pub runW : List ℕ → List ℕ → List ℕ
   runW w [] = w
   runW w (i ∷ is) = runW (stepW w i) is
+
+  -- its answer and the words it leaves
+  unfoldable pub stepOf : List ℕ → ℕ → Outcome
+  stepOf w i = outcome (answerS (view w) i) (stepW w i)

@@ -53,12 +53,12 @@ module _ {P X : Type 0} (G : Geo P) (lp lr : ℕ) where
     pub every : Every (Held (F .points)) (F .entries)
 
   -- with `free` points left
-  leftOf : ℕ → Entry (Ring P) X → ℕ
+  unfoldable pub leftOf : ℕ → Entry (Ring P) X → ℕ
   leftOf free ringless = 0
   leftOf free (openRing x) = 0
   leftOf free (closedRing q L) = measure lp free (L .now)
 
-  left : Forest (Ring P) X → ℕ → ℕ
+  unfoldable pub left : Forest (Ring P) X → ℕ → ℕ
   unfolding leftOf
   left F i = leftOf (lp - F .points) (at (F .entries) i)
 
@@ -85,14 +85,14 @@ module _ {P X : Type 0} (G : Geo P) (lp lr : ℕ) where
           on-start [] = (omega arith, tt)
           on-start (x ∷ c) = (omega arith, tt)
 
-  kept : (F : Forest (Ring P) X) (i : ℕ) → HeldIn F → HeldIn (stepForest (machine G) lp lr F i)
+  pub kept : (F : Forest (Ring P) X) (i : ℕ) → HeldIn F → HeldIn (stepForest (machine G) lp lr F i)
   kept F i v = go (view (machine G) lp lr F i)
     where
       go : Accepted (machine G) lp lr F i ⊎ Refused (machine G) lp lr F i → HeldIn (stepForest (machine G) lp lr F i)
       go (inl y) = rw (y .becomes) (kept-carry F i y v)
       go (inr z) = rw (z .becomes) v
 
-  falls : (F : Forest (Ring P) X) (i : ℕ) → HeldIn F → answer (machine G) lp lr F i ≡ ok → left (stepForest (machine G) lp lr F i) i < left F i
+  pub falls : (F : Forest (Ring P) X) (i : ℕ) → HeldIn F → answer (machine G) lp lr F i ≡ ok → left (stepForest (machine G) lp lr F i) i < left F i
   unfolding left leftOf
   falls F i v e = go (view (machine G) lp lr F i)
     where
@@ -110,7 +110,7 @@ module _ {P X : Type 0} (G : Geo P) (lp lr : ℕ) where
       go (inl y) = rw (y .becomes) (less y (kept-carry F i y v))
       go (inr z) = absurd (true≢false (sym (ap isOk e) ∙ z .says))
 
-  bound : (F : Forest (Ring P) X) (i : ℕ) → HeldIn F → left F i < enough lp
+  pub bound : (F : Forest (Ring P) X) (i : ℕ) → HeldIn F → left F i < enough lp
   unfolding left leftOf
   bound F i v = go (at (F .entries) i) refl
     where

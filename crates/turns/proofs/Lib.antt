@@ -7,3 +7,4 @@ pub mod Deciding
 pub mod Sizes
 pub mod Decisions
 pub mod Ready
+pub mod Steps

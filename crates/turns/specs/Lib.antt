@@ -4,3 +4,4 @@ pub mod Form
 pub mod Reads
 pub mod Applies
 pub mod Decide
+pub mod Takes

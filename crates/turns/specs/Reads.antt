@@ -49,3 +49,8 @@ pub record Four (w : List ℕ) (a b c d : ℕ) : Type 0 where
   pub two : OnRing w b
   pub three : OnRing w c
   pub four : OnRing w d
+
+-- a work space that is long enough and sound
+pub record SoundWords (w : List ℕ) : Type 0 where
+  pub long : LENGTH ≤ length w
+  pub sound : Sound (view w)

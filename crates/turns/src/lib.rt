@@ -32,3 +32,4 @@ pub enum Answer {
 pub mod apply;
 pub mod decide;
 pub mod ring;
+pub mod step;

@@ -1,0 +1,52 @@
+-- Finishing in one call, on words: every ring stepped until it is done, in rising record order, offcuts as they come; it ends where a step is full.
+-- The forest's finishing (crate lone) goes the same way.
+use Prim.Native.Nat.{ℕ, zero, suc, _-_}
+use mathlib.Core.List.{List}
+use Rattle.rings.specs.Progress.{Ring, mapRing}
+use Rattle.lone.specs.Lone.{Geo}
+use Rattle.lone.specs.Forest.{Answer, ok, full, outOfTurn, Forest}
+use Rattle.lone.specs.Measure.{measure}
+use Rattle.lone.proofs.FinishingRings.{HeldIn}
+use Rattle.lone.specs.Finish.{enough}
+use Rattle.store.specs.Words.{view}
+use Rattle.store.specs.Sound.{pts, loneAt}
+use Rattle.acts.specs.Apply.{Coding}
+use Rattle.acts.specs.Rep.{RepW, value}
+use Rattle.acts.specs.Step.{Outcome, outcome, answerS, stepW}
+
+-- the rest is done unless it was full
+abbrev pub andThen : Outcome → (List ℕ → Outcome) → Outcome
+andThen (outcome ok w) k = k w
+andThen (outcome full w) k = outcome full w
+andThen (outcome outOfTurn w) k = k w
+
+module _ {P : Type 0} (G : Geo P) (f : Coding P) where
+  -- steps on record i until one is refused, with the answer to the next one; n: more than are ever needed
+  abbrev pub stepsByW : ℕ → Answer → List ℕ → ℕ → Outcome
+  stepsByW zero a w i = outcome a w
+  stepsByW (suc n) ok w i = stepsByW n (answerS G f (view (stepW G f w i)) i) (stepW G f w i) i
+  stepsByW (suc n) full w i = outcome full w
+  stepsByW (suc n) outOfTurn w i = outcome outOfTurn w
+
+  -- record i stepped until it is done (refused as out of turn), or until a step is full
+  unfoldable pub finishRecord : List ℕ → ℕ → Outcome
+  finishRecord w i = stepsByW (enough 2048) (answerS G f (view w) i) w i
+
+  -- the same on m records from number i on; on a number that is no record's the first step is refused
+  abbrev pub finishFromW : ℕ → List ℕ → ℕ → Outcome
+  finishFromW zero w i = outcome ok w
+  finishFromW (suc m) w i = andThen (finishRecord w i) (λ (w′ : List ℕ). finishFromW m w′ (suc i))
+
+  -- all records
+  unfoldable pub finishW : List ℕ → Outcome
+  finishW w = finishFromW 512 w 0
+
+  -- words that may be finished: in step with a forest whose rings are as steps leave them
+  pub record Finishes (w : List ℕ) : Type 0 where
+    pub forest : Forest (Ring P) (List P)
+    pub rep : RepW f w forest
+    pub held : HeldIn G 2048 512 forest
+
+  -- "a measure of free places, ring size and walk left", of record i
+  unfoldable pub wordsLeft : List ℕ → ℕ → ℕ
+  wordsLeft w i = measure 2048 (2048 - pts (view w)) (mapRing (value (f .of) (view w)) (loneAt (view w) i))

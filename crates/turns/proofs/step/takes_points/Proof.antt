@@ -1,0 +1,25 @@
+-- `takes_points` meets its contract.
+use borrow.Author.Needs.{needs}
+use Rattle.turns.proofs.Steps.{cut-taken}
+use Rattle.turns.proofs.step.takes_points.Statement.{statement}
+use Rattle.turns.proofs.step.takes_points.Tie as tie
+
+pub takes-points-spec : {M : Type 1} → statement M
+takes-points-spec =
+    tie.close
+    (tie.spec
+    (λ c. search needs)
+    (λ c. search needs)
+    (λ c. search needs)
+    (λ c. search needs)
+    (λ c. search needs)
+    (λ c. search needs)
+    (λ c. search needs)
+    (λ c κs. search needs)
+    (λ c. search needs)
+    (λ c. search needs)
+    (λ c. search needs)
+    (λ c. search needs)
+    (λ c. search needs)
+    (λ c. search needs)
+    (λ c. search (cut-taken, needs)))
