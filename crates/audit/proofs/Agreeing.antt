@@ -21,9 +21,9 @@ use Rattle.store.specs.Named.{pointsOf, recordsOf, nextOf, prevOf, recOf, first
 use Rattle.store.specs.Sound.{recs, ringless, ringAt, dueOf, Closed, PointIn, Sound}
 use Rattle.store.proofs.Soundness.{whole, first-on}
 use Rattle.audit.specs.declared.Verdict.the-variants.{Passed}
-use Rattle.audit.specs.Tests.{reachedBy, offTable, noSuch, noSuchOf, loose, shared, astray, testsOf}
+use Rattle.audit.specs.Tests.{reachedBy, offTable, noSuch, noSuchOf, loose, shared, misplaced, testsOf}
 use Rattle.audit.proofs.Reaching.{only-reached}
-use Rattle.audit.proofs.Saying.{all-none, none-reached, table-on, such-not, tied-not, owned-not, alone-not, astray-not, Passing, passing, passed}
+use Rattle.audit.proofs.Saying.{all-none, none-reached, table-on, such-not, tied-not, owned-not, alone-not, misplaced-not, Passing, passing, passed}
 use Rattle.audit.proofs.Deciding.{passing-sound}
 
 module _ (w : List ℕ) (s : Sound (view w)) where
@@ -106,9 +106,9 @@ module _ (w : List ℕ) (s : Sound (view w)) where
   going (suc (suc (suc zero))) h = refl
   going (suc (suc (suc (suc d)))) h = absurd (omega arith)
 
-  placed : (i : ℕ) → i < recordsOf w → astray w i ≡ false
+  placed : (i : ℕ) → i < recordsOf w → misplaced w i ≡ false
   placed i h =
-      astray-not w i
+      misplaced-not w i
       (λ a b. s .good i h .meant (record { known = h; ringed = a; closed = b }))
       (λ a b l. s .good i h .going (record { known = h; ringed = a; closed = b }) (going (progressOf w i) l))
 
@@ -122,7 +122,7 @@ module _ (w : List ℕ) (s : Sound (view w)) where
         owned = all-none (recordsOf w) (noSuchOf w) (λ i h. owned-not w i (s .good i h .owner) (first-is i h));
         tied = none-reached w (loose w) tied;
         apart = all-none (recordsOf w) (shared w) (λ j h. alone-not w j (apart j h));
-        meant = all-none (recordsOf w) (astray w) placed;
+        meant = all-none (recordsOf w) (misplaced w) placed;
       }
 
 pub passed-sound : (w : List ℕ) → testsOf w ≡ Passed → Sound (view w)

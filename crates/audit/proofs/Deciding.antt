@@ -26,9 +26,9 @@ use Rattle.store.specs.Named.{pointsOf, recordsOf, nextOf, prevOf, recOf, owner
 use Rattle.store.specs.Sound.{pts, recs, ringless, ringAt, isOpen, dueOf, dueAt, Closed, PointIn, Good, total, Sound}
 use Rattle.store.proofs.Soundness.{whole, first-on}
 use Rattle.audit.specs.declared.Verdict.the-variants.{Passed}
-use Rattle.audit.specs.Tests.{isIn, reachedBy, offTable, noSuch, noSuchOf, loose, shared, astray, testsOf}
+use Rattle.audit.specs.Tests.{isIn, reachedBy, offTable, noSuch, noSuchOf, loose, shared, misplaced, testsOf}
 use Rattle.audit.proofs.Reaching.{Reached, reached, only-reached, in-true, in-false}
-use Rattle.audit.proofs.Saying.{none-of, all-none, reached-none, none-reached, on-table, table-on, such, such-not, tied, tied-not, owned, owned-not, alone, alone-not, mark-low, place-on, astray-not, Passing, passing, passed, Placed, Numbered, Tied, Owned}
+use Rattle.audit.proofs.Saying.{none-of, all-none, reached-none, none-reached, on-table, table-on, such, such-not, tied, tied-not, owned, owned-not, alone, alone-not, mark-low, place-on, misplaced-not, Passing, passing, passed, Placed, Numbered, Tied, Owned}
 
 -- what holds of the first of a ring, and with each point of its next, holds of all
 along : (n p : ℕ → ℕ) (m : ℕ) (P : ℕ → Type 0) → ((k : ℕ) → P k → n k < m → P (n k)) → (a : ℕ) (l : List ℕ) (b : ℕ) → Seg n p (a ∷ l ++ (b ∷ [])) → ((k : ℕ) → 0 < occ k (a ∷ l) → k < m) → P a → (k : ℕ) → 0 < occ k (a ∷ l) → P k
@@ -198,7 +198,7 @@ module _ (w : List ℕ) (t : Passing w) where
 
   good : (i : ℕ) → i < recordsOf w → Good (view w) i
   good i h =
-      let a : astray w i ≡ false = none-of (recordsOf w) (astray w) (t .meant) i h in
+      let a : misplaced w i ≡ false = none-of (recordsOf w) (misplaced w) (t .meant) i h in
       record {
         linked = linked i h;
         points-in = λ k o.

@@ -17,7 +17,7 @@ use Rattle.store.specs.Named.{pointsOf, recordsOf, nextOf, prevOf, recOf, owner
 use Rattle.store.specs.Sound.{ringless, ringAt, isOpen}
 use Rattle.audit.specs.declared.Verdict.{Verdict}
 use Rattle.audit.specs.declared.Verdict.the-variants.{Passed, Refused}
-use Rattle.audit.specs.Tests.{isIn, anyBelow, anyReached, anyRecord, reachedBy, crowded, offTable, noSuch, noSuchOf, namesNone, loose, shared, astray, testsOf}
+use Rattle.audit.specs.Tests.{isIn, anyBelow, anyReached, anyRecord, reachedBy, crowded, offTable, noSuch, noSuchOf, namesNone, loose, shared, misplaced, testsOf}
 use Rattle.audit.proofs.Reaching.{in-true, in-false, true-in, false-in}
 
 clash : {A : Type 0} → _≡_ {A = Bool} true false → A
@@ -154,21 +154,21 @@ module _ (w : List ℕ) (i : ℕ) where
   alone-not h = in-false (firstOf w i) (reachedBy w i) h
 
   module _ (r : ringless (view w) i ≡ false) (c : isOpen (view w) i ≡ false) where
-    parts : astray w i ≡ false → (ltb 4 (progressOf w i) ≡ false) × ((ltb (progressOf w i) 4 && not (isIn (presentOf w i) (ringAt (view w) i))) ≡ false)
+    parts : misplaced w i ≡ false → (ltb 4 (progressOf w i) ≡ false) × ((ltb (progressOf w i) 4 && not (isIn (presentOf w i) (ringAt (view w) i))) ≡ false)
     parts e =
         or-false (ltb 4 (progressOf w i)) (ltb (progressOf w i) 4 && not (isIn (presentOf w i) (ringAt (view w) i)))
         (un-and (ringless (view w) i) (isOpen (view w) i) (ltb 4 (progressOf w i) || (ltb (progressOf w i) 4 && not (isIn (presentOf w i) (ringAt (view w) i)))) r c e)
 
-    pub mark-low : astray w i ≡ false → progressOf w i ≤ 4
+    pub mark-low : misplaced w i ≡ false → progressOf w i ≤ 4
     mark-low e = ltb-false 4 (progressOf w i) (parts e .0)
 
-    pub place-on : astray w i ≡ false → progressOf w i < 4 → 0 < occ (presentOf w i) (ringAt (view w) i)
+    pub place-on : misplaced w i ≡ false → progressOf w i < 4 → 0 < occ (presentOf w i) (ringAt (view w) i)
     place-on e h =
         true-in (presentOf w i) (ringAt (view w) i)
         (not-false (isIn (presentOf w i) (ringAt (view w) i)) (and-true (ltb (progressOf w i) 4) (not (isIn (presentOf w i) (ringAt (view w) i))) (parts e .1) (lt-ltb (progressOf w i) 4 h)))
 
-  pub astray-not : (ringless (view w) i ≡ false → isOpen (view w) i ≡ false → progressOf w i ≤ 4) → (ringless (view w) i ≡ false → isOpen (view w) i ≡ false → progressOf w i < 4 → 0 < occ (presentOf w i) (ringAt (view w) i)) → astray w i ≡ false
-  astray-not h g = go (ringless (view w) i) refl (isOpen (view w) i) refl (decLt (progressOf w i) 4)
+  pub misplaced-not : (ringless (view w) i ≡ false → isOpen (view w) i ≡ false → progressOf w i ≤ 4) → (ringless (view w) i ≡ false → isOpen (view w) i ≡ false → progressOf w i < 4 → 0 < occ (presentOf w i) (ringAt (view w) i)) → misplaced w i ≡ false
+  misplaced-not h g = go (ringless (view w) i) refl (isOpen (view w) i) refl (decLt (progressOf w i) 4)
     where
       go : (b : Bool) → ringless (view w) i ≡ b → (c : Bool) → isOpen (view w) i ≡ c → Dec (progressOf w i < 4)
           → (not b && not c && (ltb 4 (progressOf w i) || (ltb (progressOf w i) 4 && not (isIn (presentOf w i) (ringAt (view w) i))))) ≡ false
@@ -203,15 +203,15 @@ module _ (w : List ℕ) where
     pub owned : anyRecord w (noSuchOf w) ≡ false
     pub tied : anyReached w (loose w) ≡ false
     pub apart : anyRecord w (shared w) ≡ false
-    pub meant : anyRecord w (astray w) ≡ false
+    pub meant : anyRecord w (misplaced w) ≡ false
 
   pub passing : testsOf w ≡ Passed → Passing
   unfolding testsOf
   passing e =
-      let o = all-off (crowded w) (anyReached w (offTable w)) (anyReached w (noSuch w) || anyRecord w (noSuchOf w)) (anyReached w (loose w)) (anyRecord w (shared w) || anyRecord w (astray w)) e in
+      let o = all-off (crowded w) (anyReached w (offTable w)) (anyReached w (noSuch w) || anyRecord w (noSuchOf w)) (anyReached w (loose w)) (anyRecord w (shared w) || anyRecord w (misplaced w)) e in
       let c = or-false (ltb limit.POINTS (pointsOf w)) (ltb limit.RECORDS (recordsOf w)) (o .counts) in
       let n = or-false (anyReached w (noSuch w)) (anyRecord w (noSuchOf w)) (o .numbers) in
-      let m = or-false (anyRecord w (shared w)) (anyRecord w (astray w)) (o .rings) in
+      let m = or-false (anyRecord w (shared w)) (anyRecord w (misplaced w)) (o .rings) in
       record {
         points = ltb-false limit.POINTS (pointsOf w) (c .0);
         records = ltb-false limit.RECORDS (recordsOf w) (c .1);

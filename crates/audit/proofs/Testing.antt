@@ -18,7 +18,7 @@ use Rattle.job.specs.declared.refusal.Refusal.the-variants.{Crowded, OffTheTabl
 use Rattle.audit.specs.declared.Verdict.{Verdict}
 use Rattle.audit.specs.declared.Verdict.the-variants.{Passed, Refused}
 use Rattle.audit.specs.declared.PointTest.the-variants.{Table, Numbers, Links}
-use Rattle.audit.specs.Tests.{isIn, anyBelow, anyRecord, crowded, noSuchOf, astray, testsOf}
+use Rattle.audit.specs.Tests.{isIn, anyBelow, anyRecord, crowded, noSuchOf, misplaced, testsOf}
 use Rattle.audit.specs.Marks.{Counted, isMarked, markFrom, marksBy, meets, AllMarked, anyMarked, linksOf, pointsTested}
 
 -- ---- the first number below n that fails
@@ -128,28 +128,28 @@ module _ (n : ℕ → ℕ) (stop p k : ℕ) (F : Bool) where
 -- ---- a ring's progress
 
 module _ (w : List ℕ) (i f : ℕ) (ef : f ≡ firstOf w i) where
-  pub astray-bare : f ≡ 65535 → false ≡ astray w i
-  astray-bare h = rw (eq-eqb (firstOf w i) 65535 (sym ef ∙ h))
+  pub misplaced-bare : f ≡ 65535 → false ≡ misplaced w i
+  misplaced-bare h = rw (eq-eqb (firstOf w i) 65535 (sym ef ∙ h))
 
   module _ (h : f ≢ 65535) (g : ℕ) (eg : g ≡ flagsOf w i) where
     ringed : eqb (firstOf w i) 65535 ≡ false
     ringed = ne-eqb (firstOf w i) 65535 (λ z. h (ef ∙ z))
 
-    pub astray-open : g % 2 ≡ 1 → false ≡ astray w i
-    astray-open k = rw (ringed, eq-eqb (flagsOf w i % 2) 1 (ap (λ (x : ℕ). x % 2) (sym eg) ∙ k))
+    pub misplaced-open : g % 2 ≡ 1 → false ≡ misplaced w i
+    misplaced-open k = rw (ringed, eq-eqb (flagsOf w i % 2) 1 (ap (λ (x : ℕ). x % 2) (sym eg) ∙ k))
 
     module _ (k : g % 2 ≢ 1) (d : ℕ) (ed : d ≡ progressOf w i) where
       shut : eqb (flagsOf w i % 2) 1 ≡ false
       shut = ne-eqb (flagsOf w i % 2) 1 (λ z. k (ap (λ (x : ℕ). x % 2) eg ∙ z))
 
-      pub astray-mark : 4 < d → true ≡ astray w i
-      astray-mark l = rw (ringed, shut, lt-ltb 4 (progressOf w i) (omega arith))
+      pub misplaced-mark : 4 < d → true ≡ misplaced w i
+      misplaced-mark l = rw (ringed, shut, lt-ltb 4 (progressOf w i) (omega arith))
 
-      pub astray-done : d ≡ 4 → false ≡ astray w i
-      astray-done e = rw (ringed, shut, ← ed, e)
+      pub misplaced-done : d ≡ 4 → false ≡ misplaced w i
+      misplaced-done e = rw (ringed, shut, ← ed, e)
 
-      pub astray-else : (p : ℕ) (b : Bool) → d ≤ 4 → d ≢ 4 → p ≡ presentOf w i → b ≡ isIn p (ringOf w f) → not b ≡ astray w i
-      astray-else p b l n ep eb = rw (ringed, shut, le-ltb 4 (progressOf w i) (omega arith), lt-ltb (progressOf w i) 4 (omega arith), eb, ep, ef)
+      pub misplaced-else : (p : ℕ) (b : Bool) → d ≤ 4 → d ≢ 4 → p ≡ presentOf w i → b ≡ isIn p (ringOf w f) → not b ≡ misplaced w i
+      misplaced-else p b l n ep eb = rw (ringed, shut, le-ltb 4 (progressOf w i) (omega arith), lt-ltb (progressOf w i) 4 (omega arith), eb, ep, ef)
 
 -- ---- the tests together
 
@@ -167,10 +167,10 @@ module _ (w ms : List ℕ) (s a : Bool) (ea : a ≡ (anyMarked w ms Numbers || a
     unfolding linksOf
     says-shared h k = rw (sym ea ∙ ha, sym eb ∙ h, k)
 
-    module _ (hb : b ≡ false) (hs : s ≡ false) (d : Bool) (ed : d ≡ anyRecord w (astray w)) where
-      pub says-astray : d ≡ true → Refused Muddled ≡ linksOf w ms s
+    module _ (hb : b ≡ false) (hs : s ≡ false) (d : Bool) (ed : d ≡ anyRecord w (misplaced w)) where
+      pub says-misplaced : d ≡ true → Refused Muddled ≡ linksOf w ms s
       unfolding linksOf
-      says-astray h = rw (sym ea ∙ ha, sym eb ∙ hb, hs, sym ed ∙ h)
+      says-misplaced h = rw (sym ea ∙ ha, sym eb ∙ hb, hs, sym ed ∙ h)
 
       pub says-passed : d ≡ false → Passed ≡ linksOf w ms s
       unfolding linksOf

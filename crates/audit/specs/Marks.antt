@@ -11,7 +11,7 @@ use Rattle.audit.specs.declared.Verdict.{Verdict}
 use Rattle.audit.specs.declared.Verdict.the-variants.{Passed, Refused}
 use Rattle.store.specs.Field.{LENGTH}
 use Rattle.store.specs.Named.{pointsOf, recordsOf, nextOf, firstOf}
-use Rattle.audit.specs.Tests.{anyBelow, anyRecord, offTable, noSuch, loose, noSuchOf, astray}
+use Rattle.audit.specs.Tests.{anyBelow, anyRecord, offTable, noSuch, loose, noSuchOf, misplaced}
 use Rattle.audit.specs.declared.PointTest.{PointTest}
 use Rattle.audit.specs.declared.PointTest.the-variants.{Table, Numbers, Links}
 use Rattle.audit.specs.declared.RecordTest.{RecordTest}
@@ -53,7 +53,7 @@ fails Links w k = loose w k
 
 abbrev pub failsOf : RecordTest → List ℕ → ℕ → Bool
 failsOf Named w i = noSuchOf w i
-failsOf Placed w i = astray w i
+failsOf Placed w i = misplaced w i
 
 -- a marked point fails the test
 abbrev pub anyMarked : List ℕ → List ℕ → PointTest → Bool
@@ -64,7 +64,7 @@ unfoldable pub linksOf : List ℕ → List ℕ → Bool → Verdict
 linksOf w ms shares =
     cond (anyMarked w ms Numbers || anyRecord w (noSuchOf w)) (Refused NoSuch)
     (cond (anyMarked w ms Links) (Refused Loose)
-    (cond (shares || anyRecord w (astray w)) (Refused Muddled) Passed))
+    (cond (shares || anyRecord w (misplaced w)) (Refused Muddled) Passed))
 
 unfoldable pub pointsTested : List ℕ → Verdict
 pointsTested w =

@@ -74,8 +74,8 @@ abbrev pub shared : List ℕ → ℕ → Bool
 shared w i = isIn (firstOf w i) (reachedBy w i)
 
 -- "that each unfinished closed ring's present place is on it and its progress mark has a meaning (7)": four kinds of step, 0 to 3, and done, 4
-abbrev pub astray : List ℕ → ℕ → Bool
-astray w i =
+abbrev pub misplaced : List ℕ → ℕ → Bool
+misplaced w i =
     not (ringless (view w) i) && not (isOpen (view w) i)
     && (ltb 4 (progressOf w i) || (ltb (progressOf w i) 4 && not (isIn (presentOf w i) (ringAt (view w) i))))
 
@@ -88,4 +88,4 @@ testsOf w =
     (cond (anyReached w (offTable w)) (Refused OffTheTable)
     (cond (anyReached w (noSuch w) || anyRecord w (noSuchOf w)) (Refused NoSuch)
     (cond (anyReached w (loose w)) (Refused Loose)
-    (cond (anyRecord w (shared w) || anyRecord w (astray w)) (Refused Muddled) Passed))))
+    (cond (anyRecord w (shared w) || anyRecord w (misplaced w)) (Refused Muddled) Passed))))

@@ -13,7 +13,7 @@ ghost use lib.ListN.{length, getD, replicate};
 ghost use Rattle.store.specs.Field.{LENGTH};
 ghost use Rattle.store.specs.Words.{view};
 ghost use Rattle.store.specs.Named.{pointsOf, recordsOf, nextOf, ringOf};
-ghost use Rattle.audit.specs.Tests.{isIn, anyBelow, offTable, noSuch, noSuchOf, namesNone, loose, astray, crowded, anyRecord, testsOf};
+ghost use Rattle.audit.specs.Tests.{isIn, anyBelow, offTable, noSuch, noSuchOf, namesNone, loose, misplaced, crowded, anyRecord, testsOf};
 ghost use Rattle.audit.specs.declared.PointTest.the-variants.{Numbers};
 ghost use Rattle.audit.specs.Marks.{Counted, isMarked, markFrom, marksBy, AllMarked, fails, failsOf, anyMarked, linksOf, pointsTested};
 
@@ -221,9 +221,9 @@ fn is_on_ring(w: &[u32], a: usize, k: usize) -> bool
     false
 }
 
-fn astray(w: &[u32], i: usize) -> bool
+fn misplaced(w: &[u32], i: usize) -> bool
     requires { ⌜ LENGTH ≤ length (now w) ⌝ }
-    ensures { λ r. ⌜ r ≡ astray (now (w .entry)) i ⌝ }
+    ensures { λ r. ⌜ r ≡ misplaced (now (w .entry)) i ⌝ }
 {
     let f = read(w, Col::First, i);
     if f == NONE {
@@ -254,7 +254,7 @@ fn record_fails(w: &[u32], t: RecordTest, i: usize) -> bool
             return no_such_of(w, i);
         }
         RecordTest::Placed => {
-            return astray(w, i);
+            return misplaced(w, i);
         }
     }
 }

@@ -21,7 +21,7 @@ use Rattle.rings.specs.Walk.{run, Whole}
 use Rattle.rings.proofs.Counting.{one-here, one-else, occ-head, pigeon}
 use Rattle.rings.proofs.Linking.{prev-is}
 use Rattle.rings.proofs.Mapping.{map-lastOf}
-use Rattle.rings.proofs.Members.{prev-on}
+use Rattle.rings.proofs.Members.{next-on, prev-on}
 use Rattle.rings.proofs.Walking.{run-seg, Seen, seen}
 use Rattle.geometry.specs.declared.Point.{Point}
 use Rattle.geometry.specs.Plane.{InTable, edgeArea, areaFrom, areaOutpt}
@@ -31,6 +31,7 @@ use Rattle.store.specs.Words.{view}
 use Rattle.store.specs.Named.{pointsOf, nextOf, prevOf, ringOf}
 use Rattle.store.specs.Sound.{PointIn, Sound, recs, ringAt}
 use Rattle.store.specs.Value.{pointOf}
+use Rattle.store.specs.Primitive.{Beside}
 use Rattle.store.proofs.Coordinates.{in-table}
 use Rattle.store.proofs.Soundness.{whole}
 use Rattle.walks.specs.Ring.{OnRing, Edge, valuesFrom}
@@ -50,6 +51,17 @@ on-ring w l s i h a o =
 starts : (w : List ℕ) (a : ℕ) → ringOf w a ≡ a ∷ cond (eqb (nextOf w a) a) [] (run (nextOf w) a 2047 (nextOf w a))
 unfolding run
 starts w a = refl
+
+-- what the primitives ask of a point on a ring
+pub beside : (w : List ℕ) (a : ℕ) → OnRing w a → Beside w a
+beside w a r =
+    let o : 0 < occ a (ringOf w a) = subst (λ (l : List ℕ). 0 < occ a l) (sym (starts w a)) (occ-head a (cond (eqb (nextOf w a) a) [] (run (nextOf w) a 2047 (nextOf w a)))) in
+    record {
+      long = r .long;
+      here = omega (arith, r .whole .below a o, r .few);
+      next = omega (arith, r .whole .below (nextOf w a) (next-on (nextOf w) (prevOf w) (pointsOf w) (ringOf w a) (r .whole) a o), r .few);
+      prev = omega (arith, r .whole .below (prevOf w a) (prev-on (nextOf w) (prevOf w) (pointsOf w) (ringOf w a) (r .whole) a o), r .few);
+    }
 
 pub record Split (w : List ℕ) (a : ℕ) : Type 0 where
   pub others : List ℕ
