@@ -54,7 +54,7 @@ updated-length (suc f) i w ps ms R = go (claimOf ms (updateHorzSegment w (getD p
     go : (c : Claim) → ((s : Segment) (ms′ : List ℕ) → length (updateFrom f (i + 1) w ps ms′ (set R i (rowOf w s))) ≡ length R) → length (onClaim w i R (updateFrom f (i + 1) w ps) c) ≡ length R
     go (claim s ms′) r = r s ms′
 
-rows-256 : (w : List ℕ) (n : ℕ) (ps : List ℕ) → length (segmentRows w n ps) ≡ 256
+pub rows-256 : (w : List ℕ) (n : ℕ) (ps : List ℕ) → length (segmentRows w n ps) ≡ 256
 unfolding segmentRows
 rows-256 w n ps = sorted-length (updateFrom n 0 w ps (replicate 2048 0) (replicate 256 blank)) ∙ updated-length n 0 w ps (replicate 2048 0) (replicate 256 blank)
 

@@ -10,17 +10,21 @@ use lib.ListN.{length}
 use borrow.Author.Tests.{eq-eqb, ne-eqb, ltb-true}
 use Rattle.store.specs.declared.points.Room.{Room}
 use Rattle.store.specs.declared.points.Room.the-variants.{At, Full}
-use Rattle.store.specs.Field.{pt, rc, ct, X, Y, NEXT, PREV, REC, OWNER, FIRST, POINTS, RECORDS, LENGTH}
+use Rattle.store.specs.Field.{pt, rc, ct, X, Y, NEXT, PREV, REC, FLAGS, OWNER, FIRST, POINTS, RECORDS, LENGTH}
 use Rattle.store.specs.Words.{Store, view, Write, write, onWords, onStore}
 use Rattle.store.specs.Named.{nextOf, prevOf, pointsOf}
-use Rattle.store.specs.Sound.{pts}
+use Rattle.rings.specs.Count.{occ}
+use Rattle.rings.proofs.Tables.{elsewhere}
+use Rattle.store.specs.Sound.{pts, recs, ringAt, isOpen}
 use Rattle.store.specs.Primitive.{Taken, taken, copyWrites, linkWrites, afterWrites, beforeWrites, duplicateOp, Beside}
 use Rattle.store.proofs.Storing.{view-writes, length-writes}
 use Rattle.joins.specs.Resolve.{Lives}
 use Rattle.joins.specs.Resolved.{Resolved, Ready}
 use Rattle.joins.specs.Needs.{Point}
-use Rattle.joins.proofs.Homes.{home-of, next-lives, prev-lives, prev-next}
-use Rattle.joins.proofs.Growing.{Grown, grown-resolved, grown-lives}
+use Rattle.joins.proofs.Homes.{home-of, next-lives, prev-lives, prev-next, on-ring, table}
+use Rattle.joins.proofs.Growing.{Grown, grown-res, grown-resolved, grown-lives}
+use Rattle.joins.proofs.Joining.{Shut, Opened, ring-kept}
+use Rattle.joins.proofs.Resolving.{res-same}
 use Rattle.segments.specs.Level.{xOf}
 
 -- the points there were: their rings, and their x
@@ -102,6 +106,53 @@ module _ (w : List ℕ) (o : Ready w) (room : pointsOf w < 2048) (i q like : ℕ
   unfolding writes
   copy-points = grown-words .points
 
+  -- where the ring is closed
+  flags-same : (j : ℕ) → view (onWords w writes) (rc FLAGS) j ≡ view w (rc FLAGS) j
+  unfolding writes
+  flags-same j = ap (λ (s : Store). s (rc FLAGS) j) seen
+
+  at-home : (k h : ℕ) → Lives (view (onWords w writes)) h k → isOpen (view (onWords w writes)) h ≡ false → Shut (view (onWords w writes)) k
+  at-home k h z e j y = subst (λ (x : ℕ). isOpen (view (onWords w writes)) x ≡ false) (res-same (view (onWords w writes)) (view (onWords w writes) (pt REC) k) h j (z .res) (y .res)) e
+
+  pub copy-open : isOpen (view w) i ≡ false → Opened (view w) (view (onWords w (copyWrites (view w) like ++ linkWrites (prevOf w q) (pointsOf w) q)))
+  unfolding writes
+  copy-open shut =
+      let g = grown-words in
+      record {
+        records = omega (arith, g .records);
+        points = omega (arith, g .points);
+        flags = λ j h. flags-same j;
+        new = λ j h e. absurd (omega (arith, g .records));
+        rings = λ j h e. ring-kept (view w) (view (onWords w writes)) j (g .first j) (λ k p. g .links .next-else k (λ z. omega (arith, o .resolved .whole j h .below k p)) (off j h (λ z. apart j e z) k p));
+        xs = λ k h. g .x-else k (λ e. omega arith);
+        ys = λ k h. g .y-else k (λ e. omega arith);
+        shut = λ k h s.
+            let z = home-of (view w) (o .resolved) k h in
+            at-home k (z .0) (grown-lives (view w) (view (onWords w writes)) (o .resolved) i q like room a b g (z .0) k (z .1)) (rw (flags-same (z .0)) (s (z .0) (z .1)));
+      }
+    where
+      apart : (j : ℕ) → isOpen (view w) j ≡ true → j ≡ i → ⊥
+      apart j e z =
+          let y : _≡_ {A = Bool} true false = sym e ∙ ap (isOpen (view w)) z ∙ shut in
+          let v : _≡_ {A = ℕ} 0 1 = cc in
+          omega arith
+
+      off : (j : ℕ) → j < recs (view w) → (j ≡ i → ⊥) → (k : ℕ) → 0 < occ k (ringAt (view w) j) → k ≢ prevOf w q
+      off j h d k p e =
+          omega (
+            arith,
+            subst (λ (v : ℕ). occ v (ringAt (view w) j) ≡ 0) (sym e)
+                (elsewhere (nextOf w) (prevOf w) (pointsOf w) (recs (view w)) (ringAt (view w)) (table (view w) (o .resolved)) i j (prevOf w q) (a .res .real) h (λ v. d (sym v)) (on-ring (view w) (o .resolved) i (prevOf w q) (prev-lives (view w) (o .resolved) i q a))),
+          )
+
+  pub copy-shut : isOpen (view w) i ≡ false → Shut (view (onWords w (copyWrites (view w) like ++ linkWrites (prevOf w q) (pointsOf w) q))) (pointsOf w)
+  unfolding writes
+  copy-shut shut =
+      let g = grown-words in
+      at-home (pointsOf w) i
+      (record { bound = omega (arith, g .points); res = rw (g .named-new) (grown-res (view w) (view (onWords w writes)) (o .resolved) i q like room a b g (view w (pt REC) like) i (b .res)) })
+      (rw (flags-same i) shut)
+
 -- what a copy gives: it is point k
 pub record Grew (w x : List ℕ) (k : ℕ) : Type 0 where
   pub keeps : Keeps w x
@@ -136,4 +187,27 @@ doubles w p after t = go (ltb (pointsOf w) 2048) after refl
         let room : pointsOf w < 2048 = ltb-true _ _ e in
         let z = home-of (view w) (t .ready .resolved) p (t .low) in
         record { keeps = copy-keeps w (t .ready) room (z .0) p p (z .1) (z .1); is = refl; points = copy-points w (t .ready) room (z .0) p p (z .1) (z .1) }
+    go false b e = refl
+
+-- a copy of a point on a closed ring leaves open rings as they are, and is on a closed ring itself
+abbrev pub Opens : List ℕ → Taken → Type 0
+Opens w (taken (At k) x) = Opened (view w) (view x) × Shut (view x) k
+Opens w (taken Full x) = x ≡ w
+
+pub opens : (w : List ℕ) (p : ℕ) (after : Bool) → Point w p → Shut (view w) p → Opens w (duplicateOp w p after)
+unfolding duplicateOp
+opens w p after t shut = go (ltb (pointsOf w) 2048) after refl
+  where
+    go : (m b : Bool) → ltb (pointsOf w) 2048 ≡ m → Opens w (cond m (taken (At (pointsOf w)) (cond b (onWords w (afterWrites (view w) p)) (onWords w (beforeWrites (view w) p)))) (taken Full w))
+    go true true e =
+        let room : pointsOf w < 2048 = ltb-true _ _ e in
+        let z = home-of (view w) (t .ready .resolved) p (t .low) in
+        let n = next-lives (view w) (t .ready .resolved) (z .0) p (z .1) in
+        let f : prevOf w (nextOf w p) ≡ p = prev-next (view w) (t .ready .resolved) (z .0) p (z .1) in
+        subst (λ (y : ℕ). Opened (view w) (view (onWords w (copyWrites (view w) p ++ linkWrites y (pointsOf w) (nextOf w p)))) × Shut (view (onWords w (copyWrites (view w) p ++ linkWrites y (pointsOf w) (nextOf w p)))) (pointsOf w)) f
+        (copy-open w (t .ready) room (z .0) (nextOf w p) p n (z .1) (shut (z .0) (z .1)), copy-shut w (t .ready) room (z .0) (nextOf w p) p n (z .1) (shut (z .0) (z .1)))
+    go true false e =
+        let room : pointsOf w < 2048 = ltb-true _ _ e in
+        let z = home-of (view w) (t .ready .resolved) p (t .low) in
+        (copy-open w (t .ready) room (z .0) p p (z .1) (z .1) (shut (z .0) (z .1)), copy-shut w (t .ready) room (z .0) p p (z .1) (z .1) (shut (z .0) (z .1)))
     go false b e = refl

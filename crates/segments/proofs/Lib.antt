@@ -9,3 +9,4 @@ pub mod Doubling
 pub mod Making
 pub mod Looping
 pub mod Converting
+pub mod Open

@@ -198,7 +198,7 @@ module _ (F : Out) (w ls rs fs js : List ℕ) (m i j : ℕ) (t : Inner F w ls rs
             go (suc n) a q = ap (andThen (innerFrom n rs fs i (j + 1))) z ∙ inner-on n q
 
 -- it keeps the invariant
-inner-kept : (f : ℕ) (rs fs : List ℕ) (i j : ℕ) (w ls js : List ℕ) (m : ℕ) → Pairing w ls rs fs js m → getD rs i 0 ≢ NONE → i < j → j + f ≡ 256 → PairingOf rs fs (innerFrom f rs fs i j w ls js m)
+pub inner-kept : (f : ℕ) (rs fs : List ℕ) (i j : ℕ) (w ls js : List ℕ) (m : ℕ) → Pairing w ls rs fs js m → getD rs i 0 ≢ NONE → i < j → j + f ≡ 256 → PairingOf rs fs (innerFrom f rs fs i j w ls js m)
 unfolding innerFrom
 inner-kept zero rs fs i j w ls js m p v b e = p
 inner-kept (suc f) rs fs i j w ls js m p v b e = go (eqb (getD rs j 0) NONE) refl (λ x ls′ js′ k q. inner-kept f rs fs i (j + 1) x ls′ js′ k q v (omega arith) (omega arith))

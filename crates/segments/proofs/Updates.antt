@@ -267,7 +267,7 @@ module _ (F : List Row) (w ps : List ℕ) (n : ℕ) (ks ls rs fs ms : List ℕ) 
 abbrev pub Row-fit : List ℕ → Row → Type 0
 Row-fit w r = (r .right ≡ NONE) ⊎ Span w (r .left) (r .right)
 
-each-set : (P : Row → Type 0) (l : List Row) (i : ℕ) (r : Row) → Each P l → P r → Each P (set l i r)
+pub each-set : (P : Row → Type 0) (l : List Row) (i : ℕ) (r : Row) → Each P l → P r → Each P (set l i r)
 each-set P [] i r h p = tt
 each-set P (a ∷ l) zero r h p = (p, h .1)
 each-set P (a ∷ l) (suc i) r h p = (h .0, each-set P l i r (h .1) p)
