@@ -26,7 +26,7 @@ use Rattle.acts.specs.Rep.{RepW, value}
 use Rattle.acts.specs.Step.{Outcome, outcome, actAt, answerS, stepBy, stepS, stepByW, stepW}
 use Rattle.acts.specs.Finish.{Finishes, wordsLeft, stepsByW, finishRecord}
 use Rattle.acts.proofs.Representing.{Here, here}
-use Rattle.acts.proofs.Stepping.{answer-is, view-step, stepW-is}
+use Rattle.acts.proofs.Stepping.{answer-is, view-step, stepW-is, length-step}
 
 -- no act writes the settings
 settings-after : {P : Type 0} (f : Coding P) (s : Store) (i : ℕ) (act : Act P) → after f s i act (ct SETTINGS) 0 ≡ s (ct SETTINGS) 0
@@ -97,6 +97,16 @@ module _ {P : Type 0} (G : Geo P) (f : Coding P) (Λ : Laws G f) where
   settings-steps (suc n) ok w i v = settings-steps n (answerS G f (view (stepW G f w i)) i) (stepW G f w i) i (finishes-step w i v) ∙ settings-kept w i v
   settings-steps (suc n) full w i v = refl
   settings-steps (suc n) outOfTurn w i v = refl
+
+  length-steps : (n : ℕ) (a : Answer) (w : List ℕ) (i : ℕ) → length (wordsOf (stepsByW G f n a w i)) ≡ length w
+  length-steps zero a w i = refl
+  length-steps (suc n) ok w i = length-steps n (answerS G f (view (stepW G f w i)) i) (stepW G f w i) i ∙ length-step G f w i
+  length-steps (suc n) full w i = refl
+  length-steps (suc n) outOfTurn w i = refl
+
+  pub length-record : (w : List ℕ) (i : ℕ) (a : Answer) (w′ : List ℕ) → outcome a w′ ≡ finishRecord G f w i → length w′ ≡ length w
+  unfolding finishRecord
+  length-record w i a w′ e = ap (λ (o : Outcome). length (wordsOf o)) e ∙ length-steps (enough 2048) (answerS G f (view w) i) w i
 
   pub finishes-record : (w : List ℕ) (i : ℕ) (a : Answer) (w′ : List ℕ) → Finishes G f w → outcome a w′ ≡ finishRecord G f w i → Finishes G f w′
   unfolding finishRecord

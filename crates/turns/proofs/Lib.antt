@@ -8,3 +8,4 @@ pub mod Sizes
 pub mod Decisions
 pub mod Ready
 pub mod Steps
+pub mod Looping

@@ -31,5 +31,6 @@ pub enum Answer {
 
 pub mod apply;
 pub mod decide;
+pub mod finish;
 pub mod ring;
 pub mod step;
