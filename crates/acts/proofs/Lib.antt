@@ -14,4 +14,5 @@ pub mod OnWords
 pub mod Stepping
 pub mod Opening
 pub mod Finishing
+pub mod Finished
 pub mod Example
