@@ -11,7 +11,6 @@ use Rattle.exact.specs.Num.{eqZ}
 use Rattle.exact.proofs.Size.{eqZ-true}
 use Rattle.geometry.specs.declared.Point.{Point}
 use Rattle.geometry.specs.Plane.{samePoint}
-use Rattle.lone.specs.Plane.{plane}
 use Rattle.store.specs.Words.{Store, view}
 use Rattle.store.specs.Sound.{pts, PointIn}
 use Rattle.paths.specs.Path.{pointAt}
@@ -39,7 +38,6 @@ abbrev pub adds : Store → ℕ → ℕ → List Point
 adds s b q = cond (samePoint (pointAt s q) (pointAt s b)) [] (pointAt s q ∷ [])
 
 pub after-more : (s : Store) (b q : ℕ) (l : List ℕ) → afterPoint s b (q ∷ l) ≡ adds s b q ++ afterPoint s q l
-unfolding plane
 after-more s b q l = go (samePoint (pointAt s q) (pointAt s b)) refl
   where
     go : (t : Bool) → samePoint (pointAt s q) (pointAt s b) ≡ t → afterPoint s b (q ∷ l) ≡ cond t [] (pointAt s q ∷ []) ++ afterPoint s q l

@@ -106,7 +106,6 @@ module _ (w : List ℕ) (a : ℕ) (r : Round w false a) where
 module _ (w : List ℕ) (a : ℕ) (r : Three w a) where
   small-is : cond (eqb (view w (pt NEXT) (view w (pt NEXT) a)) (view w (pt PREV) a)) (isVerySmallTriangle (pointAt (view w) (view w (pt PREV) a)) (pointAt (view w) a) (pointAt (view w) (view w (pt NEXT) a))) false
       ≡ isSmallRing (plane (preserveCollinear (view w))) (map (pointAt (view w)) (roundFrom (view w) false a))
-  unfolding plane
   small-is =
       let s = view w in
       let h : 2 < length (a ∷ othersOf (s (pt NEXT)) a) = omega (arith, r .three, ap length (walk-is (s (pt NEXT)) a)) in
