@@ -1,0 +1,5 @@
+-- The entry points' definitions: what each call answers and leaves, on every input; lists of steps; finishing the rings.
+pub mod Step
+pub mod Write
+pub mod Run
+pub mod Finish

@@ -1,0 +1,40 @@
+-- A step as a call: what it answers and the words that it leaves, on every work space and every record number.
+use Prim.Native.Nat.{ℕ}
+use mathlib.Core.Bool.{cond}
+use mathlib.Core.List.{List}
+use lib.Dec.{ltb}
+use lib.ListN.{length}
+use Rattle.job.specs.declared.refusal.Refusal.the-variants.{Full, OutOfTurn}
+use Rattle.lone.specs.Forest.{Answer, ok, full, outOfTurn}
+use Rattle.store.specs.Field.{LENGTH}
+use Rattle.store.specs.Words.{view}
+use Rattle.audit.specs.declared.Verdict.{Verdict}
+use Rattle.audit.specs.declared.Verdict.the-variants as verdict
+use Rattle.audit.specs.Tests.{testsOf}
+use Rattle.acts.specs.Step.{answerS, stepW}
+use Rattle.turns.specs.Form.{raised, geometryOf}
+use Rattle.finishing.specs.declared.Stepped.{Stepped}
+use Rattle.finishing.specs.declared.Stepped.the-variants.{Done, Refused}
+
+-- the answer, and the words left
+pub record Left : Type 0 where
+  pub answer : Stepped
+  pub words : List ℕ
+
+abbrev pub left : Stepped → List ℕ → Left
+left a w = record { answer = a; words = w }
+
+-- "Only then 12", and "12 precedes [10] in a step"
+abbrev pub steppedAs : Answer → Stepped
+steppedAs ok = Done
+steppedAs full = Refused Full
+steppedAs outOfTurn = Refused OutOfTurn
+
+-- a step on a work space that is long enough, by what its tests say: "A step .. first tests the work space it is handed"
+abbrev pub stepBy : Verdict → List ℕ → ℕ → Left
+stepBy (verdict.Refused r) w i = left (Refused r) w
+stepBy verdict.Passed w i = left (steppedAs (answerS (geometryOf (view w)) raised (view w) i)) (stepW (geometryOf (view w)) raised w i)
+
+-- `step`. Row 10's length is "tested first of all, by every call"; a refused step leaves every word
+unfoldable pub stepOf : List ℕ → ℕ → Left
+stepOf w i = cond (ltb (length w) LENGTH) (left (Refused Full) w) (stepBy (testsOf w) w i)
