@@ -17,8 +17,8 @@ use Rattle.reading.specs.declared.fill.Outcome.the-variants.{State, Refused}
 use Rattle.reading.specs.Fill.{End, end, fillOf, Space}
 use Rattle.reading.specs.Read.{counted, withCounts, readOf, Counts}
 use Rattle.reading.proofs.Counted.{filled, counts}
-use Rattle.rows.specs.declared.Verdict.{Verdict}
-use Rattle.rows.specs.declared.Verdict.the-variants as verdict
+use Rattle.audit.specs.declared.Verdict.{Verdict}
+use Rattle.audit.specs.declared.Verdict.the-variants as verdict
 use Rattle.rows.specs.Rows.{unnamed, rowsOf, Filled}
 use Rattle.rows.proofs.Homes.{or-left, or-right}
 use Rattle.rows.proofs.Readiness.{clear, ready}

@@ -8,8 +8,8 @@ use Rattle.reading.specs.declared.fill.Outcome.{Outcome}
 use Rattle.reading.specs.declared.fill.Outcome.the-variants.{State, Refused}
 use Rattle.reading.specs.Fill.{End, end}
 use Rattle.reading.specs.Read.{readOf, Counts}
-use Rattle.rows.specs.declared.Verdict.{Verdict}
-use Rattle.rows.specs.declared.Verdict.the-variants as verdict
+use Rattle.audit.specs.declared.Verdict.{Verdict}
+use Rattle.audit.specs.declared.Verdict.the-variants as verdict
 use Rattle.rows.specs.Rows.{unnamed, openEdge, rowsOf}
 use Rattle.joins.specs.Resolved.{Ready}
 

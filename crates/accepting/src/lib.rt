@@ -1,7 +1,7 @@
 // A job read and judged: rows 1 to 8.
+use audit::Verdict;
 use job::Job;
 use reading::fill::Outcome;
-use rows::Verdict;
 ghost use mathlib.Core.Path.{_≡_};
 ghost use Rattle.reading.specs.Fill.{end, Space};
 ghost use Rattle.rows.specs.Rows.{Filled};

@@ -3,7 +3,7 @@ use mathlib.Core.Path.{_≡_, refl, sym, ap, _∙_}
 use mathlib.Core.Bool.{Bool, true, false, _&&_, _||_}
 use mathlib.Core.List.{List, [], _∷_}
 use Prim.Native.Nat.{ℕ, zero, suc, _+_, _<_, _≤_}
-use native.Mathlib.Decide.{ℕ-discrete, decLt}
+use native.Mathlib.Decide.{ℕ-discrete}
 use native.Mathlib.Omega.{arith}
 use lib.Dec.{eqb, leb}
 use lib.ListN.{getD}
@@ -12,10 +12,11 @@ use Rattle.store.specs.Words.{view}
 use Rattle.store.specs.Named.{pointsOf, recordsOf}
 use Rattle.store.specs.Sound.{ringAt, isOpen}
 use Rattle.audit.specs.Tests.{isIn, anyBelow}
+use Rattle.audit.proofs.Saying.{none-of, all-none}
 use Rattle.audit.proofs.Testing.{more, hit, whole}
 use Rattle.rows.specs.Owners.{resolved, circles}
 use Rattle.rows.specs.Rings.{anyIn, onRing, alone, elsewhere, estranged}
-use Rattle.rows.specs.Rows.{muddled, onOpen, Named}
+use Rattle.rows.specs.Rows.{muddled, onOpen, unnamed, Named}
 use Rattle.rows.proofs.Marking.{in-else}
 
 pub or-left : (a b : Bool) → (a || b) ≡ false → a ≡ false
@@ -26,22 +27,7 @@ pub or-right : (a b : Bool) → (a || b) ≡ false → b ≡ false
 or-right true b h = elim b [ true ↦ h | false ↦ refl ]
 or-right false b h = h
 
--- a test that holds of no number below n holds of none of them, and back
-pub none-below : (n : ℕ) (q : ℕ → Bool) (k : ℕ) → anyBelow n q ≡ false → k < n → q k ≡ false
-unfolding anyBelow
-none-below zero q k e h = absurd (omega arith)
-none-below (suc n) q k e h = by (decLt k n) (λ l. none-below n q k (or-left (anyBelow n q) (q n) e) l) (or-right (anyBelow n q) (q n) e)
-  where
-    by : Dec (k < n) → (k < n → q k ≡ false) → q n ≡ false → q k ≡ false
-    by (yes l) f g = f l
-    by (no l) f g = let d : k ≡ n = omega arith in ap q d ∙ g
-
-pub never : (n : ℕ) (q : ℕ → Bool) → ((k : ℕ) → k < n → q k ≡ false) → anyBelow n q ≡ false
-unfolding anyBelow
-never zero q h = refl
-never (suc n) q h = rw (never n q (λ k l. h k (omega arith)), h n (omega arith))
-
--- one that holds of some
+-- a test that holds of some number below n
 pub some-below : (n : ℕ) (q : ℕ → Bool) → anyBelow n q ≡ true → (k : ℕ) × (k < n) × (q k ≡ true)
 unfolding anyBelow
 some-below zero q e = absurd (let z : _≡_ {A = ℕ} 0 1 = cc in omega arith)
@@ -68,14 +54,14 @@ module _ (w : List ℕ) (clear : muddled w ≡ false) where
   pub ring-home : (i k : ℕ) → i < recordsOf w → onRing w i k ≡ true → resolved w k ≡ i
   ring-home i k h r =
       let a = or-left (anyBelow (recordsOf w) (estranged w)) (anyBelow (pointsOf w) (alone w)) passed in
-      let b = none-below (recordsOf w) (estranged w) i a h in
+      let b = none-of (recordsOf w) (estranged w) a i h in
       eqb-true (resolved w k) i (not-false (eqb (resolved w k) i) (none-in (elsewhere w i) k (ringAt (view w) i) b r))
 
   -- and there is one
   pub has-home : (k : ℕ) → k < pointsOf w → (resolved w k < recordsOf w) × (onRing w (resolved w k) k ≡ true)
   has-home k h =
       let a = or-right (anyBelow (recordsOf w) (estranged w)) (anyBelow (pointsOf w) (alone w)) passed in
-      let b = none-below (pointsOf w) (alone w) k a h in
+      let b = none-of (pointsOf w) (alone w) a k h in
       let s = some-below (recordsOf w) (λ i. onRing w i k) (not-false (anyBelow (recordsOf w) (λ i. onRing w i k)) b) in
       let e = ring-home (s .0) k (s .1) (s .2) in
       rw e (s .1, s .2)
@@ -99,13 +85,17 @@ module _ (w : List ℕ) (clear : muddled w ≡ false) where
       by true o =
           let s = has-home k h in
           hit (λ i. isOpen (view w) i && onRing w i k) (recordsOf w) (recordsOf w) (resolved w k) (isOpen (view w) (resolved w k) && onRing w (resolved w k) k) (s .0) refl refl (rw (o, s .1))
-      by false o = sym (never (recordsOf w) (λ i. isOpen (view w) i && onRing w i k) (λ i l. with-ring i l o (onRing w i k) refl))
+      by false o = sym (all-none (recordsOf w) (λ i. isOpen (view w) i && onRing w i k) (λ i l. with-ring i l o (onRing w i k) refl))
+
+-- a list of which no number names nothing
+pub named-at : (w l : List ℕ) (n : ℕ) → unnamed w l n ≡ false → (i : ℕ) → i < n → getD l i 0 < pointsOf w
+named-at w l n e i h = leb-false (pointsOf w) (getD l i 0) (none-of n (λ j. leb (pointsOf w) (getD l j 0)) e i h)
 
 -- the loop over a list
 module _ {w l : List ℕ} {n : ℕ} (g : Named w l n) (i p : ℕ) (b : Bool) (h : i < n) (e : p ≡ getD l i 0) (f : b ≡ isOpen (view w) (resolved w p)) where
   is-open : b ≡ onOpen w (getD l i 0)
   is-open =
-      let a = leb-false (pointsOf w) (getD l i 0) (none-below n (λ j. leb (pointsOf w) (getD l j 0)) i (g .named) h) in
+      let a = named-at w l n (g .named) i h in
       rw (← e) (f ∙ open-is w (g .clear) p (omega (arith, e, a)))
 
   pub open-hit : b ≡ true → true ≡ anyBelow n (λ j. onOpen w (getD l j 0))

@@ -6,7 +6,7 @@ use Prim.Native.Nat.{ℕ, _*_, _≤_}
 use Rattle.job.specs.declared.refusal.Refusal.the-variants.{OffTheTable, NoSuch, Loose, Muddled, OpenEdge}
 use Rattle.store.specs.Named.{pointsOf, recordsOf}
 use Rattle.audit.specs.Tests.{anyBelow, noSuch, noSuchOf}
-use Rattle.rows.specs.declared.Verdict.the-variants.{Passed, Refused}
+use Rattle.audit.specs.declared.Verdict.the-variants.{Passed, Refused}
 use Rattle.rows.specs.Owners.{circles}
 use Rattle.rows.specs.Rings.{bare, AllWalked}
 use Rattle.rows.specs.Rows.{offTheTable, unnamed, noSuchNumber, looseLink, muddled, openEdge, rowsOf, Filled, Named}

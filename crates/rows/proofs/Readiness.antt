@@ -1,34 +1,34 @@
 -- Rows 4 to 8 passed: the invariant of opening while it joins. Every point is on one ring, linked both ways, and resolves to its record.
 use mathlib.Core.Path.{_≡_, refl, sym, ap, _∙_}
 use mathlib.Core.Logic.{_≢_, _⊎_, inl, inr}
-use mathlib.Core.Bool.{Bool, true, false, cond, not, _&&_, _||_}
+use mathlib.Core.Bool.{Bool, true, false, cond, _||_}
 use mathlib.Core.List.{List, [], _∷_}
-use Prim.Native.Nat.{ℕ, zero, suc, _*_, _<_, _≤_}
+use Prim.Native.Nat.{ℕ, zero, suc, _*_, _<_}
 use native.Mathlib.Decide.{ℕ-discrete}
 use native.Mathlib.Omega.{arith}
-use lib.Dec.{eqb, ltb}
-use borrow.Author.Tests.{eq-eqb, ne-eqb, lt-ltb, ltb-true, ltb-false, eqb-true, not-false}
+use borrow.Author.Tests.{eq-eqb, ne-eqb, lt-ltb, ltb-true}
 use Rattle.rings.specs.Count.{occ}
 use Rattle.rings.specs.Relink.{Mutual}
 use Rattle.rings.specs.Walk.{Whole, walk}
 use Rattle.rings.proofs.Counting.{sum-term}
 use Rattle.rings.proofs.Orbits.{orbit}
 use Rattle.rings.proofs.Walking.{ring-is}
-use Rattle.job.specs.Limits.{COORDINATE}
 use Rattle.job.specs.declared.refusal.Refusal.{Refusal}
 use Rattle.job.specs.declared.refusal.Refusal.the-variants.{OffTheTable, NoSuch, Loose, Muddled, OpenEdge}
-use Rattle.store.specs.Field.{pt, X, Y, NONE}
+use Rattle.store.specs.Field.{NONE}
 use Rattle.store.specs.Words.{view}
 use Rattle.store.specs.Named.{pointsOf, recordsOf, nextOf, prevOf, recOf, ownerOf, firstOf}
 use Rattle.store.specs.Sound.{ringAt, total}
-use Rattle.audit.specs.Tests.{anyBelow, offTable, noSuch, noSuchOf, namesNone, loose}
+use Rattle.audit.specs.Tests.{anyBelow, offTable, noSuch, noSuchOf, loose}
+use Rattle.audit.proofs.Saying.{none-of, Placed, on-table, Numbered, such, tied, Owned, owned}
 use Rattle.joins.specs.Resolve.{Resolves}
+use Rattle.audit.proofs.Saying.{none-of, Placed, on-table, Numbered, such, tied, Owned, owned}
 use Rattle.joins.specs.Resolved.{Ready}
-use Rattle.rows.specs.declared.Verdict.{Verdict}
-use Rattle.rows.specs.declared.Verdict.the-variants.{Passed, Refused}
+use Rattle.audit.specs.declared.Verdict.{Verdict}
+use Rattle.audit.specs.declared.Verdict.the-variants.{Passed, Refused}
 use Rattle.rows.specs.Owners.{findIn, resolved}
 use Rattle.rows.specs.Rows.{offTheTable, unnamed, noSuchNumber, looseLink, muddled, openEdge, rowsOf, Filled}
-use Rattle.rows.proofs.Homes.{or-left, or-right, none-below, ring-home, has-home}
+use Rattle.rows.proofs.Homes.{or-left, or-right, ring-home, has-home}
 
 -- a row that refuses was passed by a job that passes
 past : (b : Bool) (x : Refusal) (r : Verdict) → cond b (Refused x) r ≡ Passed → (b ≡ false) × (r ≡ Passed)
@@ -57,15 +57,6 @@ clear w ss m js n e =
     let f = past (openEdge w ss m js n) OpenEdge Passed (d .1) in
     record { on-the-table = a .0; numbers = b .0; links = c .0; rings = d .0; edges = f .0 }
 
--- none, or a number below n
-name-of : (n v : ℕ) → namesNone n v ≡ false → (v ≡ NONE) ⊎ (v < n)
-name-of n v e = by (eqb v NONE) refl (ltb v n) refl e
-  where
-    by : (a : Bool) → eqb v NONE ≡ a → (b : Bool) → ltb v n ≡ b → (not a && not b) ≡ false → (v ≡ NONE) ⊎ (v < n)
-    by true x b y z = inl (eqb-true v NONE x)
-    by false x true y z = inr (ltb-true v n y)
-    by false x false y z = absurd (let u : _≡_ {A = ℕ} 0 1 = cc in omega arith)
-
 -- what a record resolves to is reached along owners without points
 found : (w : List ℕ) (q : ℕ) → ((i : ℕ) → i < recordsOf w → (ownerOf w i ≡ NONE) ⊎ (ownerOf w i < recordsOf w)) → q ≢ NONE → (f r : ℕ) → r < recordsOf w → findIn f (firstOf w) (ownerOf w) r ≡ q → Resolves (view w) r q
 unfolding findIn
@@ -87,57 +78,27 @@ found w q o h (suc f) r l e = by (ℕ-discrete (firstOf w r) NONE) (o r l) (λ k
 
 module _ {w ss : List ℕ} {m : ℕ} {js : List ℕ} {n : ℕ} (g : Filled w ss m js n) (c : Clear w ss m js n) where
   -- row 4
-  coordinates : (k : ℕ) → k < pointsOf w → (view w (pt X) k ≤ 2097152) × (view w (pt Y) k ≤ 2097152)
-  coordinates k h =
-      let e = none-below (pointsOf w) (offTable w) k (c .on-the-table) h in
-      let x = ltb (2 * COORDINATE) (view w (pt X) k) in
-      let y = ltb (2 * COORDINATE) (view w (pt Y) k) in
-      (ltb-false (2 * COORDINATE) (view w (pt X) k) (or-left x y e), ltb-false (2 * COORDINATE) (view w (pt Y) k) (or-right x y e))
+  tabled : (k : ℕ) → k < pointsOf w → Placed w k
+  tabled k h = on-table w k (none-of (pointsOf w) (offTable w) (c .on-the-table) k h)
 
-  -- row 5, of points
-  pub record PointNames (k : ℕ) : Type 0 where
-    pub next : nextOf w k < pointsOf w
-    pub prev : prevOf w k < pointsOf w
-    pub rec : recOf w k < recordsOf w
-
-  named : (k : ℕ) → k < pointsOf w → PointNames k
+  -- row 5
+  named : (k : ℕ) → k < pointsOf w → Numbered w k
   named k h =
-      let e = none-below (pointsOf w) (noSuch w) k (or-left (anyBelow (pointsOf w) (noSuch w)) (anyBelow (recordsOf w) (noSuchOf w) || (unnamed w ss m || unnamed w js (2 * n))) (c .numbers)) h in
-      let x = not (ltb (nextOf w k) (pointsOf w)) in
-      let y = not (ltb (prevOf w k) (pointsOf w)) in
-      let z = not (ltb (recOf w k) (recordsOf w)) in
-      let u = or-right x (y || z) e in
-      record {
-        next = ltb-true _ _ (not-false (ltb (nextOf w k) (pointsOf w)) (or-left x (y || z) e));
-        prev = ltb-true _ _ (not-false (ltb (prevOf w k) (pointsOf w)) (or-left y z u));
-        rec = ltb-true _ _ (not-false (ltb (recOf w k) (recordsOf w)) (or-right y z u));
-      }
+      such w k (none-of (pointsOf w) (noSuch w) (or-left (anyBelow (pointsOf w) (noSuch w)) (anyBelow (recordsOf w) (noSuchOf w) || (unnamed w ss m || unnamed w js (2 * n))) (c .numbers)) k h)
 
-  -- row 5, of records
-  record-named : (i : ℕ) → i < recordsOf w → noSuchOf w i ≡ false
+  record-named : (i : ℕ) → i < recordsOf w → Owned w i
   record-named i h =
       let e = or-right (anyBelow (pointsOf w) (noSuch w)) (anyBelow (recordsOf w) (noSuchOf w) || (unnamed w ss m || unnamed w js (2 * n))) (c .numbers) in
-      none-below (recordsOf w) (noSuchOf w) i (or-left (anyBelow (recordsOf w) (noSuchOf w)) (unnamed w ss m || unnamed w js (2 * n)) e) h
-
-  owned : (i : ℕ) → i < recordsOf w → (ownerOf w i ≡ NONE) ⊎ (ownerOf w i < recordsOf w)
-  owned i h = name-of (recordsOf w) (ownerOf w i) (or-left (namesNone (recordsOf w) (ownerOf w i)) (namesNone (pointsOf w) (firstOf w i)) (record-named i h))
-
-  first-named : (i : ℕ) → i < recordsOf w → (firstOf w i ≡ NONE) ⊎ (firstOf w i < pointsOf w)
-  first-named i h = name-of (pointsOf w) (firstOf w i) (or-right (namesNone (recordsOf w) (ownerOf w i)) (namesNone (pointsOf w) (firstOf w i)) (record-named i h))
+      owned w i (none-of (recordsOf w) (noSuchOf w) (or-left (anyBelow (recordsOf w) (noSuchOf w)) (unnamed w ss m || unnamed w js (2 * n)) e) i h)
 
   -- row 6
   mutual-links : Mutual (nextOf w) (prevOf w) (pointsOf w)
   mutual-links =
-      record {
-        next-low = λ k h. named k h .next;
-        prev-next = λ k h.
-            let e = none-below (pointsOf w) (loose w) k (c .links) h in
-            eqb-true (prevOf w (nextOf w k)) k (not-false (eqb (prevOf w (nextOf w k)) k) (or-right (not (eqb (nextOf w (prevOf w k)) k)) (not (eqb (prevOf w (nextOf w k)) k)) e));
-      }
+      record { next-low = λ k h. named k h .next; prev-next = λ k h. tied w k (none-of (pointsOf w) (loose w) (c .links) k h) .prev-next }
 
   -- a record's ring, from its first point, is whole
   wholes : (i : ℕ) → i < recordsOf w → Whole (nextOf w) (prevOf w) (pointsOf w) (ringAt (view w) i)
-  wholes i h = by (ℕ-discrete (firstOf w i) NONE) (first-named i h)
+  wholes i h = by (ℕ-discrete (firstOf w i) NONE) (record-named i h .first)
     where
       empty : Whole (nextOf w) (prevOf w) (pointsOf w) []
       empty = record { linked = tt; once = λ k. omega arith; below = λ k y. absurd (omega arith) }
@@ -154,7 +115,7 @@ module _ {w ss : List ℕ} {m : ℕ} {js : List ℕ} {n : ℕ} (g : Filled w ss 
   homes : (i k : ℕ) → i < recordsOf w → 0 < occ k (ringAt (view w) i) → Resolves (view w) (recOf w k) i
   homes i k h r =
       let e = ring-home w (c .rings) i k h (lt-ltb 0 (occ k (ringAt (view w) i)) r) in
-      found w i owned (λ y. omega (arith, g .records)) 512 (recOf w k) (named k (wholes i h .below k r) .rec) e
+      found w i (λ x y. record-named x y .owner) (λ y. omega (arith, g .records)) 512 (recOf w k) (named k (wholes i h .below k r) .rec) e
 
   places : (k : ℕ) → k < pointsOf w → 0 < total (view w) k
   places k h =
@@ -172,8 +133,8 @@ module _ {w ss : List ℕ} {m : ℕ} {js : List ℕ} {n : ℕ} (g : Filled w ss 
           whole = wholes;
           home = homes;
           placed = places;
-          x-in = λ k h. coordinates k h .0;
-          y-in = λ k h. coordinates k h .1;
-          owner-in = owned;
+          x-in = λ k h. tabled k h .x;
+          y-in = λ k h. tabled k h .y;
+          owner-in = λ i h. record-named i h .owner;
         };
       }

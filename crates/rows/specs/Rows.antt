@@ -14,8 +14,8 @@ use Rattle.store.specs.Sound.{isOpen}
 use Rattle.audit.specs.Tests.{anyBelow, offTable, noSuch, noSuchOf, loose}
 use Rattle.rows.specs.Owners.{circles}
 use Rattle.rows.specs.Rings.{onRing, alone, estranged}
-use Rattle.rows.specs.declared.Verdict.{Verdict}
-use Rattle.rows.specs.declared.Verdict.the-variants.{Passed, Refused}
+use Rattle.audit.specs.declared.Verdict.{Verdict}
+use Rattle.audit.specs.declared.Verdict.the-variants.{Passed, Refused}
 
 -- row 4: "a coordinate beyond the limit"
 abbrev pub offTheTable : List ℕ → Bool

@@ -4,6 +4,7 @@ pub mod owners;
 
 use audit::PointTest;
 use audit::RecordTest;
+use audit::Verdict;
 use job::refusal::Refusal;
 use store::Col;
 use store::get;
@@ -19,12 +20,6 @@ ghost use Rattle.audit.specs.Tests.{anyBelow};
 ghost use Rattle.audit.specs.Marks.{fails, Counted};
 ghost use Rattle.rows.specs.Rows.{unnamed, noSuchNumber, onOpen, muddled, openEdge, rowsOf, Filled, Named};
 ghost use Rattle.rows.specs.Owners.{resolved};
-
-// What rows 4 to 8 say of a job.
-pub enum Verdict {
-    Passed,
-    Refused(Refusal),
-}
 
 // Whether a point fails the test.
 fn any_point(w: &[u32], t: PointTest) -> bool
