@@ -1,5 +1,5 @@
 -- From the tests of a job to the invariant, and from the invariant to a sound store.
-use Prim.Native.Nat.{ℕ, zero, suc, _+_, _≤_, _<_}
+use Prim.Native.Nat.{ℕ, zero, suc, _+_, _*_, _≤_, _<_}
 use mathlib.Core.Path.{_≡_, refl, ap, _∙_, sym, subst}
 use mathlib.Core.Logic.{_≢_, _⊎_, inl, inr}
 use mathlib.Core.Bool.{Bool, true, false, cond}
@@ -7,6 +7,7 @@ use mathlib.Core.List.{List, [], _∷_}
 use native.Mathlib.Omega.{arith}
 use native.Mathlib.Decide.{ℕ-discrete}
 use borrow.Author.Tests.{eq-eqb, ne-eqb}
+use Rattle.job.specs.Limits as limit
 use Rattle.rings.specs.Count.{occ}
 use Rattle.rings.specs.Progress.{isDone}
 use Rattle.rings.specs.Walk.{Whole}
@@ -23,10 +24,10 @@ use Rattle.joins.proofs.Homes.{table}
 
 -- what rows 3 to 7 find, as facts of every point and record
 pub record Tested (s : Store) : Type 0 where
-  pub few-points : pts s ≤ 2048
-  pub few-records : recs s ≤ 512
-  pub x-in : (k : ℕ) → k < pts s → s (pt X) k ≤ 2097152
-  pub y-in : (k : ℕ) → k < pts s → s (pt Y) k ≤ 2097152
+  pub few-points : pts s ≤ limit.POINTS
+  pub few-records : recs s ≤ limit.RECORDS
+  pub x-in : (k : ℕ) → k < pts s → s (pt X) k ≤ 2 * limit.COORDINATE
+  pub y-in : (k : ℕ) → k < pts s → s (pt Y) k ≤ 2 * limit.COORDINATE
   pub owner-in : (i : ℕ) → i < recs s → (s (rc OWNER) i ≡ NONE) ⊎ (s (rc OWNER) i < recs s)
   pub first-in : (i : ℕ) → i < recs s → s (rc FIRST) i ≢ NONE → s (rc FIRST) i < pts s
   pub links : Mutual (s (pt NEXT)) (s (pt PREV)) (pts s)

@@ -4,6 +4,7 @@ use mathlib.Core.Bool.{cond}
 use mathlib.Core.List.{List, [], _∷_}
 use lib.Dec.{ltb, eqb}
 use lib.ListN.{getD}
+use Rattle.job.specs.Limits as limit
 use Rattle.store.specs.Field.{rc, FLAGS, NONE}
 use Rattle.store.specs.Words.{view, put}
 use Rattle.store.specs.Named.{nextOf, prevOf, recOf, firstOf, recordsOf, setNext, setPrev, setRec, setFirst, setOwner, setRecords}
@@ -48,7 +49,7 @@ unfoldable pub cutOf : List ℕ → ℕ → ℕ → ℕ → ℕ → List ℕ
 cutOf w a c i k = settleOf (fixOutrecPts (newOutRec (relinkOf w a c) k (nextOf w a) i) k) i k a
 
 unfoldable pub splitOf : List ℕ → ℕ → ℕ → ℕ → End
-splitOf w a c i = cond (ltb (recordsOf w) 512) (end Done (cutOf w a c i (recordsOf w))) (end Full w)
+splitOf w a c i = cond (ltb (recordsOf w) limit.RECORDS) (end Done (cutOf w a c i (recordsOf w))) (end Full w)
 
 -- "two records empty the second, now owned by the first"
 unfoldable pub mergeOf : List ℕ → ℕ → ℕ → ℕ → ℕ → List ℕ

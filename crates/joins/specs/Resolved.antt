@@ -1,9 +1,10 @@
 -- The invariant of opening while it joins: every point is on a ring and resolves to its ring's record. (So no two records share a ring.)
-use Prim.Native.Nat.{ℕ, _≤_, _<_}
+use Prim.Native.Nat.{ℕ, _*_, _≤_, _<_}
 use mathlib.Core.Path.{_≡_}
 use mathlib.Core.Logic.{_⊎_}
 use mathlib.Core.List.{List}
 use lib.ListN.{length}
+use Rattle.job.specs.Limits as limit
 use Rattle.rings.specs.Count.{occ}
 use Rattle.rings.specs.Walk.{Whole}
 use Rattle.store.specs.Field.{pt, rc, X, Y, NEXT, PREV, REC, OWNER, NONE, LENGTH}
@@ -12,13 +13,13 @@ use Rattle.store.specs.Sound.{pts, recs, ringAt, total}
 use Rattle.joins.specs.Resolve.{Resolves}
 
 pub record Resolved (s : Store) : Type 0 where
-  pub few-points : pts s ≤ 2048
-  pub few-records : recs s ≤ 512
+  pub few-points : pts s ≤ limit.POINTS
+  pub few-records : recs s ≤ limit.RECORDS
   pub whole : (i : ℕ) → i < recs s → Whole (s (pt NEXT)) (s (pt PREV)) (pts s) (ringAt s i)
   pub home : (i k : ℕ) → i < recs s → 0 < occ k (ringAt s i) → Resolves s (s (pt REC) k) i
   pub placed : (k : ℕ) → k < pts s → 0 < total s k
-  pub x-in : (k : ℕ) → k < pts s → s (pt X) k ≤ 2097152
-  pub y-in : (k : ℕ) → k < pts s → s (pt Y) k ≤ 2097152
+  pub x-in : (k : ℕ) → k < pts s → s (pt X) k ≤ 2 * limit.COORDINATE
+  pub y-in : (k : ℕ) → k < pts s → s (pt Y) k ≤ 2 * limit.COORDINATE
   pub owner-in : (i : ℕ) → i < recs s → (s (rc OWNER) i ≡ NONE) ⊎ (s (rc OWNER) i < recs s)
 
 -- the same of words of the fixed length or more

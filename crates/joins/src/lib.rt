@@ -1,4 +1,5 @@
 // Level segments and joins: document 01, "Segment and join".
+use job::Job;
 use store::Col;
 use store::get;
 use store::set;
@@ -123,7 +124,7 @@ fn split(w: &mut [u32], op1: usize, op2: usize, i: usize) -> Joined
     ensures { λ r. ⌜ end r (now (w .exit)) ≡ splitOf (now (w .entry)) op1 op2 i ⌝ }
 {
     let k = get(w, Col::Records, 0);
-    if k < 512 {
+    if k < Job::RECORDS {
         cut(w, op1, op2, i, k);
         return Joined::Done;
     }

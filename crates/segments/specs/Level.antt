@@ -4,6 +4,7 @@ use mathlib.Core.Path.{_≡_}
 use mathlib.Core.Bool.{Bool, true, false, cond, _||_, not}
 use mathlib.Core.List.{List}
 use lib.Dec.{eqb, ltb}
+use Rattle.job.specs.Limits as limit
 use Rattle.store.specs.Field.{pt, X, Y}
 use Rattle.store.specs.Words.{view}
 use Rattle.store.specs.Named.{nextOf, prevOf, firstOf}
@@ -20,7 +21,7 @@ yOf w p = view w (pt Y) p
 unfoldable pub alongOf : List ℕ → Bool → ℕ → ℕ
 alongOf w on p = cond on (nextOf w p) (prevOf w p)
 
--- p, moved on by g until t holds there; a ring has at most 2,048 points, so that f = 2048 moves suffice
+-- p, moved on by g until t holds there; a ring has at most 2,048 points, so that as many moves suffice
 unfoldable pub until : ℕ → (ℕ → Bool) → (ℕ → ℕ) → ℕ → ℕ
 until zero t g p = p
 until (suc f) t g p = cond (t p) p (until f t g (g p))
@@ -38,13 +39,13 @@ unfoldable pub atLimit : List ℕ → Bool → ℕ → ℕ → ℕ → Bool
 atLimit w on limit y p = ltb limit (xOf w (alongOf w on p)) || not (eqb (yOf w (alongOf w on p)) y)
 
 unfoldable pub wallRun : List ℕ → Bool → ℕ → ℕ → ℕ → ℕ
-wallRun w on wall y p = until 2048 (atWall w on wall y) (alongOf w on) p
+wallRun w on wall y p = until limit.POINTS (atWall w on wall y) (alongOf w on) p
 
 unfoldable pub stopRun : List ℕ → Bool → ℕ → ℕ → ℕ → ℕ
-stopRun w on stop y p = until 2048 (atStop w on stop y) (alongOf w on) p
+stopRun w on stop y p = until limit.POINTS (atStop w on stop y) (alongOf w on) p
 
 unfoldable pub limitRun : List ℕ → Bool → ℕ → ℕ → ℕ → ℕ
-limitRun w on limit y p = until 2048 (atLimit w on limit y) (alongOf w on) p
+limitRun w on far y p = until limit.POINTS (atLimit w on far y) (alongOf w on) p
 
 -- ---- what the walks ask
 

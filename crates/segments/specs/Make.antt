@@ -6,6 +6,7 @@ use mathlib.Core.Bool.{Bool, true, false, cond, _||_, not}
 use mathlib.Core.List.{List, [], _∷_, map}
 use lib.Dec.{eqb, ltb}
 use lib.ListN.{getD, set, length, replicate}
+use Rattle.job.specs.Limits as limit
 use Rattle.store.specs.declared.points.Room.{Room}
 use Rattle.store.specs.declared.points.Room.the-variants as room
 use Rattle.store.specs.Field.{NONE}
@@ -97,10 +98,10 @@ blank = record { key = 4294967295; left = 0; right = NONE; forward = 0 }
 
 -- the job's n segments, by their points ps: 256 rows, sorted
 unfoldable pub segmentRows : List ℕ → ℕ → List ℕ → List Row
-segmentRows w n ps = sorted (updateFrom n 0 w ps (replicate 2048 0) (replicate 256 blank))
+segmentRows w n ps = sorted (updateFrom n 0 w ps (replicate limit.POINTS 0) (replicate limit.SEGMENTS blank))
 
 unfoldable pub pairsOf : List Row → List ℕ → List ℕ → ℕ → Made
-pairsOf R w js m = madeOf (outerFrom 256 (map (λ (r : Row). r .right) R) (map (λ (r : Row). r .forward) R) 0 w (map (λ (r : Row). r .left) R) js m)
+pairsOf R w js m = madeOf (outerFrom limit.SEGMENTS (map (λ (r : Row). r .right) R) (map (λ (r : Row). r .forward) R) 0 w (map (λ (r : Row). r .left) R) js m)
 
 -- convert_horz_segs_to_joins: the joins are added to the m that there are
 unfoldable pub convertHorzSegsToJoins : List ℕ → ℕ → List ℕ → List ℕ → ℕ → Made
@@ -159,5 +160,5 @@ pub record PairAt (w ls rs fs js : List ℕ) (m i j : ℕ) : Type 0 where
 pub record Converting (w ps : List ℕ) (n : ℕ) (js : List ℕ) (m : ℕ) : Type 0 where
   pub listed : Listed w n ps
   pub room : 2560 ≤ length js
-  pub few : m ≤ 256
+  pub few : m ≤ limit.JOINS
   pub named : (k : ℕ) → k < 2 * m → getD js k 0 < pointsOf w

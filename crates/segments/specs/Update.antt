@@ -4,6 +4,7 @@ use mathlib.Core.Bool.{Bool, true, false, cond}
 use mathlib.Core.List.{List, [], _∷_}
 use lib.Dec.{eqb, ltb}
 use lib.ListN.{getD, set, length}
+use Rattle.job.specs.Limits as limit
 use Rattle.store.specs.Field.{NONE}
 use Rattle.store.specs.Named.{nextOf, firstOf, flagsOf, pointsOf}
 use Rattle.joins.specs.Resolve.{homeOf}
@@ -64,5 +65,5 @@ updateFrom (suc f) i w ps ms R = onClaim w i R (updateFrom f (i + 1) w ps) (clai
 pub record Listed (w : List ℕ) (n : ℕ) (ps : List ℕ) : Type 0 where
   pub ready : Ready w
   pub fits : n ≤ length ps
-  pub few : n ≤ 256
+  pub few : n ≤ limit.SEGMENTS
   pub point : (i : ℕ) → i < n → getD ps i 0 < pointsOf w
