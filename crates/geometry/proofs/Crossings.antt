@@ -13,7 +13,7 @@ use Rattle.geometry.specs.declared.Crossing.{Crossing}
 use Rattle.geometry.specs.declared.Crossing.the-variants.{Parallel, Start, End, Inside}
 use Rattle.geometry.specs.Plane.{InTable, divisor, alongFirst}
 use Rattle.geometry.specs.Crossing.{float, edgePair, crossing, coordinateAt, pointOf, getSegmentIntersectPt, crossingPoint, InBox, Crossed}
-use Rattle.geometry.specs.Floats.{divisorF, alongF, fractionF, Reach, steppedF}
+use Rattle.geometry.specs.Floats.{divisorF, alongF, fractionF, Reach, steppedF, Meets}
 use Rattle.geometry.proofs.Fractions.{crossing-of, part-of}
 use Rattle.geometry.proofs.Box.{between, between-within, stepped-within, at-start, at-end}
 
@@ -91,3 +91,36 @@ module _ {a b : Point} (c d : Point) (A : InTable a) (B : InTable b) where
 
   pub crossed-of : {r : Point} → r ≡ crossingPoint a b c d → Crossed a b c d r
   crossed-of e = record { is = e; box = rw e crossing-in-box; table = rw e crossing-in-table }
+
+-- ---- the answers of `point_on`
+pub meets-of : {a b c d : Point} {e : EdgePair} {f : Crossing} → InTable a → InTable b → InTable c → InTable d → e ≡ edgePair a b c d → f ≡ fractionF (alongF (a .x) (a .y) (c .x) (c .y) (e .dx2) (e .dy2)) (divisorF e) → Meets e a b f
+meets-of {a} {b} {c} {d} A B C D p q = record { c = c; d = d; a-in = A; b-in = B; c-in = C; d-in = D; pair = p; at = crossing-of A B C D p q }
+
+pub point-crossing : {a b c d : Point} {e : EdgePair} {f : Crossing} {r : Point} (ip : Point) → InTable a → InTable b → InTable c → InTable d → e ≡ edgePair a b c d → f ≡ fractionF (alongF (a .x) (a .y) (c .x) (c .y) (e .dx2) (e .dy2)) (divisorF e) → r ≡ pointOf a b ip f
+    → r ≡ getSegmentIntersectPt a b c d ip
+unfolding getSegmentIntersectPt
+point-crossing {a} {b} ip A B C D p q h = h ∙ ap (pointOf a b ip) (crossing-of A B C D p q)
+
+module _ {e : EdgePair} {a b : Point} {f : Crossing} (m : Meets e a b f) {t : Float} (h : f ≡ Inside t) where
+  inside-part : Part t
+  inside-part = part-inside a b (m .c) (m .d) t (sym (m .at) ∙ h)
+
+  first-x : e .dx1 ≡ float (b .x -ℤ a .x)
+  unfolding edgePair
+  first-x = rw (m .pair)
+
+  first-y : e .dy1 ≡ float (b .y -ℤ a .y)
+  unfolding edgePair
+  first-y = rw (m .pair)
+
+  pub on-x : Reach (i32 (a .x)) (e .dx1) t
+  on-x = rw (back (m .a-in .x)) (reach (m .a-in .x) (m .b-in .x) first-x inside-part)
+
+  pub on-y : Reach (i32 (a .y)) (e .dy1) t
+  on-y = rw (back (m .a-in .y)) (reach (m .a-in .y) (m .b-in .y) first-y inside-part)
+
+  pub on-inside : {x y : ℤ} (ip : Point) → x ≡ steppedF (i32 (a .x)) (e .dx1) t → y ≡ steppedF (i32 (a .y)) (e .dy1) t → _≡_ {A = Point} (record { x = i32 x; y = i32 y }) (pointOf a b ip f)
+  on-inside {x} {y} ip g k =
+      let ex : i32 x ≡ coordinateAt (a .x) (b .x) t = ap i32 g ∙ back (stepped-within on-x) ∙ rw (back (m .a-in .x), first-x) (stepped-coordinate (a .x) (b .x) t) in
+      let ey : i32 y ≡ coordinateAt (a .y) (b .y) t = ap i32 k ∙ back (stepped-within on-y) ∙ rw (back (m .a-in .y), first-y) (stepped-coordinate (a .y) (b .y) t) in
+      rw (h, ex, ey)

@@ -1,6 +1,6 @@
 -- The floats of an edge pair hold whole numbers: its differences, its cross products, and the tests on them. Assumes nothing.
 use mathlib.Core.Path.{_≡_, refl, sym, ap, _∙_}
-use mathlib.Core.Bool.{Bool, true, false, _&&_}
+use mathlib.Core.Bool.{Bool, true, false, cond, _&&_}
 use Prim.Native.Nat.{ℕ, _^_}
 use native.Mathlib.Nat.{le-trans}
 use lib.Dec.{leb→le}
@@ -14,7 +14,7 @@ use Rattle.geometry.specs.declared.Point.{Point}
 use Rattle.geometry.specs.declared.EdgePair.{EdgePair}
 use Rattle.geometry.specs.Plane.{InTable, divisor, alongFirst, alongSecond, strictlyWithin, segmentsIntersect}
 use Rattle.geometry.specs.Crossing.{float, edgePair}
-use Rattle.geometry.specs.Floats.{zeroF, divisorF, alongF, strictlyWithinF}
+use Rattle.geometry.specs.Floats.{zeroF, divisorF, alongF, strictlyWithinF, pairIntersectsF}
 
 -- a difference as the code makes it
 diff-float : {a b : ℤ} → Within (2 ^ 20) a → Within (2 ^ 20) b → sub binary64 (float (i32 b)) (float (i32 a)) ≡ float (b -ℤ a)
@@ -91,3 +91,26 @@ module _ {a b c d : Point} {e : EdgePair} {cp : Float} (A : InTable a) (B : InTa
       u ≡ alongF (a .x) (a .y) (c .x) (c .y) (e .dx1) (e .dy1) → s ≡ strictlyWithinF u cp → (r && s) ≡ segmentsIntersect a b c d
   unfolding segmentsIntersect
   intersect-of f g h i j = rw (h, j, g, i, p, cp-is, sym parallel-is ∙ f, within-float (num-first A B C D) (num-divisor A B C D), within-float (num-second A B C D) (num-divisor A B C D))
+
+-- ---- the answers of `pair_intersects`
+module _ (e : EdgePair) (a c : Point) {cp : Float} (q : cp ≡ divisorF e) where
+  pub pair-parallel : eq cp zeroF ≡ true → false ≡ pairIntersectsF e a c
+  unfolding pairIntersectsF
+  pair-parallel t = rw (ap (λ (x : Float). eq x zeroF) (sym q) ∙ t)
+
+  pub pair-crosses :
+      {r s : Bool} {t u : Float} → eq cp zeroF ≡ false →
+      t ≡ alongF (a .x) (a .y) (c .x) (c .y) (e .dx2) (e .dy2) → r ≡ strictlyWithinF t cp →
+      u ≡ alongF (a .x) (a .y) (c .x) (c .y) (e .dx1) (e .dy1) → s ≡ strictlyWithinF u cp → (r && s) ≡ pairIntersectsF e a c
+  unfolding pairIntersectsF
+  pair-crosses f g h i j = rw (h, j, g, i, ap (λ (x : Float). eq x zeroF) (sym q) ∙ f, q)
+
+-- and of the pair of four points
+pub pair-of : {a b c d : Point} {e : EdgePair} → InTable a → InTable b → InTable c → InTable d → e ≡ edgePair a b c d → pairIntersectsF e a c ≡ segmentsIntersect a b c d
+unfolding pairIntersectsF
+pair-of {a} {b} {c} {d} {e} A B C D p = go (eq (divisorF e) zeroF) refl
+  where
+    go : (t : Bool) → eq (divisorF e) zeroF ≡ t
+        → cond t false (strictlyWithinF (alongF (a .x) (a .y) (c .x) (c .y) (e .dx2) (e .dy2)) (divisorF e) && strictlyWithinF (alongF (a .x) (a .y) (c .x) (c .y) (e .dx1) (e .dy1)) (divisorF e)) ≡ segmentsIntersect a b c d
+    go true h = parallel-of A B C D p refl h
+    go false h = intersect-of A B C D p refl h refl refl refl refl

@@ -5,8 +5,8 @@ ghost use Prim.Native.Nat.{_^_};
 ghost use lib.IntN.{pos, _+ℤ_, _-ℤ_, _*ℤ_};
 ghost use Rattle.exact.specs.Num.{Within};
 ghost use Rattle.geometry.specs.Plane.{InTable, samePoint, isCollinear, dotProductThreePoints, edgeArea, areaTriangle, closeBy, ptsReallyClose, isVerySmallTriangle, removable, segmentsIntersect};
-ghost use Rattle.geometry.specs.Crossing.{edgePair, crossing, getSegmentIntersectPt, Crossed};
-ghost use Rattle.geometry.specs.Floats.{divisorF, alongF, strictlyWithinF, fractionF, Reach, steppedF};
+ghost use Rattle.geometry.specs.Crossing.{edgePair, crossing, getSegmentIntersectPt, Crossed, pointOf};
+ghost use Rattle.geometry.specs.Floats.{divisorF, alongF, strictlyWithinF, fractionF, Reach, steppedF, pairIntersectsF, Meets};
 
 // A point; its coordinates are micrometres.
 pub struct Point {
@@ -172,17 +172,25 @@ fn strictly_within(t: f64, cp: f64) -> bool
     false
 }
 
+// Whether the edges of a pair, which start at a and c, cross at an inner point of both.
+pub fn pair_intersects(e: EdgePair, a: Point, c: Point) -> bool
+    requires { ⌜ InTable a ⌝ ∗ ⌜ InTable c ⌝ }
+    ensures { λ r. ⌜ r ≡ pairIntersectsF e a c ⌝ }
+{
+    let cp = divisor(e);
+    if cp == 0.0 {
+        return false;
+    }
+    strictly_within(along(a, c, e.dx2, e.dy2), cp) & strictly_within(along(a, c, e.dx1, e.dy1), cp)
+}
+
 // Whether the edges from a to b and from c to d cross at an inner point of both.
 pub fn segments_intersect(a: Point, b: Point, c: Point, d: Point) -> bool
     requires { ⌜ InTable a ⌝ ∗ ⌜ InTable b ⌝ ∗ ⌜ InTable c ⌝ ∗ ⌜ InTable d ⌝ }
     ensures { λ r. ⌜ r ≡ segmentsIntersect a b c d ⌝ }
 {
     let e = edge_pair(a, b, c, d);
-    let cp = divisor(e);
-    if cp == 0.0 {
-        return false;
-    }
-    strictly_within(along(a, c, e.dx2, e.dy2), cp) & strictly_within(along(a, c, e.dx1, e.dy1), cp)
+    pair_intersects(e, a, c)
 }
 
 // num / det as a fraction of an edge.
@@ -203,7 +211,7 @@ fn fraction(num: f64, det: f64) -> Crossing
 }
 
 // Where the second edge's line meets the first, by their differences and starts.
-fn crossing_at(e: EdgePair, a: Point, c: Point) -> Crossing
+pub fn crossing_at(e: EdgePair, a: Point, c: Point) -> Crossing
     requires { ⌜ InTable a ⌝ ∗ ⌜ InTable c ⌝ }
     ensures { λ r. ⌜ r ≡ fractionF (alongF (a .x) (a .y) (c .x) (c .y) (e .dx2) (e .dy2)) (divisorF e) ⌝ }
 {
@@ -226,6 +234,22 @@ fn stepped(a: i32, d: f64, t: f64) -> i32
     std::num::truncating_f64_to_i64(a as f64 + t * d) as i32
 }
 
+// The point of the first edge, from a to b, at which a pair's edges meet, and ip where they are parallel.
+pub fn point_on(e: EdgePair, a: Point, b: Point, f: Crossing, ip: Point) -> Point
+    requires { ⌜ Meets e a b f ⌝ }
+    ensures { λ r. ⌜ r ≡ pointOf a b ip f ⌝ }
+{
+    match f {
+        Crossing::Parallel => ip,
+        Crossing::Start => a,
+        Crossing::End => b,
+        Crossing::Inside(t) => Point {
+            x: stepped(a.x, e.dx1, t),
+            y: stepped(a.y, e.dy1, t),
+        },
+    }
+}
+
 // What `get_segment_intersect_pt` leaves in its `ip`, handed in and back by value: parallel edges leave it as it was.
 pub fn get_segment_intersect_pt(
     ln1a: Point,
@@ -239,15 +263,7 @@ pub fn get_segment_intersect_pt(
 {
     let e = edge_pair(ln1a, ln1b, ln2a, ln2b);
     let f = crossing_at(e, ln1a, ln2a);
-    match f {
-        Crossing::Parallel => ip,
-        Crossing::Start => ln1a,
-        Crossing::End => ln1b,
-        Crossing::Inside(t) => Point {
-            x: stepped(ln1a.x, e.dx1, t),
-            y: stepped(ln1a.y, e.dy1, t),
-        },
-    }
+    point_on(e, ln1a, ln1b, f, ip)
 }
 
 // The crossing point of `do_split_op`, whose `ip` begins as the first edge's start.
