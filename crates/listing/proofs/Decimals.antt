@@ -1,0 +1,38 @@
+-- Laws of decimal digits.
+use Prim.Native.Nat.{ℕ, zero, suc, _+_, _*_, _/_, _%_, _^_, _≤_, _<_}
+use mathlib.Core.Path.{_≡_, refl, sym, ap, _∙_, subst}
+use mathlib.Core.List.{List, [], _∷_, _++_}
+use native.Mathlib.Omega.{arith}
+use native.Mathlib.Decide.{decLt}
+use lib.Dec.{ltb}
+use borrow.Author.Tests.{lt-ltb, le-ltb}
+use Rattle.listing.specs.Pour.{poured, pour}
+use Rattle.listing.specs.Text.{digit, digits, decimal}
+use Rattle.listing.proofs.Pouring.{pour-more}
+
+-- room for one digit more changes nothing
+digits-more : (f n : ℕ) → n < 10 ^ suc f → digits (suc f) n ≡ digits (suc (suc f)) n
+unfolding digits
+digits-more zero n h = rw (lt-ltb n 10 (omega arith))
+digits-more (suc f) n h = go (decLt n 10) (digits-more f (n / 10))
+  where
+    go : Dec (n < 10) → (n / 10 < 10 ^ suc f → digits (suc f) (n / 10) ≡ digits (suc (suc f)) (n / 10)) → digits (suc (suc f)) n ≡ digits (suc (suc (suc f))) n
+    go (yes l) r = rw (lt-ltb n 10 l)
+    go (no l) r = rw (le-ltb n 10 (omega arith)) (ap (λ (x : List ℕ). x ++ (digit (n % 10) ∷ [])) (r (omega arith)))
+
+pub decimal-small : (n : ℕ) → n < 10 → decimal n ≡ digit n ∷ []
+unfolding digits
+decimal-small n h = rw (lt-ltb n 10 h)
+
+last-digit : (n : ℕ) → 10 ≤ n → digits 20 n ≡ digits 19 (n / 10) ++ (digit (n % 10) ∷ [])
+unfolding digits
+last-digit n h = rw (le-ltb n 10 h)
+
+pub decimal-more : (n : ℕ) → 10 ≤ n → n < 2 ^ 64 → decimal n ≡ decimal (n / 10) ++ (digit (n % 10) ∷ [])
+decimal-more n h l = last-digit n h ∙ ap (λ (x : List ℕ). x ++ (digit (n % 10) ∷ [])) (digits-more 18 (n / 10) (omega arith))
+
+pub small-poured : (n at r : ℕ) (t u : List ℕ) → n < 10 → poured r u ≡ pour ((48 + n) ∷ []) at t → poured r u ≡ pour (decimal n) at t
+small-poured n at r t u h e = e ∙ ap (λ (x : List ℕ). pour x at t) (sym (decimal-small n h))
+
+pub more-poured : (n at r q : ℕ) (t u v : List ℕ) → 10 ≤ n → n < 2 ^ 64 → poured r u ≡ pour (decimal (n / 10)) at t → poured q v ≡ pour ((48 + n % 10) ∷ []) r u → poured q v ≡ pour (decimal n) at t
+more-poured n at r q t u v h l e f = pour-more (decimal (n / 10)) ((48 + n % 10) ∷ []) t u v at r q e f ∙ ap (λ (x : List ℕ). pour x at t) (sym (decimal-more n h l))

@@ -1,0 +1,32 @@
+-- Document 01's listing, whole, from the tray's bytes; and a refusal's line. By evaluation.
+use Prim.Native.Nat.{ℕ}
+use mathlib.Core.Path.{_≡_, refl}
+use mathlib.Core.List.{List, [], _∷_, _++_}
+use Rattle.geometry.specs.Plane.{areaOutpt}
+use Rattle.listing.specs.Text.{digits}
+use Rattle.listing.specs.Fields.{pointIn}
+use Rattle.listing.specs.Lines.{listingOf, refusedLine}
+
+-- closed 5,5 0,12 0,0, then closed 10,10 10,0 5,5
+tray : List ℕ
+tray =
+    (6 ∷ 24 ∷ 0 ∷ 5 ∷ 0 ∷ 0 ∷ 0 ∷ 5 ∷ 0 ∷ 0 ∷ 0 ∷ 0 ∷ 0 ∷ 0 ∷ 0 ∷ 12 ∷ 0 ∷ 0 ∷ 0 ∷ 0 ∷ 0 ∷ 0 ∷ 0 ∷ 0 ∷ 0 ∷ 0 ∷ 0 ∷ [])
+    ++ (6 ∷ 24 ∷ 0 ∷ 10 ∷ 0 ∷ 0 ∷ 0 ∷ 10 ∷ 0 ∷ 0 ∷ 0 ∷ 10 ∷ 0 ∷ 0 ∷ 0 ∷ 0 ∷ 0 ∷ 0 ∷ 0 ∷ 5 ∷ 0 ∷ 0 ∷ 0 ∷ 5 ∷ 0 ∷ 0 ∷ 0 ∷ [])
+
+-- closed 2 open 0
+-- piece 3 60 5,5 0,12 0,0
+-- hole 3 -50 10,10 10,0 5,5
+text : List ℕ
+text =
+    (99 ∷ 108 ∷ 111 ∷ 115 ∷ 101 ∷ 100 ∷ 32 ∷ 50 ∷ 32 ∷ 111 ∷ 112 ∷ 101 ∷ 110 ∷ 32 ∷ 48 ∷ 10 ∷ [])
+    ++ (112 ∷ 105 ∷ 101 ∷ 99 ∷ 101 ∷ 32 ∷ 51 ∷ 32 ∷ 54 ∷ 48 ∷ 32 ∷ 53 ∷ 44 ∷ 53 ∷ 32 ∷ 48 ∷ 44 ∷ 49 ∷ 50 ∷ 32 ∷ 48 ∷ 44 ∷ 48 ∷ 10 ∷ [])
+    ++ (104 ∷ 111 ∷ 108 ∷ 101 ∷ 32 ∷ 51 ∷ 32 ∷ 45 ∷ 53 ∷ 48 ∷ 32 ∷ 49 ∷ 48 ∷ 44 ∷ 49 ∷ 48 ∷ 32 ∷ 49 ∷ 48 ∷ 44 ∷ 48 ∷ 32 ∷ 53 ∷ 44 ∷ 53 ∷ 10 ∷ [])
+
+paper : listingOf 2 0 tray ≡ text
+unfolding listingOf digits pointIn areaOutpt tray text
+paper = refl
+
+-- refused 12
+refused : refusedLine 12 ≡ 114 ∷ 101 ∷ 102 ∷ 117 ∷ 115 ∷ 101 ∷ 100 ∷ 32 ∷ 49 ∷ 50 ∷ 10 ∷ []
+unfolding digits
+refused = refl

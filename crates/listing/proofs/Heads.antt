@@ -1,0 +1,92 @@
+-- A path's line: its head, its points.
+use Prim.Native.Nat.{ℕ, zero, suc, _+_, _-_, _*_, _/_, _≤_, _<_, _^_}
+use mathlib.Core.Path.{_≡_, refl, sym, ap, _∙_, subst}
+use mathlib.Core.Bool.{Bool, true, false}
+use mathlib.Core.List.{List, [], _∷_, _++_}
+use native.Mathlib.Omega.{arith}
+use lib.IntN.{ℤ, pos, natAbs, _+ℤ_}
+use lib.ListN.{length}
+use mir.Syntax.{w64}
+use mir.Val.{SFits, toZ, ofZ}
+use mir.Facts.{toZ-ofZ}
+use Rattle.exact.specs.Num.{Within}
+use Rattle.exact.proofs.Size.{fits-size, size-add}
+use Rattle.rings.specs.Circle.{lastOf}
+use Rattle.geometry.specs.declared.Point.{Point}
+use Rattle.geometry.specs.Plane.{InTable, AllInTable, edgeArea, areaFrom, areaOutpt}
+use Rattle.geometry.proofs.Coordinates.{edge-within}
+use Rattle.listing.specs.Pour.{poured, pour}
+use Rattle.listing.specs.Text.{SPACE, NEWLINE, decimal, signedText, LINE}
+use Rattle.listing.specs.Fields.{pointIn, pointsIn, Run, Sized, valueLength, pathIn, nextField, FieldIn}
+use Rattle.listing.specs.Lines.{wordOf, pointsText, closedHead, openHead, headOf, lineOf}
+use Rattle.listing.proofs.Pouring.{pour-more}
+
+length-points : (t : List ℕ) (n at : ℕ) → length (pointsIn t n at) ≡ n
+length-points t zero at = refl
+length-points t (suc n) at = ap suc (length-points t n (at + 8))
+
+-- ---- a doubled area is small
+
+from-small : (p : Point) (l : List Point) → InTable p → AllInTable l → natAbs (areaFrom p l) ≤ length l * 2 ^ 42
+from-small p [] h k = omega arith
+from-small p (q ∷ l) h k = omega (arith, size-add (edgeArea p q) (areaFrom q l), edge-within h (k .0) .size, from-small q l (k .0) (k .1))
+
+last-in : (p : Point) (l : List Point) → InTable p → AllInTable l → InTable (lastOf p l)
+last-in p [] h k = h
+last-in p (q ∷ l) h k = last-in q l (k .0) (k .1)
+
+area-small : (l : List Point) → AllInTable l → natAbs (areaOutpt l) ≤ length l * 2 ^ 42
+unfolding areaOutpt
+area-small [] k = omega arith
+area-small (p ∷ l) k = from-small (lastOf p l) (p ∷ l) (last-in p l (k .0) (k .1)) k
+
+module _ (t : List ℕ) (n at : ℕ) (s : Sized t n at) (r : ℤ) (e : r ≡ areaOutpt (pointsIn t n at)) where
+  small : natAbs (areaOutpt (pointsIn t n at)) ≤ 2 ^ 56
+  small = omega (arith, area-small (pointsIn t n at) (s .run .small), length-points t n at, s .few)
+
+  pub area-held : toZ w64 (ofZ w64 r) ≡ areaOutpt (pointsIn t n at)
+  area-held = toZ-ofZ (rw e (fits-size w64 (areaOutpt (pointsIn t n at)) (omega (arith, small)))) ∙ e
+
+  pub area-asked : Within (2 ^ 62) (toZ w64 (ofZ w64 r))
+  area-asked = rw area-held (record { size = omega (arith, small) })
+
+  pub closed-poured : (k a b c d : ℕ) (o₁ o₂ o₃ o₄ o₅ : List ℕ)
+      → poured a o₂ ≡ pour (wordOf (toZ w64 (ofZ w64 r)) ++ (SPACE ∷ [])) k o₁ → poured b o₃ ≡ pour (decimal n) a o₂ → poured c o₄ ≡ pour (32 ∷ []) b o₃
+      → poured d o₅ ≡ pour (signedText (toZ w64 (ofZ w64 r))) c o₄ → poured d o₅ ≡ pour (closedHead (pointsIn t n at)) k o₁
+  closed-poured k a b c d o₁ o₂ o₃ o₄ o₅ f g h i =
+      let z = toZ w64 (ofZ w64 r) in
+      pour-more (wordOf z ++ (SPACE ∷ []) ++ decimal n ++ (32 ∷ [])) (signedText z) o₁ o₄ o₅ k c d
+      (pour-more (wordOf z ++ (SPACE ∷ []) ++ decimal n) (32 ∷ []) o₁ o₃ o₄ k b c (pour-more (wordOf z ++ (SPACE ∷ [])) (decimal n) o₁ o₂ o₃ k a b f g) h)
+      i
+      ∙ ap (λ (y : ℤ). pour (wordOf y ++ (SPACE ∷ []) ++ decimal n ++ (32 ∷ []) ++ signedText y) k o₁) area-held
+      ∙ ap (λ (m : ℕ). pour (wordOf (areaOutpt (pointsIn t n at)) ++ (SPACE ∷ []) ++ decimal m ++ (32 ∷ []) ++ signedText (areaOutpt (pointsIn t n at))) k o₁) (sym (length-points t n at))
+
+-- ---- open or closed
+
+pub open-head : (t : List ℕ) (n at : ℕ) (o : Bool) (k a b : ℕ) (o₁ o₂ o₃ : List ℕ) → o ≡ true → poured a o₂ ≡ pour (LINE ++ (SPACE ∷ [])) k o₁ → poured b o₃ ≡ pour (decimal n) a o₂
+    → poured b o₃ ≡ pour (headOf o (pointsIn t n at)) k o₁
+open-head t n at o k a b o₁ o₂ o₃ e f g =
+    pour-more (LINE ++ (SPACE ∷ [])) (decimal n) o₁ o₂ o₃ k a b f g
+    ∙ ap (λ (m : ℕ). pour (LINE ++ (SPACE ∷ []) ++ decimal m) k o₁) (sym (length-points t n at))
+    ∙ ap (λ (x : Bool). pour (headOf x (pointsIn t n at)) k o₁) (sym e)
+
+pub closed-head : (t : List ℕ) (n at : ℕ) (o : Bool) (k a : ℕ) (o₁ o₂ : List ℕ) → o ≡ false → poured a o₂ ≡ pour (closedHead (pointsIn t n at)) k o₁ → poured a o₂ ≡ pour (headOf o (pointsIn t n at)) k o₁
+closed-head t n at o k a o₁ o₂ e f = f ∙ ap (λ (x : Bool). pour (headOf x (pointsIn t n at)) k o₁) (sym e)
+
+-- ---- a line
+
+module _ (t : List ℕ) (from : ℕ) (f : FieldIn t from) (v : ℕ) (e : v ≡ valueLength t from) (l : v < 65536) where
+  pub field-sized : Sized t (v / 8) (from + 3)
+  field-sized =
+      record {
+        run = record { inside = omega (arith, f .inside, e); small = subst (λ (k : ℕ). AllInTable (pointsIn t (k / 8) (from + 3))) (sym e) (f .small) };
+        few = omega arith;
+      }
+
+  pub line-poured : (o : Bool) (k a b c : ℕ) (o₁ o₂ o₃ o₄ : List ℕ) → poured a o₂ ≡ pour (headOf o (pointsIn t (v / 8) (from + 3))) k o₁
+      → poured b o₃ ≡ pour (pointsText (pointsIn t (v / 8) (from + 3))) a o₂ → poured c o₄ ≡ pour (10 ∷ []) b o₃ → poured c o₄ ≡ pour (lineOf o (pathIn t from)) k o₁
+  line-poured o k a b c o₁ o₂ o₃ o₄ g h i =
+      pour-more (headOf o (pointsIn t (v / 8) (from + 3)) ++ pointsText (pointsIn t (v / 8) (from + 3))) (10 ∷ []) o₁ o₃ o₄ k b c
+      (pour-more (headOf o (pointsIn t (v / 8) (from + 3))) (pointsText (pointsIn t (v / 8) (from + 3))) o₁ o₂ o₃ k a b g h)
+      i
+      ∙ ap (λ (m : ℕ). pour (lineOf o (pointsIn t (m / 8) (from + 3))) k o₁) e

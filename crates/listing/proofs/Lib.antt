@@ -1,0 +1,9 @@
+-- Laws of text that is poured, of decimal numbers, of the tray's fields.
+pub mod Pouring
+pub mod Decimals
+pub mod Signs
+pub mod Points
+pub mod Runs
+pub mod Heads
+pub mod Telling
+pub mod Examples
