@@ -1,2 +1,3 @@
 -- Laws of the entry points.
 pub mod Entering
+pub mod Calls

@@ -1,8 +1,124 @@
-// The public entry points: opening, a step, writing out. No function here has a `requires`.
+// The public entry points: a step, and writing out. No function here that is `pub` has a `requires`.
+use audit::Verdict;
+use audit::tests_of;
+use job::Job;
 use job::refusal::Refusal;
+use paths::Written;
+use paths::build_paths64;
+use store::Col;
+use store::get;
+use turns::Answer;
+use turns::step::is_live;
+use turns::step::step_record;
+ghost use mathlib.Core.Path.{_≡_};
+ghost use Prim.Native.Nat.{ℕ, _+_, _<_, _≤_};
+ghost use lib.ListN.{length};
+ghost use Rattle.store.specs.Field.{LENGTH};
+ghost use Rattle.store.specs.Words.{view};
+ghost use Rattle.store.specs.Sound.{recs};
+ghost use Rattle.audit.specs.Tests.{anyBelow};
+ghost use Rattle.audit.specs.declared.Verdict.the-variants.{Passed};
+ghost use Rattle.acts.specs.Step.{live};
+ghost use Rattle.turns.specs.Code.{answerIs};
+ghost use Rattle.turns.specs.Reads.{SoundWords};
+ghost use Rattle.paths.specs.Wrote.{wrote};
+ghost use Rattle.finishing.specs.Step.{left, steppedAs, stepBy, stepOf};
+ghost use Rattle.finishing.specs.Write.{writeBy, writeOf};
+ghost use Rattle.finishing.specs.Tested.{Tested};
 
 // What a step answers: carried out, or a refusal.
 pub enum Stepped {
     Done,
     Refused(Refusal),
+}
+
+// The fixed length of a work space, in words: 16, five for each point and seven for each record.
+pub const WORK_WORDS: usize = 16 + Job::POINTS * 5 + Job::RECORDS * 7;
+
+// ---- a step
+
+fn answered(a: Answer) -> Stepped
+    ensures { λ r. ⌜ r ≡ steppedAs (answerIs a) ⌝ }
+{
+    match a {
+        Answer::Ok => Stepped::Done,
+        Answer::Full => Stepped::Refused(Refusal::Full),
+        Answer::OutOfTurn => Stepped::Refused(Refusal::OutOfTurn),
+    }
+}
+
+// A step on a work space that passed the tests.
+fn step_tested(work: &mut [u32], i: usize) -> Stepped
+    requires { ⌜ Tested (now work) ⌝ }
+    ensures { λ r. ⌜ left r (now (work .exit)) ≡ stepBy Passed (now (work .entry)) i ⌝ }
+{
+    let a = step_record(work, i);
+    answered(a)
+}
+
+// A step on a record number: its answer, and every word left.
+pub fn step(work: &mut [u32], number: u32) -> Stepped
+    ensures { λ r. ⌜ left r (now (work .exit)) ≡ stepOf (now (work .entry)) number ⌝ }
+{
+    if work.len() < WORK_WORDS {
+        return Stepped::Refused(Refusal::Full);
+    }
+    let verdict = tests_of(work);
+    match verdict {
+        Verdict::Passed => {
+            return step_tested(work, number as usize);
+        }
+        Verdict::Refused(r) => {
+            return Stepped::Refused(r);
+        }
+    }
+}
+
+// ---- writing out
+
+// Whether a closed ring isn't done.
+fn any_live(w: &[u32]) -> bool
+    requires { ⌜ SoundWords (now w) ⌝ }
+    ensures { λ r. ⌜ r ≡ anyBelow (recs (view (now (w .entry)))) (live (view (now (w .entry)))) ⌝ }
+{
+    let n = get(w, Col::Records, 0);
+    let mut i: usize = 0;
+    while i < n {
+        let found = is_live(w, i);
+        if found {
+            return true;
+        }
+        i += 1;
+    }
+    false
+}
+
+// Writing out a work space that passed the tests.
+fn write_tested(work: &[u32], tray: &mut [u8]) -> Written
+    requires { ⌜ Tested (now work) ⌝ }
+    ensures { λ r. ⌜ wrote r (now (tray .exit)) ≡ writeBy Passed (now (work .entry)) (now (tray .entry)) ⌝ }
+{
+    let going = any_live(work);
+    if going {
+        return Written::Refused(Refusal::OutOfTurn);
+    }
+    build_paths64(work, tray)
+}
+
+// All paths into the tray: the answer, and every byte left.
+pub fn write_out(work: &[u32], tray: &mut [u8]) -> Written
+    ensures { λ r. ⌜ wrote r (now (tray .exit)) ≡ writeOf (now (work .entry)) (now (tray .entry)) ⌝ }
+{
+    if work.len() < WORK_WORDS {
+        return Written::Refused(Refusal::Full);
+    }
+    let verdict = tests_of(work);
+    match verdict {
+        Verdict::Passed => {
+            return write_tested(work, tray);
+        }
+        Verdict::Refused(r) => {
+            return Written::Refused(r);
+        }
+    }
 }

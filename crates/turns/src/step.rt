@@ -97,7 +97,7 @@ pub fn step_ring(w: &mut [u32], i: usize) -> Answer
 }
 
 // Whether record i is an unfinished closed ring.
-fn is_live(w: &[u32], i: usize) -> bool
+pub fn is_live(w: &[u32], i: usize) -> bool
     requires { ⌜ SoundWords (now w) ⌝ }
     ensures { λ r. ⌜ r ≡ live (view (now (w .entry))) i ⌝ }
 {
