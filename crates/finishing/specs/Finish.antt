@@ -1,31 +1,21 @@
--- The middle of finishing in one call: every ring stepped until it is done, in rising record order, offcuts as they come.
+-- Finishing the rings: every ring stepped until it is done, in rising record order, offcuts as they come; the middle of finishing in one call.
 use Prim.Native.Nat.{ℕ, zero, suc}
-use mathlib.Core.List.{List, [], _++_}
-use lib.ListN.{replicate}
-use Rattle.job.specs.Limits as limit
-use Rattle.lone.specs.Finish.{enough}
-use Rattle.finishing.specs.declared.Stepped.{Stepped}
-use Rattle.finishing.specs.declared.Stepped.the-variants.{Done, Refused}
-use Rattle.finishing.specs.Step.{stepOf}
+use mathlib.Core.List.{List, [], _∷_, _++_}
+use Rattle.store.specs.Words.{view}
+use Rattle.acts.specs.Step.{Outcome}
+use Rattle.acts.specs.Finish.{finishW}
+use Rattle.turns.specs.Form.{raised, geometryOf}
 
--- steps on record i until one is refused, with the answer to the next one; f: more than are ever needed
-abbrev pub stepsBy : ℕ → Stepped → List ℕ → ℕ → List ℕ
-stepsBy zero a w i = w
-stepsBy (suc f) Done w i = stepsBy f (stepOf (stepOf w i .words) i .answer) (stepOf w i .words) i
-stepsBy (suc f) (Refused r) w i = w
+-- ok and the words left; or full, where a step was refused as full
+unfoldable pub finishRings : List ℕ → Outcome
+finishRings w = finishW (geometryOf (view w)) raised w
 
-unfoldable pub stepsOn : ℕ → List ℕ → ℕ → List ℕ
-stepsOn f w i = stepsBy f (stepOf w i .answer) w i
-
--- the same on n records from number i on; on a number that is no record's the first step is refused
-unfoldable pub finishFrom : ℕ → ℕ → List ℕ → ℕ → List ℕ
-finishFrom f zero w i = w
-finishFrom f (suc n) w i = finishFrom f n (stepsOn f w i) (suc i)
-
-unfoldable pub finishRings : List ℕ → List ℕ
-finishRings w = finishFrom (enough limit.POINTS) limit.RECORDS w 0
+-- n steps on record i
+unfoldable pub times : ℕ → ℕ → List ℕ
+times zero i = []
+times (suc n) i = i ∷ times n i
 
 -- the list that steps n records from number i on, in rising order, f times each
 unfoldable pub inRising : ℕ → ℕ → ℕ → List ℕ
 inRising f zero i = []
-inRising f (suc n) i = replicate f i ++ inRising f n (suc i)
+inRising f (suc n) i = times f i ++ inRising f n (suc i)

@@ -62,13 +62,18 @@ module _ (k : ℕ) where
     pub answer-of : (i : ℕ) → stepOf w i .answer ≡ steppedAs (answer M 2048 512 F i)
     answer-of i = ap (λ (l : Left). l .answer) (step-is i)
 
-    pub follows-step : (i : ℕ) → Follows (stepOf w i .words) (stepForest M 2048 512 F i)
-    follows-step i =
-        subst (λ (v : List ℕ). Follows v (stepForest M 2048 512 F i)) (sym (ap (λ (l : Left). l .words) (step-is i)))
-        (record {
+    pub words-of : (i : ℕ) → stepOf w i .words ≡ stepW G raised w i
+    words-of i = ap (λ (l : Left). l .words) (step-is i)
+
+    pub follows-words : (i : ℕ) → Follows (stepW G raised w i) (stepForest M 2048 512 F i)
+    follows-words i =
+        record {
           rep = stepW-is G raised (laws (eqb (k % 2) 1)) w F (h .rep) i;
           settings = step-settings raised G (laws (eqb (k % 2) 1)) w i (h .rep .long) (h .rep .rep .sound) ∙ h .settings;
-        })
+        }
+
+    pub follows-step : (i : ℕ) → Follows (stepOf w i .words) (stepForest M 2048 512 F i)
+    follows-step i = subst (λ (v : List ℕ). Follows v (stepForest M 2048 512 F i)) (sym (words-of i)) (follows-words i)
 
   pub follows-run : (is : List ℕ) (w : List ℕ) (F : Forest (Ring Point) (List Point)) → Follows w F → Follows (runOf w is) (runForest M 2048 512 F is)
   follows-run [] w F h = h

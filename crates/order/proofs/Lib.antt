@@ -4,4 +4,5 @@ pub mod Following
 pub mod Having
 pub mod Paths
 pub mod Ending
+pub mod InOneCall
 pub mod Theorem

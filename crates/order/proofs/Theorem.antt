@@ -4,6 +4,7 @@ use mathlib.Core.Path.{_≡_, refl, ap, _∙_, sym, subst, fun-ext}
 use mathlib.Core.Logic.{_⊎_, inl, inr}
 use mathlib.Core.Bool.{Bool, true, false, cond}
 use mathlib.Core.List.{List, [], _∷_, _++_}
+use native.Mathlib.Nat.{not-suc-le-zero}
 use native.Mathlib.Omega.{arith}
 use native.Mathlib.Decide.{decLt}
 use lib.Dec.{eqb}
@@ -12,9 +13,8 @@ use Rattle.rings.specs.Progress.{Ring, gone, atStart, mapRing}
 use Rattle.rings.specs.Walk.{walk}
 use Rattle.rings.proofs.Counting.{pigeon}
 use Rattle.geometry.specs.declared.Point.{Point}
-use Rattle.job.specs.Limits as limit
 use Rattle.lone.specs.Forest.{Entry, ringless, Forest, full, enter, opening, at, allTaken, allCut, answer, runForest, accepted, OfClosed}
-use Rattle.lone.specs.Order.{Alone, Independent, AllDone}
+use Rattle.lone.specs.Order.{Alone, Independent, NoneOrDone, AllDone}
 use Rattle.lone.specs.Order as lone
 use Rattle.lone.specs.Kept.{Held}
 use Rattle.lone.specs.Finish.{enough, finishForest}
@@ -29,6 +29,7 @@ use Rattle.store.specs.Sound as store
 use Rattle.store.proofs.Soundness.{whole, from-first}
 use Rattle.acts.specs.Opened.{records}
 use Rattle.acts.specs.Rep.{value, Shows, as-ringless, as-open, as-closed}
+use Rattle.acts.specs.Finish.{finishW}
 use Rattle.acts.proofs.Opening.{opening-rep}
 use Rattle.paths.specs.Path as paths
 use Rattle.paths.specs.Path.{reverseSolution}
@@ -39,13 +40,14 @@ use Rattle.finishing.specs.Write.{anyLive, writeOf}
 use Rattle.finishing.specs.Run.{runOf, granted, Call, stepOn, writeTo, wordsAfter, stepsIn}
 use Rattle.finishing.specs.Finish.{finishRings, inRising}
 use Rattle.finishing.proofs.Entering.{refused-leaves}
-use Rattle.order.specs.Demand3.{AsOpened, Has, Answers, inTray, outlines, After, Fits, NeverEnds, Demand3}
+use Rattle.order.specs.Demand3.{OpeningLeft, Has, Answers, inTray, outlines, After, Fits, NeverEnds, Ends, Overflows, Demand3}
 use Rattle.order.proofs.Following.{M, Follows, passes, answer-of, follows-run, granted-is}
 use Rattle.order.proofs.Having.{has, stepped-same, answers-are}
 use Rattle.order.proofs.Paths.{closed-are, open-are}
-use Rattle.order.proofs.Ending.{finish-list, follows-finish, all-done, done-all, not-yet, builds}
+use Rattle.order.proofs.Ending.{all-done, done-all, not-yet, builds}
+use Rattle.order.proofs.InOneCall.{Reached, Through, Stopped, finish-from}
 
-module _ (w : List ℕ) (o : AsOpened w) where
+module _ (w : List ℕ) (o : OpeningLeft w) where
   abbrev k : ℕ
   k = view w (ct SETTINGS) 0
 
@@ -150,21 +152,30 @@ module _ (w : List ℕ) (o : AsOpened w) where
         goes-on = λ is. (f .goes-on is .0, done-all k (runOf w (is ++ f .goes-on is .0)) (F (is ++ f .goes-on is .0)) (follows (is ++ f .goes-on is .0)) (f .goes-on is .1));
       }
 
-  follows-rings : Follows k (finishRings w) (finishForest (M k) 2048 512 F₀)
-  unfolding finishRings finishForest
-  follows-rings = follows-finish k (enough 2048) 512 w F₀ 0 start
-
-  two-ways : ((anyLive (view (finishRings w)) ≡ false) × Fits w) ⊎ NeverEnds w
+  two-ways : Fits w ⊎ NeverEnds w
   two-ways = go (rings-finish (plane (preserves (view w))) 2048 512 F₀ held (omega (arith, start .rep .rep .records-are, o .sound .few-records)))
     where
-      go : (AllDone (M k) (finishForest (M k) 2048 512 F₀ .entries) × lone.Fits (M k) 2048 512 F₀) ⊎ lone.NeverEnds (M k) 2048 512 F₀ → ((anyLive (view (finishRings w)) ≡ false) × Fits w) ⊎ NeverEnds w
-      go (inl h) = inl (done-all k (finishRings w) (finishForest (M k) 2048 512 F₀) follows-rings (h .0), fits (h .1))
+      go : (AllDone (M k) (finishForest (M k) 2048 512 F₀ .entries) × lone.Fits (M k) 2048 512 F₀) ⊎ lone.NeverEnds (M k) 2048 512 F₀ → Fits w ⊎ NeverEnds w
+      go (inl h) = inl (fits (h .1))
       go (inr n) = inr (λ is e. n is (all-done k (runOf w is) (F is) (follows is) e))
 
-  finish-is : finishRings w ≡ runOf w (inRising (enough limit.POINTS) limit.RECORDS 0)
-  unfolding finishRings
-  finish-is = finish-list (enough limit.POINTS) limit.RECORDS w 0
+  either-way : Ends w ⊎ Overflows w
+  unfolding finishRings finishW
+  either-way = go (finish-from k 512 w F₀ 0 (record { follows = start; held = held; below = λ j h. absurd (not-suc-le-zero h) })) two-ways
+    where
+      all : (w′ : List ℕ) (E : Forest (Ring Point) (List Point)) → Reached k (0 + 512) w′ E → anyLive (view w′) ≡ false
+      all w′ E r = done-all k w′ E (r .follows) (λ j. each j (decLt j 512))
+        where
+          each : (j : ℕ) → Dec (j < 512) → NoneOrDone (M k) (at (E .entries) j)
+          each j (yes h) = r .below j (omega arith)
+          each j (no n) = rw (List·getD-eq-default (E .entries) ringless {n = j} (omega (arith, r .follows .rep .rep .records-are, r .follows .rep .rep .sound .few-records))) tt
+
+      go : Through k 512 w 0 ⊎ Stopped k 512 w 0 → Fits w ⊎ NeverEnds w → Ends w ⊎ Overflows w
+      go (inl t) (inl f) = inl (record { words = t .words; finished = t .is; rising = t .run; all-done = all (t .words) (t .forest) (t .reached); fits = f })
+      go (inl t) (inr n) = absurd (n (inRising (enough 2048) 512 0) (subst (λ (v : List ℕ). anyLive (view v) ≡ false) (t .run) (all (t .words) (t .forest) (t .reached))))
+      go (inr t) (inl f) = absurd (f .never-full (t .steps) (t .place) (t .full-there))
+      go (inr t) (inr n) = inr (record { words = t .words; refused = t .is; never = n })
 
   -- demand 3, whole
   pub demand-3 : Demand3 w
-  demand-3 = record { after-every-list = after-list; calls-between = λ cs. calls cs w; finishing = finish-is; either = two-ways }
+  demand-3 = record { after-every-list = after-list; calls-between = λ cs. calls cs w; either = either-way }

@@ -15,7 +15,7 @@ use Rattle.job.specs.Limits as limit
 use Rattle.job.specs.declared.refusal.Refusal.{Refusal}
 use Rattle.job.specs.declared.refusal.Refusal.the-variants.{Full, SmallTray, OutOfTurn}
 use Rattle.lone.specs.Lone.{fromFirst}
-use Rattle.lone.specs.Forest.{Machine, State, Entry, openRing, closedRing, at, allTaken, allCut}
+use Rattle.lone.specs.Forest.{Machine, State, Entry, openRing, closedRing, ok, full, at, allTaken, allCut}
 use Rattle.lone.specs.Forest as forest
 use Rattle.lone.specs.Order.{Alone, NoneOrDone, AllDone, TakesPast}
 use Rattle.lone.specs.Plane.{plane, loneRing}
@@ -29,6 +29,7 @@ use Rattle.audit.specs.declared.Verdict.the-variants as verdict
 use Rattle.audit.specs.Tests.{testsOf}
 use Rattle.acts.specs.Opened.{Fresh, records}
 use Rattle.acts.specs.Rep.{numberOf}
+use Rattle.acts.specs.Step.{outcome}
 use Rattle.paths.specs.declared.Written.the-variants as written
 use Rattle.paths.specs.Path.{reverseSolution}
 use Rattle.paths.specs.Tray.{tagOf, fields, padded}
@@ -48,7 +49,7 @@ Lone = Entry (Ring Point) (List Point)
 -- ---- a work space as opening leaves it
 
 -- long enough, sound, and each record at its start: "opening sets each closed ring .. at its start"
-pub record AsOpened (w : List ℕ) : Type 0 where
+pub record OpeningLeft (w : List ℕ) : Type 0 where
   pub long : LENGTH ≤ length w
   pub sound : Sound (view w)
   pub fresh : (i : ℕ) → i < recs (view w) → Fresh (view w) i
@@ -135,12 +136,25 @@ module _ (w : List ℕ) where
   abbrev pub NeverEnds : Type 0
   NeverEnds = (is : List ℕ) → ¬ (anyLive (view (runOf w is)) ≡ false)
 
+  -- finishing ends: it is the list that steps the rings in rising order, and all are done
+  pub record Ends : Type 0 where
+    pub words : List ℕ
+    pub finished : finishRings w ≡ outcome ok words
+    pub rising : words ≡ runOf w (inRising (enough limit.POINTS) limit.RECORDS 0)
+    pub all-done : anyLive (view words) ≡ false
+    pub fits : Fits
+
+  -- finishing is refused as full
+  pub record Overflows : Type 0 where
+    pub words : List ℕ
+    pub refused : finishRings w ≡ outcome full words
+    pub never : NeverEnds
+
   pub record Demand3 : Type 0 where
     -- the bullets, after every list
     pub after-every-list : (is : List ℕ) → After is
     -- calls that change nothing there may come between
     pub calls-between : (cs : List Call) → wordsAfter w cs ≡ runOf w (stepsIn cs)
-    -- finishing is the list that steps the rings in rising order
-    pub finishing : finishRings w ≡ runOf w (inRising (enough limit.POINTS) limit.RECORDS 0)
-    -- either it ends in all done, no list has a step refused as full, and each can be carried on until all are done; or none can be carried on so far
-    pub either : ((anyLive (view (finishRings w)) ≡ false) × Fits) ⊎ NeverEnds
+    -- either finishing ends in all done, no list has a step refused as full, and each can be carried on until all are done; or finishing is refused as
+    -- full, and no list can be carried on so far
+    pub either : Ends ⊎ Overflows
