@@ -7,3 +7,4 @@ pub mod Runs
 pub mod Heads
 pub mod Telling
 pub mod Examples
+pub mod Trays

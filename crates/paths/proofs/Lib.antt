@@ -9,5 +9,6 @@ pub mod Parts
 pub mod Fields
 pub mod Filling
 pub mod Bound
+pub mod Tables
 pub mod Laying
 pub mod Writing
