@@ -8,3 +8,4 @@ pub mod Heads
 pub mod Telling
 pub mod Examples
 pub mod Trays
+pub mod Room
