@@ -9,3 +9,4 @@ pub mod Telling
 pub mod Examples
 pub mod Trays
 pub mod Room
+pub mod Answers
