@@ -1,2 +1,5 @@
--- Laws of opening: rings at their start.
+-- Laws of opening: rings at their start, what a stage gives the next, the stages put together, what holds after an accepted opening.
 pub mod Starting
+pub mod Passing
+pub mod Staging
+pub mod Accepted

@@ -15,12 +15,12 @@ use Rattle.rings.proofs.Counting.{sum-same}
 use Rattle.store.specs.Field.{PointCol, Count, pt, rc, ct, X, Y, NEXT, PREV, REC, FLAGS, OWNER, FIRST, MARK, PRESENT, START, CUT, POINTS, RECORDS, NONE, LENGTH}
 use Rattle.store.specs.Words.{Store, view, onStore}
 use Rattle.store.specs.Named.{firstOf, recordsOf}
-use Rattle.store.specs.Sound.{pts, recs, ringless, ringAt, isOpen, total, PointIn, Good, Sound}
+use Rattle.store.specs.Sound.{pts, recs, ringless, ringAt, isOpen, total, Sound}
 use Rattle.store.proofs.Storing.{length-writes, view-writes, hit, miss}
 use Rattle.store.proofs.Soundness.{first-on}
+use Rattle.joins.specs.Resolve.{Resolves}
 use Rattle.joins.specs.Resolved.{Resolved, Ready}
-use Rattle.joins.proofs.Homes.{table}
-use Rattle.joins.proofs.Resolving.{res-low}
+use Rattle.joins.proofs.Tested.{resolved-sound}
 use Rattle.acts.specs.Opened.{Fresh}
 use Rattle.opening.specs.Start.{startWrites, startRing, startTo, startRings}
 
@@ -110,7 +110,7 @@ module _ (s s′ : Store) (b : Begun s s′ (recs s)) where
   pub pts-same : pts s′ ≡ pts s
   pts-same = ap (λ (c : ℕ → ℕ). c 0) (b .counts POINTS)
 
-  first-same : (i : ℕ) → s′ (rc FIRST) i ≡ s (rc FIRST) i
+  pub first-same : (i : ℕ) → s′ (rc FIRST) i ≡ s (rc FIRST) i
   first-same i = ap (λ (c : ℕ → ℕ). c i) (b .firsts)
 
   pub ring-same : (i : ℕ) → ringAt s′ i ≡ ringAt s i
@@ -129,35 +129,37 @@ module _ (s s′ : Store) (b : Begun s s′ (recs s)) where
   column f k = ap (λ (c : ℕ → ℕ). c k) (b .points f)
 
   module _ (o : Resolved s) where
-    point-in : (i k : ℕ) → i < recs s → 0 < occ k (ringAt s i) → PointIn s′ k
-    point-in i k h p =
-        let l = o .whole i h .below k p in
-        record {
-          below = omega (arith, pts-same, l);
-          x-in = rw (column X k) (o .x-in k l);
-          y-in = rw (column Y k) (o .y-in k l);
-          record-in = rw (column REC k, recs-same) (res-low s (s (pt REC) k) i (o .home i k h p));
-        }
-
-    good : (i : ℕ) → i < recs s → Good s′ i
-    good i h =
-        record {
-          linked = rw (ring-same i, b .points NEXT, b .points PREV) (o .whole i h .linked);
-          points-in = λ k p. point-in i k h (rw (ring-same i) at p);
-          owner = rw (b .owners, recs-same) (o .owner-in i h);
-          meant = λ c. omega (arith, b .marks i h);
-          going = λ c d. rw (b .presents i h, ring-same i) (first-on s i (sym (ringless-same i) ∙ c .ringed));
-        }
-
-    -- the tests of a handed work space pass
-    pub sound : Sound s′
-    sound =
+    -- every ring is whole, and its points resolve as they did
+    pub resolved : Resolved s′
+    resolved =
         record {
           few-points = omega (arith, pts-same, o .few-points);
           few-records = omega (arith, recs-same, o .few-records);
-          good = λ i h. good i (omega (arith, recs-same));
-          once = λ k. rw (total-same k) (table s o .once k);
+          whole = λ i h. rw (ring-same i, b .points NEXT, b .points PREV, pts-same) (o .whole i (omega (arith, recs-same)));
+          home = λ i k h p. home i k (omega (arith, recs-same)) (rw (ring-same i) at p);
+          placed = λ k h. rw (total-same k) (o .placed k (omega (arith, pts-same)));
+          x-in = λ k h. rw (column X k) (o .x-in k (omega (arith, pts-same)));
+          y-in = λ k h. rw (column Y k) (o .y-in k (omega (arith, pts-same)));
+          owner-in = λ i h. rw (b .owners, recs-same) (o .owner-in i (omega (arith, recs-same)));
         }
+      where
+        home : (i k : ℕ) → i < recs s → 0 < occ k (ringAt s i) → Resolves s′ (s′ (pt REC) k) i
+        home i k h p =
+            let t = o .home i k h p in
+            record {
+              via = t .via;
+              path = rw (column REC k, b .firsts, b .owners) (t .path);
+              low = rw recs-same (t .low);
+              real = omega (arith, recs-same, t .real);
+              some = λ z. t .some (sym (first-same i) ∙ z);
+            }
+
+    -- so the tests of a handed work space pass
+    pub sound : Sound s′
+    sound =
+        resolved-sound s′ resolved
+        (λ i c. omega (arith, b .marks i (omega (arith, c .known, recs-same))))
+        (λ i c d. rw (b .presents i (omega (arith, c .known, recs-same)), ring-same i) (first-on s i (sym (ringless-same i) ∙ c .ringed)))
 
     -- every ring is at its start
     pub fresh : (i : ℕ) → i < recs s′ → Fresh s′ i
@@ -179,6 +181,9 @@ module _ (w : List ℕ) (r : Ready w) where
   pub start-long : LENGTH ≤ length (startRings w)
   unfolding startRings
   start-long = omega (arith, length-start w (recordsOf w), r .long)
+
+  pub start-ready : Ready (startRings w)
+  start-ready = record { long = start-long; resolved = resolved (view w) (view (startRings w)) begun-all (r .resolved) }
 
   pub start-sound : Sound (view (startRings w))
   start-sound = sound (view w) (view (startRings w)) begun-all (r .resolved)

@@ -1,5 +1,6 @@
 // Every ring at its start.
 use store::Col;
+use store::NONE;
 use store::get;
 use store::set;
 ghost use mathlib.Core.Path.{_≡_};
@@ -9,8 +10,6 @@ ghost use Rattle.job.specs.Limits as limit;
 ghost use Rattle.store.specs.Field.{LENGTH};
 ghost use Rattle.store.specs.Named.{recordsOf};
 ghost use Rattle.opening.specs.Start.{startRing, startRings};
-
-const NONE: usize = 65535;
 
 // Record i is at its start: the validity test is due, its first point is its present place, and it was cut from none.
 fn start_ring(w: &mut [u32], i: usize)

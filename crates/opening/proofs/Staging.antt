@@ -1,0 +1,76 @@
+-- The stages put together: each law's premises are what the calls ensure, and how their answers came out.
+use Prim.Native.Nat.{ℕ, _≤_, _<_}
+use mathlib.Core.Path.{_≡_, refl, ap, _∙_, sym}
+use mathlib.Core.List.{List}
+use native.Mathlib.Omega.{arith}
+use lib.ListN.{length, replicate, length-replicate}
+use borrow.Author.Tests.{lt-ltb, le-ltb}
+use Rattle.job.specs.declared.Job.{Job}
+use Rattle.job.specs.declared.refusal.Refusal.{Refusal}
+use Rattle.job.specs.declared.refusal.Refusal.the-variants as refusal
+use Rattle.store.specs.Field.{LENGTH}
+use Rattle.reading.specs.declared.fill.Outcome.{Outcome}
+use Rattle.reading.specs.declared.fill.Outcome.the-variants as outcome
+use Rattle.reading.specs.Fill as fill
+use Rattle.accepting.specs.Accept.{acceptOf}
+use Rattle.segments.specs.declared.pairs.Converted.{Converted}
+use Rattle.segments.specs.declared.pairs.Converted.the-variants as converted
+use Rattle.segments.specs.Make.{made, convertHorzSegsToJoins}
+use Rattle.joins.specs.declared.Joined.{Joined}
+use Rattle.joins.specs.declared.Joined.the-variants as joined
+use Rattle.joins.specs.Join as join
+use Rattle.joins.specs.Join.{processHorzJoins}
+use Rattle.opening.specs.declared.open.Opened.{Opened}
+use Rattle.opening.specs.declared.open.Opened.the-variants.{Accepted, Refused}
+use Rattle.opening.specs.Start.{startRings}
+use Rattle.opening.specs.Open.{End, end, afterJoins, afterSegments, stagesOf, settled, openOf}
+
+module _ (k : ℕ) (js w x : List ℕ) (t : Joined) (e : join.end t x ≡ processHorzJoins k js w) where
+  pub joins-done : (y : List ℕ) → t ≡ joined.Done → y ≡ startRings x → end Accepted y ≡ afterJoins (processHorzJoins k js w)
+  joins-done y f d = rw (d, ← e, f)
+
+  pub joins-knot : t ≡ joined.Knot → end (Refused refusal.Knot) x ≡ afterJoins (processHorzJoins k js w)
+  joins-knot f = rw (← e, f)
+
+  pub joins-full : t ≡ joined.Full → end (Refused refusal.Full) x ≡ afterJoins (processHorzJoins k js w)
+  joins-full f = rw (← e, f)
+
+module _ (w ss : List ℕ) (m : ℕ) (js : List ℕ) (n : ℕ) (c : Converted) (x ks : List ℕ) (e : made c x ks ≡ convertHorzSegsToJoins w m ss js n) where
+  pub segments-done : (k : ℕ) (r : Opened) (y : List ℕ) → c ≡ converted.Joins k → end r y ≡ afterJoins (processHorzJoins k ks x) → end r y ≡ afterSegments (convertHorzSegsToJoins w m ss js n)
+  segments-done k r y f d = d ∙ rw (← e, f)
+
+  pub segments-full : c ≡ converted.Full → end (Refused refusal.Full) x ≡ afterSegments (convertHorzSegsToJoins w m ss js n)
+  segments-full f = rw (← e, f)
+
+module _ (bytes w v ts ks : List ℕ) (o : Outcome) (e : fill.end o v ts ks ≡ acceptOf bytes w (replicate 256 0) (replicate 2560 0)) where
+  pub rows-passed : (j : Job) (r : Opened) (y : List ℕ) → o ≡ outcome.State j → end r y ≡ afterSegments (convertHorzSegsToJoins v (j .segments) ts ks (j .joins)) → end r y ≡ stagesOf bytes w
+  unfolding stagesOf
+  rows-passed j r y f d = d ∙ rw (← e, f)
+
+  pub rows-refused : (x : Refusal) → o ≡ outcome.Refused x → end (Refused x) v ≡ stagesOf bytes w
+  unfolding stagesOf
+  rows-refused x f = rw (← e, f)
+
+module _ (a : Opened) (w : List ℕ) where
+  pub settle-accepted : a ≡ Accepted → end Accepted w ≡ settled (length w) (end a w)
+  settle-accepted e = rw e
+
+  pub settle-refused : (x : Refusal) (y : List ℕ) → a ≡ Refused x → y ≡ replicate (length w) 0 → end (Refused x) y ≡ settled (length w) (end a w)
+  settle-refused x y e f = rw (e, f)
+
+module _ (bytes w : List ℕ) (n : ℕ) (e : w ≡ replicate n 0) where
+  long : length w ≡ n
+  long = ap length e ∙ length-replicate {A = ℕ} n 0
+
+  pub too-short : length w < LENGTH → end (Refused refusal.Full) w ≡ openOf bytes n
+  unfolding openOf
+  too-short h =
+      let l = long in
+      rw (lt-ltb n LENGTH (omega arith), ← e)
+
+  pub opened : (x y : List ℕ) (a r : Opened) → LENGTH ≤ length w → length x ≡ length w → end a x ≡ stagesOf bytes w → end r y ≡ settled (length x) (end a x) → end r y ≡ openOf bytes n
+  unfolding openOf
+  opened x y a r h k f d =
+      let l = long in
+      let s : length x ≡ n = omega arith in
+      rw (le-ltb n LENGTH (omega arith), ← e, ← f, ← s) d

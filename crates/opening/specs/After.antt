@@ -1,0 +1,36 @@
+-- What holds after an accepted opening.
+use Prim.Native.Nat.{ℕ, _≤_, _<_}
+use mathlib.Core.Path.{_≡_}
+use mathlib.Core.Bool.{true, false}
+use mathlib.Core.List.{List}
+use Rattle.store.specs.Field.{pt, rc, X, Y, FLAGS}
+use Rattle.store.specs.Words.{Store, view}
+use Rattle.store.specs.Named.{presentOf, firstOf, recordsOf}
+use Rattle.store.specs.Sound.{pts, recs, ringAt, isOpen, Sound}
+use Rattle.audit.specs.declared.Verdict.the-variants as audit
+use Rattle.audit.specs.Tests.{testsOf}
+use Rattle.joins.specs.Resolved.{Ready}
+use Rattle.acts.specs.Opened.{Fresh}
+
+-- of the work space that it leaves
+pub record AfterOpening (w : List ℕ) : Type 0 where
+  -- counts and coordinates within the limits, every point on one ring, each ring's points resolving to its own record
+  pub ready : Ready w
+  -- rings linked both ways, no two records sharing one
+  pub sound : Sound (view w)
+  -- "a work space that came from opening .. passes all these tests"
+  pub tests : testsOf w ≡ audit.Passed
+  -- "at its start, the validity test", cut from none
+  pub fresh : (i : ℕ) → i < recordsOf w → Fresh (view w) i
+  -- "with its first point as present place"
+  pub present : (i : ℕ) → i < recordsOf w → presentOf w i ≡ firstOf w i
+
+-- of the job's open rings, s being the store as the job was read and u as it is left: they are as given, point for point, and no record made since is open
+pub record OpenAsGiven (s u : Store) : Type 0 where
+  pub records : recs s ≤ recs u
+  pub points : pts s ≤ pts u
+  pub flags : (i : ℕ) → i < recs s → u (rc FLAGS) i ≡ s (rc FLAGS) i
+  pub new : (i : ℕ) → recs s ≤ i → i < recs u → isOpen u i ≡ false
+  pub rings : (i : ℕ) → i < recs s → isOpen s i ≡ true → ringAt u i ≡ ringAt s i
+  pub xs : (k : ℕ) → k < pts s → u (pt X) k ≡ s (pt X) k
+  pub ys : (k : ℕ) → k < pts s → u (pt Y) k ≡ s (pt Y) k

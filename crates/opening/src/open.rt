@@ -1,0 +1,95 @@
+// Opening a job: its stages, one function for each, and zeros on a refusal.
+use crate::clear::clear;
+use crate::start::start_rings;
+use accepting::accept;
+use job::Job;
+use job::refusal::Refusal;
+use joins::Joined;
+use joins::process_horz_joins;
+use reading::fill::Outcome;
+use segments::convert::convert_horz_segs_to_joins;
+use segments::pairs::Converted;
+ghost use mathlib.Core.Path.{_≡_};
+ghost use Prim.Native.Nat.{ℕ, _≤_};
+ghost use lib.ListN.{length};
+ghost use Rattle.store.specs.Field.{LENGTH};
+ghost use Rattle.segments.specs.Make.{convertHorzSegsToJoins, Converting};
+ghost use Rattle.joins.specs.Join.{processHorzJoins};
+ghost use Rattle.joins.specs.Needs.{Joins};
+ghost use Rattle.opening.specs.Open.{end, afterJoins, afterSegments, stagesOf, settled, openOf};
+
+// What opening answers.
+pub enum Opened {
+    Accepted,
+    Refused(Refusal),
+}
+
+// The fixed length of a work space, in words.
+pub const LENGTH: usize = 16 + Job::POINTS * 5 + Job::RECORDS * 7;
+
+// k joins are made, and every ring is set at its start.
+fn make_joins(work: &mut [u32], joins: &[u32], k: usize) -> Opened
+    requires { ⌜ Joins (now work) k (now joins) ⌝ }
+    ensures { λ r. ⌜ end r (now (work .exit)) ≡ afterJoins (processHorzJoins k (now (joins .entry)) (now (work .entry))) ⌝ }
+{
+    let t = process_horz_joins(work, joins, k);
+    match t {
+        Joined::Done => {
+            start_rings(work);
+            Opened::Accepted
+        }
+        Joined::Knot => Opened::Refused(Refusal::Knot),
+        Joined::Full => Opened::Refused(Refusal::Full),
+    }
+}
+
+// m segments become joins, after the job's own n.
+fn convert(work: &mut [u32], segments: &[u32], m: usize, joins: &mut [u32], n: usize) -> Opened
+    requires { ⌜ Converting (now work) (now segments) m (now joins) n ⌝ }
+    ensures { λ r. ⌜ end r (now (work .exit)) ≡ afterSegments (convertHorzSegsToJoins (now (work .entry)) m (now (segments .entry)) (now (joins .entry)) n) ⌝ }
+{
+    let c = convert_horz_segs_to_joins(work, segments, m, joins, n);
+    match c {
+        Converted::Joins(k) => make_joins(work, joins, k),
+        Converted::Full => Opened::Refused(Refusal::Full),
+    }
+}
+
+// Rows 1 to 8, and then the joins. Segments and joins stand in local arrays.
+fn stages(bytes: &[u8], work: &mut [u32]) -> Opened
+    requires { ⌜ LENGTH ≤ length (now work) ⌝ }
+    ensures { λ r. ⌜ end r (now (work .exit)) ≡ stagesOf (now (bytes .entry)) (now (work .entry)) ⌝ }
+{
+    let mut segments = [0u32; 256];
+    let mut joins = [0u32; 2560];
+    let o = accept(bytes, work, &mut segments, &mut joins);
+    match o {
+        Outcome::State(j) => convert(work, &segments, j.segments, &mut joins, j.joins),
+        Outcome::Refused(x) => Opened::Refused(x),
+    }
+}
+
+// A refusal leaves zeros only.
+fn settle(a: Opened, work: &mut [u32]) -> Opened
+    ensures { λ r. ⌜ end r (now (work .exit)) ≡ settled (length (now (work .entry))) (end a (now (work .entry))) ⌝ }
+{
+    match a {
+        Opened::Accepted => Opened::Accepted,
+        Opened::Refused(x) => {
+            clear(work);
+            Opened::Refused(x)
+        }
+    }
+}
+
+// Opens a job: it is read into the work space, tested, and joined; every ring is then at its start. The whole slice is zeroed first.
+pub fn open(bytes: &[u8], work: &mut [u32]) -> Opened
+    ensures { λ r. ⌜ end r (now (work .exit)) ≡ openOf (now (bytes .entry)) (length (now (work .entry))) ⌝ }
+{
+    clear(work);
+    if work.len() < LENGTH {
+        return Opened::Refused(Refusal::Full);
+    }
+    let a = stages(bytes, work);
+    settle(a, work)
+}
