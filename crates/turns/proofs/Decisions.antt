@@ -17,21 +17,27 @@ use Rattle.rings.specs.Progress as rings
 use Rattle.rings.specs.Walk.{walk}
 use Rattle.geometry.specs.declared.Point.{Point}
 use Rattle.geometry.specs.Plane.{samePoint, isVerySmallTriangle, removable, segmentsIntersect, areaTriangle, areaOutpt}
-use Rattle.geometry.specs.Crossing.{Crossed}
+use Rattle.geometry.specs.declared.EdgePair.{EdgePair}
+use Rattle.geometry.specs.declared.Crossing.{Crossing}
+use Rattle.geometry.specs.Crossing.{edgePair, pointOf, Crossed}
+use Rattle.geometry.specs.Floats.{divisorF, alongF, fractionF, pairIntersectsF, Meets}
+use Rattle.geometry.proofs.Edges.{pair-of}
+use Rattle.geometry.proofs.Crossings.{crossed-of, meets-of, point-crossing}
+use Rattle.turns.specs.declared.Corner.{Corner}
 use Rattle.lone.specs.Ring.{Act, stay, discard, dropPoint, moveOn, toFirst, double, cut}
 use Rattle.lone.specs.Lone.{isValidClosedPath, tooSmall}
 use Rattle.lone.specs.Plane.{plane}
 use Rattle.store.specs.Field.{pt, rc, ct, NEXT, PREV, FIRST, PRESENT, START, SETTINGS}
 use Rattle.store.specs.Words.{view, cell}
 use Rattle.store.specs.Sound.{dueAt}
-use Rattle.store.specs.Value.{pointOf}
+use Rattle.store.specs.Value as value
 use Rattle.walks.specs.Ring.{OnRing, MaybeOnRing, valuesFrom, valuesOf}
 use Rattle.turns.specs.declared.Due.{Due}
 use Rattle.turns.specs.declared.Due.the-variants.{Validity, Removal, Triangle, Split, Done}
 use Rattle.turns.specs.Code.{dueIs}
 use Rattle.turns.specs.Form.{raised, preserves, geometryOf}
-use Rattle.turns.specs.Reads.{Found, Valued, Going, Three, Four}
-use Rattle.turns.specs.Decide.{keepsBy, smallAt, removeAt, validWithout, removalAt, validityAt, triangleAt, threeFrom, threeLeft, dueOn, ringFrom, crossAt, cutAt, splitOpAt, crossedAt, splitAt, decideDue, decideAt}
+use Rattle.turns.specs.Reads.{Found, Valued, Going, Three, Four, Cornered, CornerOf}
+use Rattle.turns.specs.Decide.{keepsBy, smallAt, removeAt, validWithout, removalAt, validityAt, triangleAt, threeFrom, threeLeft, dueOn, ringFrom, cutAt, splitOpAt, crossedAt, splitAt, decideDue, decideAt}
 use Rattle.turns.proofs.Reading.{low, found}
 use Rattle.turns.proofs.Sizes.{ring-fits}
 
@@ -51,9 +57,6 @@ three-of w j k l a b c f g h = record { one = f .on; two = g .on; three = h .on 
 pub four-of : (w : List ℕ) (j k l m a b c d : ℕ) → Found w j a → Found w k b → Found w l c → Found w m d → Four w a b c d
 four-of w j k l m a b c d f g h e = record { one = f .on; two = g .on; three = h .on; four = e .on }
 
-pub four-next : (w : List ℕ) (a b c d k e : ℕ) → Four w a b c d → Found w k e → Four w a b d e
-four-next w a b c d k e q f = record { one = q .one; two = q .two; three = q .four; four = f .on }
-
 -- ---- the validity test
 valid-any : (k : Bool) (c : List Point) → isValidClosedPath (plane true) c ≡ isValidClosedPath (plane k) c
 valid-any k [] = refl
@@ -66,8 +69,8 @@ module _ (w : List ℕ) (i f : ℕ) (b : Bool) (F : Found w (cell (rc FIRST) w i
   valid-at : isValidClosedPath (geometryOf (view w)) (ringFrom (raised .of) (geometryOf (view w)) (view w) (cell (rc FIRST) w i)) ≡ b
   valid-at =
       let n : eqb f 65535 ≡ false = ne-eqb f 65535 (λ z. omega (arith, F .low)) in
-      let v : valuesOf w f ≡ map (pointOf w) (walk (view w (pt NEXT)) (cell (rc FIRST) w i)) = rw n (ap (λ (k : ℕ). map (pointOf w) (walk (view w (pt NEXT)) k)) (F .is)) in
-      sym (e ∙ ap (isValidClosedPath (plane true)) v ∙ valid-any (preserves (view w)) (map (pointOf w) (walk (view w (pt NEXT)) (cell (rc FIRST) w i))))
+      let v : valuesOf w f ≡ map (value.pointOf w) (walk (view w (pt NEXT)) (cell (rc FIRST) w i)) = rw n (ap (λ (k : ℕ). map (value.pointOf w) (walk (view w (pt NEXT)) k)) (F .is)) in
+      sym (e ∙ ap (isValidClosedPath (plane true)) v ∙ valid-any (preserves (view w)) (map (value.pointOf w) (walk (view w (pt NEXT)) (cell (rc FIRST) w i))))
 
   pub is-valid : b ≡ true → _≡_ {A = Act Point} (toFirst removal) (validityAt (raised .of) (geometryOf (view w)) (view w) i)
   unfolding validityAt
@@ -155,9 +158,23 @@ module _ (w : List ℕ) (i k f : ℕ) (ef : f ≡ cell (rc FIRST) w i) where
     pub goes-on : k ≢ s → split ≡ dueOn (view w) i k
     goes-on h = rw (not-first, ne-eqb k (cell (rc START) w i) (λ z. h (z ∙ sym es)))
 
-pub crosses-at : (w : List ℕ) (a b c d : ℕ) (t : Bool) (p q r s : Point) → Valued w a p → Valued w b q → Valued w c r → Valued w d s → t ≡ segmentsIntersect p q r s
-    → t ≡ crossAt (raised .of) (geometryOf (view w)) (view w) a b c d
-crosses-at w a b c d t p q r s A B C D e = rw (e, A .is, B .is, C .is, D .is)
+pub corner-of : (w : List ℕ) (p x y z : ℕ) (a b c d : Point) (e : EdgePair) → Valued w p a → Valued w x b → Valued w y c → Valued w z d → e ≡ edgePair a b c d → CornerOf w p x y z (record { prev = a; pt = b; next = c; after = d; pair = e })
+corner-of w p x y z a b c d e A B C D q =
+    record {
+      corner = record { prev-in = A .in-table; pt-in = B .in-table; next-in = C .in-table; after-in = D .in-table; pair-is = q };
+      prev-is = A .is;
+      pt-is = B .is;
+      next-is = C .is;
+      after-is = D .is;
+    }
+
+-- the crossing, by its kind
+pub meets : (c : Corner) (f : Crossing) → Cornered c → f ≡ fractionF (alongF (c .prev .x) (c .prev .y) (c .next .x) (c .next .y) (c .pair .dx2) (c .pair .dy2)) (divisorF (c .pair)) → Meets (c .pair) (c .prev) (c .pt) f
+meets c f k e = meets-of (k .prev-in) (k .pt-in) (k .next-in) (k .after-in) (k .pair-is) e
+
+pub crossed : (c : Corner) (f : Crossing) (r : Point) → Cornered c → f ≡ fractionF (alongF (c .prev .x) (c .prev .y) (c .next .x) (c .next .y) (c .pair .dx2) (c .pair .dy2)) (divisorF (c .pair))
+    → r ≡ pointOf (c .prev) (c .pt) (c .prev) f → Crossed (c .prev) (c .pt) (c .next) (c .after) r
+crossed c f r k e h = crossed-of (c .next) (c .after) (k .prev-in) (k .pt-in) (point-crossing (c .prev) (k .prev-in) (k .pt-in) (k .next-in) (k .after-in) (k .pair-is) e h)
 
 pub put-is : (ip prev z : Point) (a b : Bool) → a ≡ samePoint ip prev → b ≡ samePoint ip z → not (a || b) ≡ not (samePoint ip prev || samePoint ip z)
 put-is ip prev z a b e f = rw (e, f)
@@ -211,42 +228,50 @@ left-done t u e h = rw (sym e ∙ h)
 pub left-more : (t u : Bool) → t ≡ u → t ≡ false → split ≡ cond u done split
 left-more t u e h = rw (sym e ∙ h)
 
-pub cut-is : (w : List ℕ) (p x y z : ℕ) (area1 : ℤ) (a b c d ip : Point) (put off : Bool) (due : rings.Due) → Valued w p a → Valued w x b → Valued w y c → Valued w z d → Crossed a b c d ip
-    → SFits w64 area1 → put ≡ not (samePoint ip a || samePoint ip d) → off ≡ keepsBy (toZ w64 (ofZ w64 area1)) (areaTriangle ip b c) → due ≡ cond (threeLeft (view w) put x) done split
-    → cut ip put off due ≡ cutAt (raised .of) (geometryOf (view w)) (view w) area1 p x y z
+pub cut-is : (w : List ℕ) (x : ℕ) (k : Corner) (area1 : ℤ) (ip : Point) (put off : Bool) (due : rings.Due) → SFits w64 area1 → Crossed (k .prev) (k .pt) (k .next) (k .after) ip
+    → put ≡ not (samePoint ip (k .prev) || samePoint ip (k .after)) → off ≡ keepsBy (toZ w64 (ofZ w64 area1)) (areaTriangle ip (k .pt) (k .next)) → due ≡ cond (threeLeft (view w) put x) done split
+    → cut ip put off due ≡ cutAt (raised .of) (geometryOf (view w)) (view w) area1 x (k .prev) (k .pt) (k .next) (k .after)
 unfolding cutAt
-cut-is w p x y z area1 a b c d ip put off due A B C D I f ep eo ed = rw (ed, eo, toZ-ofZ f, ep, I .is, A .is, B .is, C .is, D .is)
+cut-is w x k area1 ip put off due f I ep eo ed = rw (ed, eo, toZ-ofZ f, ep, I .is)
 
-module _ (w : List ℕ) (p x y z : ℕ) (area1 : ℤ) (n : ℕ) (q : Four w p x y z) (ea : area1 ≡ areaOutpt (valuesFrom w p)) (en : n ≡ natAbs (toZ w64 (ofZ w64 area1))) where
+module _ (w : List ℕ) (p x : ℕ) (k : Corner) (area1 : ℤ) (n : ℕ) (o : OnRing w p) (ea : area1 ≡ areaOutpt (valuesFrom w p)) (en : n ≡ natAbs (toZ w64 (ofZ w64 area1))) where
   area-is : toZ w64 (ofZ w64 area1) ≡ areaOutpt (valuesFrom w p)
-  area-is = rw ea (toZ-ofZ (ring-fits w p (q .one)))
+  area-is = rw ea (toZ-ofZ (ring-fits w p o))
 
-  pub too-small : n < 4 → discard ≡ splitOpAt (raised .of) (geometryOf (view w)) (view w) p x y z
+  pub too-small : n < 4 → discard ≡ splitOpAt (raised .of) (geometryOf (view w)) (view w) p x (k .prev) (k .pt) (k .next) (k .after)
   unfolding splitOpAt
   too-small h = rw (lt-ltb (natAbs (areaOutpt (valuesFrom w p))) 4 (rw (← area-is, ← en) h))
 
-  pub large : (r : Act Point) → 4 ≤ n → r ≡ cutAt (raised .of) (geometryOf (view w)) (view w) (toZ w64 (ofZ w64 area1)) p x y z → r ≡ splitOpAt (raised .of) (geometryOf (view w)) (view w) p x y z
+  pub large : (r : Act Point) → 4 ≤ n → r ≡ cutAt (raised .of) (geometryOf (view w)) (view w) (toZ w64 (ofZ w64 area1)) x (k .prev) (k .pt) (k .next) (k .after)
+      → r ≡ splitOpAt (raised .of) (geometryOf (view w)) (view w) p x (k .prev) (k .pt) (k .next) (k .after)
   unfolding splitOpAt
-  large r h e = rw (le-ltb (natAbs (areaOutpt (valuesFrom w p))) 4 (rw (← area-is, ← en) h)) (e ∙ ap (λ (k : ℤ). cutAt (raised .of) (geometryOf (view w)) (view w) k p x y z) area-is)
+  large r h e = rw (le-ltb (natAbs (areaOutpt (valuesFrom w p))) 4 (rw (← area-is, ← en) h)) (e ∙ ap (λ (m : ℤ). cutAt (raised .of) (geometryOf (view w)) (view w) m x (k .prev) (k .pt) (k .next) (k .after)) area-is)
 
-module _ (w : List ℕ) (i p x y z u : ℕ) (t : Bool) (U : Found w (cell (pt NEXT) w z) u) (et : t ≡ crossAt (raised .of) (geometryOf (view w)) (view w) p x z u) where
-  pub doubles : (v : Point) (d : rings.Due) → t ≡ true → Valued w z v → d ≡ dueOn (view w) i x → double v d ≡ crossedAt (raised .of) (geometryOf (view w)) (view w) i p x y z
+module _ (w : List ℕ) (i p x z u : ℕ) (k : Corner) (v : Point) (t : Bool) (U : Found w (cell (pt NEXT) w z) u) (W : Valued w u v) (et : t ≡ segmentsIntersect (k .prev) (k .pt) (k .after) v) where
+  twice-is : t ≡ segmentsIntersect (k .prev) (k .pt) (k .after) (value.pointOf w (cell (pt NEXT) w z))
+  twice-is = et ∙ ap (segmentsIntersect (k .prev) (k .pt) (k .after)) (W .is ∙ ap (value.pointOf w) (U .is))
+
+  pub doubles : (d : rings.Due) → t ≡ true → d ≡ dueOn (view w) i x → double (k .after) d ≡ crossedAt (raised .of) (geometryOf (view w)) (view w) i p x z (k .prev) (k .pt) (k .next) (k .after)
   unfolding crossedAt
-  doubles v d h Q ed = rw (← U .is) (rw (sym et ∙ h, Q .is, ed))
+  doubles d h ed = rw (sym twice-is ∙ h, ed)
 
-  pub splits : (r : Act Point) → t ≡ false → r ≡ splitOpAt (raised .of) (geometryOf (view w)) (view w) p x y z → r ≡ crossedAt (raised .of) (geometryOf (view w)) (view w) i p x y z
+  pub splits : (r : Act Point) → t ≡ false → r ≡ splitOpAt (raised .of) (geometryOf (view w)) (view w) p x (k .prev) (k .pt) (k .next) (k .after)
+      → r ≡ crossedAt (raised .of) (geometryOf (view w)) (view w) i p x z (k .prev) (k .pt) (k .next) (k .after)
   unfolding crossedAt
-  splits r h e = rw (← U .is) (rw (sym et ∙ h) e)
+  splits r h e = rw (sym twice-is ∙ h) e
 
-module _ (w : List ℕ) (i p x y z : ℕ) (t : Bool) (X : Found w (cell (rc PRESENT) w i) x) (Y : Found w (cell (pt NEXT) w x) y) (Z : Found w (cell (pt NEXT) w y) z) (Q : Found w (cell (pt PREV) w x) p)
-    (et : t ≡ crossAt (raised .of) (geometryOf (view w)) (view w) p x y z) where
-  pub crosses : (r : Act Point) → t ≡ true → r ≡ crossedAt (raised .of) (geometryOf (view w)) (view w) i p x y z → r ≡ splitAt (raised .of) (geometryOf (view w)) (view w) i
+module _ (w : List ℕ) (i p x y z : ℕ) (k : Corner) (t : Bool) (X : Found w (cell (rc PRESENT) w i) x) (Y : Found w (cell (pt NEXT) w x) y) (Z : Found w (cell (pt NEXT) w y) z) (Q : Found w (cell (pt PREV) w x) p)
+    (K : CornerOf w p x y z k) (et : t ≡ pairIntersectsF (k .pair) (k .prev) (k .next)) where
+  hit-is : t ≡ segmentsIntersect (value.pointOf w p) (value.pointOf w x) (value.pointOf w y) (value.pointOf w z)
+  hit-is = rw (← K .prev-is, ← K .pt-is, ← K .next-is, ← K .after-is) (et ∙ pair-of (K .corner .prev-in) (K .corner .pt-in) (K .corner .next-in) (K .corner .after-in) (K .corner .pair-is))
+
+  pub crosses : (r : Act Point) → t ≡ true → r ≡ crossedAt (raised .of) (geometryOf (view w)) (view w) i p x z (k .prev) (k .pt) (k .next) (k .after) → r ≡ splitAt (raised .of) (geometryOf (view w)) (view w) i
   unfolding splitAt
-  crosses r h e = rw (← X .is) (rw (← Y .is, ← Q .is) (rw (← Z .is) (rw (sym et ∙ h) e)))
+  crosses r h e = rw (← X .is) (rw (← Y .is, ← Q .is) (rw (← Z .is) (rw (sym hit-is ∙ h) (rw (← K .prev-is, ← K .pt-is, ← K .next-is, ← K .after-is) e))))
 
   pub moves : (d : rings.Due) → t ≡ false → d ≡ dueOn (view w) i y → moveOn d ≡ splitAt (raised .of) (geometryOf (view w)) (view w) i
   unfolding splitAt
-  moves d h e = rw (← X .is) (rw (← Y .is, ← Q .is) (rw (← Z .is) (rw (sym et ∙ h, e))))
+  moves d h e = rw (← X .is) (rw (← Y .is, ← Q .is) (rw (← Z .is) (rw (sym hit-is ∙ h, e))))
 
 -- ---- by the step due
 pub by-due : (w : List ℕ) (i : ℕ) (d : rings.Due) (r : Act Point) → d ≡ dueAt (view w) i → r ≡ decideDue (raised .of) (geometryOf (view w)) (view w) i d → r ≡ decideAt (raised .of) (geometryOf (view w)) (view w) i

@@ -68,24 +68,20 @@ module _ {P : Type 0} (of : ℕ → ℕ → P) (G : Geo P) (s : Store) where
   unfoldable pub validityAt : ℕ → Act P
   validityAt i = cond (isValidClosedPath G (ringFrom (s (rc FIRST) i))) (toFirst removal) discard
 
-  -- whether the edges from a to b and from c to d cross
-  abbrev pub crossAt : ℕ → ℕ → ℕ → ℕ → Bool
-  crossAt a b c d = G .segmentsIntersect (value of s a) (value of s b) (value of s c) (value of s d)
+  -- the cut at x, of a ring whose doubled area is area1, by the values of the point before x, of x, of the next and of the one after
+  unfoldable pub cutAt : ℤ → ℕ → P → P → P → P → Act P
+  cutAt area1 x a b c d =
+      let v : P = G .crossingPoint a b c d in
+      let put : Bool = not (G .samePoint v a || G .samePoint v d) in
+      cut v put (keepsBy area1 (G .areaTriangle v b c)) (cond (threeLeft s put x) done split)
 
-  -- the cut at x, of a ring whose doubled area is area1: p is the point before, y the next and z the one after
-  unfoldable pub cutAt : ℤ → ℕ → ℕ → ℕ → ℕ → Act P
-  cutAt area1 p x y z =
-      let v : P = G .crossingPoint (value of s p) (value of s x) (value of s y) (value of s z) in
-      let put : Bool = not (G .samePoint v (value of s p) || G .samePoint v (value of s z)) in
-      cut v put (keepsBy area1 (G .areaTriangle v (value of s x) (value of s y))) (cond (threeLeft s put x) done split)
+  -- `do_split_op` at x, after the point p
+  unfoldable pub splitOpAt : ℕ → ℕ → P → P → P → P → Act P
+  splitOpAt p x a b c d = cond (tooSmall G (ringFrom p)) discard (cutAt (G .areaOutpt (ringFrom p)) x a b c d)
 
-  -- `do_split_op` at x
-  unfoldable pub splitOpAt : ℕ → ℕ → ℕ → ℕ → Act P
-  splitOpAt p x y z = cond (tooSmall G (ringFrom p)) discard (cutAt (G .areaOutpt (ringFrom p)) p x y z)
-
-  -- a split turn at x, where the edges about it cross
-  unfoldable pub crossedAt : ℕ → ℕ → ℕ → ℕ → ℕ → Act P
-  crossedAt i p x y z = cond (crossAt p x z (s (pt NEXT) z)) (double (value of s z) (dueOn s i x)) (splitOpAt p x y z)
+  -- a split turn at x, where the edges about it cross; z is the second after it
+  unfoldable pub crossedAt : ℕ → ℕ → ℕ → ℕ → P → P → P → P → Act P
+  crossedAt i p x z a b c d = cond (G .segmentsIntersect a b d (value of s (s (pt NEXT) z))) (double d (dueOn s i x)) (splitOpAt p x a b c d)
 
   unfoldable pub splitAt : ℕ → Act P
   splitAt i =
@@ -93,7 +89,9 @@ module _ {P : Type 0} (of : ℕ → ℕ → P) (G : Geo P) (s : Store) where
       let y : ℕ = s (pt NEXT) x in
       let z : ℕ = s (pt NEXT) y in
       let p : ℕ = s (pt PREV) x in
-      cond (crossAt p x y z) (crossedAt i p x y z) (moveOn (dueOn s i y))
+      cond (G .segmentsIntersect (value of s p) (value of s x) (value of s y) (value of s z))
+      (crossedAt i p x z (value of s p) (value of s x) (value of s y) (value of s z))
+      (moveOn (dueOn s i y))
 
   abbrev pub decideDue : ℕ → Due → Act P
   decideDue i validity = validityAt i

@@ -1,5 +1,6 @@
 // Deciding a step: reads only. Ports of `clean_collinear`, `fix_self_intersects` and `do_split_op`.
 use crate::Act;
+use crate::Corner;
 use crate::Due;
 use crate::ring::due_at;
 use crate::ring::next_of;
@@ -18,7 +19,7 @@ ghost use lib.ListN.{length};
 ghost use lib.Signed.{ltZ};
 ghost use Rattle.rings.specs.Progress.{split, done};
 ghost use Rattle.geometry.specs.Plane.{InTable, samePoint, areaTriangle};
-ghost use Rattle.geometry.specs.Crossing.{crossingPoint};
+ghost use Rattle.geometry.specs.Crossing.{Crossed};
 ghost use Rattle.lone.specs.Ring.{dropPoint, discard};
 ghost use Rattle.store.specs.Field.{rc, FIRST, PRESENT, LENGTH};
 ghost use Rattle.store.specs.Words.{cell, view};
@@ -26,8 +27,8 @@ ghost use Rattle.store.specs.Value.{pointOf};
 ghost use Rattle.walks.specs.Ring.{OnRing, valuesFrom};
 ghost use Rattle.turns.specs.Code.{dueIs, actIs};
 ghost use Rattle.turns.specs.Form.{raised, preserves, geometryOf};
-ghost use Rattle.turns.specs.Reads.{Found, Valued, Steps, Going, Three, Four};
-ghost use Rattle.turns.specs.Decide.{keepsBy, smallAt, removeAt, validWithout, removalAt, validityAt, triangleAt, threeFrom, threeLeft, dueOn, crossAt, cutAt, splitOpAt, crossedAt, splitAt, decideAt};
+ghost use Rattle.turns.specs.Reads.{Found, Valued, Steps, Going, Three, Four, Cornered, CornerOf};
+ghost use Rattle.turns.specs.Decide.{keepsBy, smallAt, removeAt, validWithout, removalAt, validityAt, triangleAt, threeFrom, threeLeft, dueOn, cutAt, splitOpAt, crossedAt, splitAt, decideAt};
 ghost use Rattle.acts.specs.Step.{actAt};
 
 // The setting `preserve_collinear`: bit 0.
@@ -202,16 +203,23 @@ fn due_on(w: &[u32], i: usize, k: usize) -> Due
     Due::Split
 }
 
-// Whether the edges from a to b and from c to d cross.
-fn crosses_at(w: &[u32], a: usize, b: usize, c: usize, d: usize) -> bool
-    requires { ⌜ Four (now w) a b c d ⌝ }
-    ensures { λ r. ⌜ r ≡ crossAt (raised .of) (geometryOf (view (now (w .entry)))) (view (now (w .entry))) a b c d ⌝ }
+// The corner of the points p, x, y and z.
+fn corner_at(w: &[u32], p: usize, x: usize, y: usize, z: usize) -> Corner
+    requires { ⌜ Four (now w) p x y z ⌝ }
+    ensures { λ r. ⌜ CornerOf (now (w .entry)) p x y z r ⌝ }
 {
-    let p = point_at(w, a);
-    let q = point_at(w, b);
-    let r = point_at(w, c);
-    let s = point_at(w, d);
-    geometry::segments_intersect(p, q, r, s)
+    let prev = point_at(w, p);
+    let pt = point_at(w, x);
+    let next = point_at(w, y);
+    let after = point_at(w, z);
+    let pair = geometry::edge_pair(prev, pt, next, after);
+    Corner {
+        prev,
+        pt,
+        next,
+        after,
+        pair,
+    }
 }
 
 // Whether the crossing is put into the ring: it is neither the point before nor the second after.
@@ -279,48 +287,54 @@ fn due_left(w: &[u32], x: usize, put: bool) -> Due
     Due::Split
 }
 
-// The cut at x, between p and y, of a ring whose doubled area is area1.
-fn cut_at(w: &[u32], p: usize, x: usize, y: usize, z: usize, area1: i64) -> Act
-    requires { ⌜ Four (now w) p x y z ⌝ }
-    ensures { λ r. ⌜ actIs r ≡ cutAt (raised .of) (geometryOf (view (now (w .entry)))) (view (now (w .entry))) area1 p x y z ⌝ }
+// Where the edges of a corner cross: from its pair, by the crossing's kind.
+fn crossing_of(c: Corner) -> Point
+    requires { ⌜ Cornered c ⌝ }
+    ensures { λ r. ⌜ Crossed (c .prev) (c .pt) (c .next) (c .after) r ⌝ }
 {
-    let a = point_at(w, p);
-    let b = point_at(w, x);
-    let c = point_at(w, y);
-    let d = point_at(w, z);
-    let ip = geometry::crossing_point(a, b, c, d);
-    let put = put_in(ip, a, d);
-    let off = keeps_offcut(area1, ip, b, c);
+    let f = geometry::crossing_at(c.pair, c.prev, c.next);
+    geometry::point_on(c.pair, c.prev, c.pt, f, c.prev)
+}
+
+// The cut at x, of a ring whose doubled area is area1.
+fn cut_at(w: &[u32], x: usize, c: Corner, area1: i64) -> Act
+    requires { ⌜ OnRing (now w) x × Cornered c ⌝ }
+    ensures { λ r. ⌜ actIs r ≡ cutAt (raised .of) (geometryOf (view (now (w .entry)))) (view (now (w .entry))) area1 x (c .prev) (c .pt) (c .next) (c .after) ⌝ }
+{
+    let ip = crossing_of(c);
+    let put = put_in(ip, c.prev, c.after);
+    let off = keeps_offcut(area1, ip, c.pt, c.next);
     let due = due_left(w, x, put);
     Act::Cut(ip, put, off, due)
 }
 
-// `do_split_op` at x.
-fn do_split_op(w: &[u32], p: usize, x: usize, y: usize, z: usize) -> Act
-    requires { ⌜ Four (now w) p x y z ⌝ }
-    ensures { λ r. ⌜ actIs r ≡ splitOpAt (raised .of) (geometryOf (view (now (w .entry)))) (view (now (w .entry))) p x y z ⌝ }
+// `do_split_op` at x, after the point p.
+fn do_split_op(w: &[u32], p: usize, x: usize, c: Corner) -> Act
+    requires { ⌜ OnRing (now w) p × OnRing (now w) x × Cornered c ⌝ }
+    ensures { λ r. ⌜ actIs r ≡ splitOpAt (raised .of) (geometryOf (view (now (w .entry)))) (view (now (w .entry))) p x (c .prev) (c .pt) (c .next) (c .after) ⌝ }
 {
     let area1 = area_outpt(w, p);
     let n = size_of(area1);
     if n < 4 {
         return Act::Discard;
     }
-    cut_at(w, p, x, y, z, area1)
+    cut_at(w, x, c, area1)
 }
 
-// A split turn where the edges about x cross.
-fn crossed_turn(w: &[u32], i: usize, p: usize, x: usize, y: usize, z: usize) -> Act
-    requires { ⌜ Going (now w) i × Four (now w) p x y z ⌝ }
-    ensures { λ r. ⌜ actIs r ≡ crossedAt (raised .of) (geometryOf (view (now (w .entry)))) (view (now (w .entry))) i p x y z ⌝ }
+// A split turn where the edges about x cross; z is the second after it.
+fn crossed_turn(w: &[u32], i: usize, p: usize, x: usize, z: usize, c: Corner) -> Act
+    requires { ⌜ Going (now w) i × Three (now w) p x z × Cornered c ⌝ }
+    ensures { λ r. ⌜ actIs r ≡ crossedAt (raised .of) (geometryOf (view (now (w .entry)))) (view (now (w .entry))) i p x z (c .prev) (c .pt) (c .next) (c .after) ⌝ }
 {
     let u = next_of(w, z);
-    let twice = crosses_at(w, p, x, z, u);
+    let v = point_at(w, u);
+    let twice = geometry::segments_intersect(c.prev, c.pt, c.after, v);
     if twice {
-        let v = point_at(w, z);
         let d = due_on(w, i, x);
-        return Act::Double(v, d);
+        let after = c.after;
+        return Act::Double(after, d);
     }
-    do_split_op(w, p, x, y, z)
+    do_split_op(w, p, x, c)
 }
 
 fn split_turn(w: &[u32], i: usize) -> Act
@@ -331,9 +345,10 @@ fn split_turn(w: &[u32], i: usize) -> Act
     let y = next_of(w, x);
     let z = next_of(w, y);
     let p = prev_of(w, x);
-    let hit = crosses_at(w, p, x, y, z);
+    let c = corner_at(w, p, x, y, z);
+    let hit = geometry::pair_intersects(c.pair, c.prev, c.next);
     if hit {
-        return crossed_turn(w, i, p, x, y, z);
+        return crossed_turn(w, i, p, x, z, c);
     }
     let d = due_on(w, i, y);
     Act::MoveOn(d)

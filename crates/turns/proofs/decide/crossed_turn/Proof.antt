@@ -1,6 +1,6 @@
 -- `crossed_turn` meets its contract.
 use borrow.Author.Needs.{needs}
-use Rattle.turns.proofs.Decisions.{four-next, doubles, splits}
+use Rattle.turns.proofs.Decisions.{doubles, splits}
 use Rattle.turns.proofs.decide.crossed_turn.Statement.{statement}
 use Rattle.turns.proofs.decide.crossed_turn.Tie as tie
 
@@ -9,7 +9,7 @@ crossed-turn-spec =
     tie.close
     (tie.spec
     (λ c κs. search needs)
-    (λ c κs. search (four-next, needs))
+    (λ c κs. search needs)
     (λ c κs. search needs)
     (λ c κs. search needs)
     (λ c. search (doubles))

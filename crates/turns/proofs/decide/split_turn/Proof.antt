@@ -1,6 +1,6 @@
 -- `split_turn` meets its contract.
 use borrow.Author.Needs.{needs}
-use Rattle.turns.proofs.Decisions.{four-of, crosses, moves}
+use Rattle.turns.proofs.Decisions.{four-of, three-of, crosses, moves}
 use Rattle.turns.proofs.decide.split_turn.Statement.{statement}
 use Rattle.turns.proofs.decide.split_turn.Tie as tie
 
@@ -13,7 +13,8 @@ split-turn-spec =
     (λ c κs. search needs)
     (λ c κs. search needs)
     (λ c κs. search (four-of, needs))
-    (λ c κs. search (four-of, needs))
+    (λ c κs. search needs)
+    (λ c κs. search (three-of, needs))
     (λ c. search (crosses))
     (λ c κs. search needs)
     (λ c. search (moves)))
