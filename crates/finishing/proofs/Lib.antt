@@ -1,3 +1,5 @@
 -- Laws of the entry points.
 pub mod Entering
 pub mod Calls
+pub mod Starting
+pub mod InOneCall

@@ -4,3 +4,5 @@ pub mod Step
 pub mod Write
 pub mod Run
 pub mod Finish
+pub mod Opened
+pub mod InOneCall

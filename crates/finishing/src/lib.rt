@@ -1,8 +1,10 @@
-// The public entry points: a step, and writing out. No function here that is `pub` has a `requires`.
+// The public entry points: a step, and writing out. No function of this file that is `pub` has a `requires`.
+pub mod finish;
+
 use audit::Verdict;
 use audit::tests_of;
-use job::Job;
 use job::refusal::Refusal;
+use opening::open::LENGTH;
 use paths::Written;
 use paths::build_paths64;
 use store::Col;
@@ -32,9 +34,6 @@ pub enum Stepped {
     Refused(Refusal),
 }
 
-// The fixed length of a work space, in words: 16, five for each point and seven for each record.
-pub const WORK_WORDS: usize = 16 + Job::POINTS * 5 + Job::RECORDS * 7;
-
 // ---- a step
 
 fn answered(a: Answer) -> Stepped
@@ -60,7 +59,7 @@ fn step_tested(work: &mut [u32], i: usize) -> Stepped
 pub fn step(work: &mut [u32], number: u32) -> Stepped
     ensures { λ r. ⌜ left r (now (work .exit)) ≡ stepOf (now (work .entry)) number ⌝ }
 {
-    if work.len() < WORK_WORDS {
+    if work.len() < LENGTH {
         return Stepped::Refused(Refusal::Full);
     }
     let verdict = tests_of(work);
@@ -109,7 +108,7 @@ fn write_tested(work: &[u32], tray: &mut [u8]) -> Written
 pub fn write_out(work: &[u32], tray: &mut [u8]) -> Written
     ensures { λ r. ⌜ wrote r (now (tray .exit)) ≡ writeOf (now (work .entry)) (now (tray .entry)) ⌝ }
 {
-    if work.len() < WORK_WORDS {
+    if work.len() < LENGTH {
         return Written::Refused(Refusal::Full);
     }
     let verdict = tests_of(work);

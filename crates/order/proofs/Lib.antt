@@ -6,3 +6,4 @@ pub mod Paths
 pub mod Ending
 pub mod InOneCall
 pub mod Theorem
+pub mod Jobs

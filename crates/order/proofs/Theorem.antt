@@ -1,50 +1,48 @@
 -- Demand 3, of every work space as opening leaves it.
-use Prim.Native.Nat.{ℕ, _+_, _≤_, _<_, _%_, _/_}
+use Prim.Native.Nat.{ℕ, _+_, _<_, _%_, _/_}
 use mathlib.Core.Path.{_≡_, refl, ap, _∙_, sym, subst, fun-ext}
 use mathlib.Core.Logic.{_⊎_, inl, inr}
-use mathlib.Core.Bool.{Bool, true, false, cond}
+use mathlib.Core.Bool.{Bool, false, cond}
 use mathlib.Core.List.{List, [], _∷_, _++_}
 use native.Mathlib.Nat.{not-suc-le-zero}
 use native.Mathlib.Omega.{arith}
 use native.Mathlib.Decide.{decLt}
 use lib.Dec.{eqb}
 use lib.ListN.{length, length-map, List·getD-eq-default}
-use Rattle.rings.specs.Progress.{Ring, gone, atStart, mapRing}
-use Rattle.rings.specs.Walk.{walk}
-use Rattle.rings.proofs.Counting.{pigeon}
+use Rattle.rings.specs.Progress.{Ring}
 use Rattle.geometry.specs.declared.Point.{Point}
-use Rattle.lone.specs.Forest.{Entry, ringless, Forest, full, enter, opening, at, allTaken, allCut, answer, runForest, accepted, OfClosed}
+use Rattle.lone.specs.Forest.{ringless, Forest, full, enter, opening, at, allTaken, allCut, answer, runForest, accepted}
 use Rattle.lone.specs.Order.{Alone, Independent, NoneOrDone, AllDone}
 use Rattle.lone.specs.Order as lone
-use Rattle.lone.specs.Kept.{Held}
 use Rattle.lone.specs.Finish.{enough, finishForest}
 use Rattle.lone.specs.Plane.{plane}
 use Rattle.lone.specs.Writing.{closedPaths, openPaths}
 use Rattle.lone.proofs.Alone.{independent}
-use Rattle.lone.proofs.FinishingRings.{HeldIn, rings-finish}
-use Rattle.store.specs.Field.{ct, rc, pt, SETTINGS, NEXT, FIRST}
+use Rattle.lone.proofs.FinishingRings.{rings-finish}
+use Rattle.store.specs.Field.{ct, SETTINGS}
 use Rattle.store.specs.Words.{view}
-use Rattle.store.specs.Sound.{pts, recs, ringAt, dueAt, loneDue, loneAt}
-use Rattle.store.specs.Sound as store
-use Rattle.store.proofs.Soundness.{whole, from-first}
+use Rattle.store.specs.Sound.{pts, recs}
 use Rattle.acts.specs.Opened.{records}
-use Rattle.acts.specs.Rep.{value, Shows, as-ringless, as-open, as-closed}
 use Rattle.acts.specs.Finish.{finishW}
-use Rattle.acts.proofs.Opening.{opening-rep}
 use Rattle.paths.specs.Path as paths
 use Rattle.paths.specs.Path.{reverseSolution}
+use Rattle.paths.specs.declared.Written.the-variants as written
+use Rattle.paths.specs.Wrote.{wrote, buildPaths64}
+use Rattle.job.specs.declared.refusal.Refusal.the-variants.{OutOfTurn}
 use Rattle.turns.specs.Form.{raised, preserves}
 use Rattle.finishing.specs.declared.Stepped.{Stepped}
 use Rattle.finishing.specs.Step.{stepOf}
 use Rattle.finishing.specs.Write.{anyLive, writeOf}
 use Rattle.finishing.specs.Run.{runOf, granted, Call, stepOn, writeTo, wordsAfter, stepsIn}
 use Rattle.finishing.specs.Finish.{finishRings, inRising}
+use Rattle.finishing.specs.Opened.{OpeningLeft}
 use Rattle.finishing.proofs.Entering.{refused-leaves}
-use Rattle.order.specs.Demand3.{OpeningLeft, Has, Answers, inTray, outlines, After, Fits, NeverEnds, Ends, Overflows, Demand3}
+use Rattle.finishing.proofs.Starting.{start-rep, held}
+use Rattle.order.specs.Demand3.{Has, Answers, inTray, outlines, After, Fits, NeverEnds, Ends, Overflows, Demand3}
 use Rattle.order.proofs.Following.{M, Follows, passes, answer-of, follows-run, granted-is}
 use Rattle.order.proofs.Having.{has, stepped-same, answers-are}
 use Rattle.order.proofs.Paths.{closed-are, open-are}
-use Rattle.order.proofs.Ending.{all-done, done-all, not-yet, builds}
+use Rattle.order.proofs.Ending.{all-done, done-all, writes, not-yet, builds}
 use Rattle.order.proofs.InOneCall.{Reached, Through, Stopped, finish-from}
 
 module _ (w : List ℕ) (o : OpeningLeft w) where
@@ -59,7 +57,7 @@ module _ (w : List ℕ) (o : OpeningLeft w) where
   F is = runForest (M k) 2048 512 F₀ is
 
   start : Follows k w F₀
-  start = record { rep = record { long = o .long; rep = opening-rep (raised .of) (view w) (o .sound) (o .fresh) }; settings = refl }
+  start = record { rep = start-rep w o; settings = refl }
 
   follows : (is : List ℕ) → Follows k (runOf w is) (F is)
   follows is = follows-run k is w F₀ start
@@ -117,34 +115,6 @@ module _ (w : List ℕ) (o : OpeningLeft w) where
 
   -- ---- the two ways
 
-  -- every ring is at its start, and has no more points than there are
-  module _ (i : ℕ) (l : i < recs (view w)) where
-    short : length (ringAt (view w) i) ≤ pts (view w)
-    short = let r = whole (view w) (o .sound) i l in pigeon (pts (view w)) (ringAt (view w) i) (r .once) (r .below)
-
-    held-ring : (c : List ℕ) → length c ≤ pts (view w) → Held (pts (view w)) (mapRing (value (raised .of) (view w)) (atStart c))
-    held-ring [] h = record { on-ring = (omega arith, tt); has-start = tt; short = omega arith }
-    held-ring (x ∷ c) h = record { on-ring = (omega arith, tt); has-start = tt; short = rw (length-map c (value (raised .of) (view w))) h }
-
-    held-lone : Held (pts (view w)) (mapRing (value (raised .of) (view w)) (loneAt (view w) i))
-    held-lone = go (store.ringless (view w) i) refl
-      where
-        go : (b : Bool) → store.ringless (view w) i ≡ b → Held (pts (view w)) (mapRing (value (raised .of) (view w)) (cond b gone (loneDue (view w) i (dueAt (view w) i))))
-        go true e = record { on-ring = (omega arith, tt); has-start = tt; short = omega arith }
-        go false e = rw (o .fresh i l .mark-is) (held-ring (walk (view w (pt NEXT)) (view w (rc FIRST) i)) (subst (λ (c : List ℕ). length c ≤ pts (view w)) (from-first (view w) i e) short))
-
-    held-shown : (e : Entry (Ring Point) (List Point)) → Shows (raised .of) (view w) i e → OfClosed (Held (pts (view w))) e
-    held-shown e (as-ringless a b) = tt
-    held-shown e (as-open c a b d) = tt
-    held-shown e (as-closed q L a b t m) = subst (Held (pts (view w))) (sym m) held-lone
-
-  held : HeldIn (plane (preserves (view w))) 2048 512 F₀
-  held = record { within = o .sound .few-points; every = λ i. each i (decLt i (recs (view w))) }
-    where
-      each : (i : ℕ) → Dec (i < recs (view w)) → OfClosed (Held (pts (view w))) (at (F₀ .entries) i)
-      each i (yes l) = held-shown i l (at (F₀ .entries) i) (start .rep .rep .shows i l)
-      each i (no n) = rw (List·getD-eq-default (F₀ .entries) ringless {n = i} (omega (arith, start .rep .rep .records-are))) tt
-
   fits : lone.Fits (M k) 2048 512 F₀ → Fits w
   fits f =
       record {
@@ -153,7 +123,7 @@ module _ (w : List ℕ) (o : OpeningLeft w) where
       }
 
   two-ways : Fits w ⊎ NeverEnds w
-  two-ways = go (rings-finish (plane (preserves (view w))) 2048 512 F₀ held (omega (arith, start .rep .rep .records-are, o .sound .few-records)))
+  two-ways = go (rings-finish (plane (preserves (view w))) 2048 512 F₀ (held w o) (omega (arith, start .rep .rep .records-are, o .sound .few-records)))
     where
       go : (AllDone (M k) (finishForest (M k) 2048 512 F₀ .entries) × lone.Fits (M k) 2048 512 F₀) ⊎ lone.NeverEnds (M k) 2048 512 F₀ → Fits w ⊎ NeverEnds w
       go (inl h) = inl (fits (h .1))
@@ -161,7 +131,7 @@ module _ (w : List ℕ) (o : OpeningLeft w) where
 
   either-way : Ends w ⊎ Overflows w
   unfolding finishRings finishW
-  either-way = go (finish-from k 512 w F₀ 0 (record { follows = start; held = held; below = λ j h. absurd (not-suc-le-zero h) })) two-ways
+  either-way = go (finish-from k 512 w F₀ 0 (record { follows = start; held = held w o; below = λ j h. absurd (not-suc-le-zero h) })) two-ways
     where
       all : (w′ : List ℕ) (E : Forest (Ring Point) (List Point)) → Reached k (0 + 512) w′ E → anyLive (view w′) ≡ false
       all w′ E r = done-all k w′ E (r .follows) (λ j. each j (decLt j 512))
@@ -179,3 +149,10 @@ module _ (w : List ℕ) (o : OpeningLeft w) where
   -- demand 3, whole
   pub demand-3 : Demand3 w
   demand-3 = record { after-every-list = after-list; calls-between = λ cs. calls cs w; either = either-way }
+
+  -- where the rings end, writing out of what they leave gives the paths
+  pub writes-ended : (x : Ends w) (t : List ℕ) → writeOf (x .words) t ≡ buildPaths64 (view (x .words)) t
+  writes-ended x t =
+      let is : List ℕ = inRising (enough 2048) 512 0 in
+      subst (λ (v : List ℕ). writeOf v t ≡ cond (anyLive (view v)) (wrote (written.Refused OutOfTurn) t) (buildPaths64 (view v) t)) (sym (x .rising)) (writes k (runOf w is) (F is) (follows is) t)
+      ∙ ap (λ (b : Bool). cond b (wrote (written.Refused OutOfTurn) t) (buildPaths64 (view (x .words)) t)) (x .all-done)

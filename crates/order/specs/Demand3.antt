@@ -1,6 +1,6 @@
 -- Demand 3: document 01, "Demand 3 speaks of lists of steps, each on any record number, refused ones included". The statement, on the entry points' own
 -- definitions; it is proved in proofs/Theorem.antt of every work space as opening leaves it.
-use Prim.Native.Nat.{ℕ, _+_, _≤_, _<_}
+use Prim.Native.Nat.{ℕ, _+_, _<_}
 use mathlib.Core.Path.{_≡_}
 use mathlib.Core.Logic.{_⊎_, _↔_, _≢_}
 use mathlib.Core.Bool.{true, false, cond}
@@ -21,13 +21,13 @@ use Rattle.lone.specs.Order.{Alone, NoneOrDone, AllDone, TakesPast}
 use Rattle.lone.specs.Plane.{plane, loneRing}
 use Rattle.lone.specs.Writing.{closedPaths, openPaths}
 use Rattle.lone.specs.Finish.{enough}
-use Rattle.store.specs.Field.{rc, CUT, LENGTH}
+use Rattle.store.specs.Field.{rc, CUT}
 use Rattle.store.specs.Words.{Store, view}
-use Rattle.store.specs.Sound.{pts, recs, ringless, isOpen, dueAt, Sound}
+use Rattle.store.specs.Sound.{pts, recs, ringless, isOpen, dueAt}
 use Rattle.store.specs.Value.{ringPoints}
 use Rattle.audit.specs.declared.Verdict.the-variants as verdict
 use Rattle.audit.specs.Tests.{testsOf}
-use Rattle.acts.specs.Opened.{Fresh, records}
+use Rattle.acts.specs.Opened.{records}
 use Rattle.acts.specs.Rep.{numberOf}
 use Rattle.acts.specs.Step.{outcome}
 use Rattle.paths.specs.declared.Written.the-variants as written
@@ -45,14 +45,6 @@ use Rattle.finishing.specs.Finish.{finishRings, inRising}
 -- a record of the lone rings' table: without a ring, an open ring's points, or a lone ring with the record that it was cut from
 abbrev pub Lone : Type 0
 Lone = Entry (Ring Point) (List Point)
-
--- ---- a work space as opening leaves it
-
--- long enough, sound, and each record at its start: "opening sets each closed ring .. at its start"
-pub record OpeningLeft (w : List ℕ) : Type 0 where
-  pub long : LENGTH ≤ length w
-  pub sound : Sound (view w)
-  pub fresh : (i : ℕ) → i < recs (view w) → Fresh (view w) i
 
 -- ---- "Each closed ring has its lone ring's points by value, from the first in walk order, its step due or done, and as many offcuts"
 

@@ -370,7 +370,7 @@ fn write_paths(w: &[u32], rev: bool, opened: bool, t: &mut [u8]) -> usize
 }
 
 // Zeros.
-fn clear(t: &mut [u8])
+pub fn clear(t: &mut [u8])
     ensures { λ _. ⌜ now (t .exit) ≡ replicate (length (now (t .entry))) 0 ⌝ }
 {
     let mut i: usize = 0;

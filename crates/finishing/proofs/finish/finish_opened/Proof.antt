@@ -1,0 +1,27 @@
+-- `finish_opened` meets its contract.
+use borrow.Author.Needs.{needs}
+use Rattle.finishing.proofs.Starting.{finishes}
+use Rattle.finishing.proofs.InOneCall.{may-write, rings-done, rings-full, rings-out}
+use Rattle.finishing.proofs.finish.finish_opened.Statement.{statement}
+use Rattle.finishing.proofs.finish.finish_opened.Tie as tie
+
+pub finish-opened-spec : {M : Type 1} → statement M
+finish-opened-spec =
+    tie.close
+    (tie.spec
+    (λ c κs. search (finishes, needs))
+    (λ c. search needs)
+    (λ c κs. search may-write)
+    (λ c. search needs)
+    (λ c κs. search needs)
+    (λ c. search needs)
+    (λ c κs. search needs)
+    (λ c. search needs)
+    (λ c. search needs)
+    (λ c. search rings-done)
+    (λ c. search needs)
+    (λ c. search needs)
+    (λ c. search rings-full)
+    (λ c. search needs)
+    (λ c. search needs)
+    (λ c. search rings-out))

@@ -1,0 +1,14 @@
+-- A work space as opening leaves it.
+use Prim.Native.Nat.{ℕ, _≤_, _<_}
+use mathlib.Core.List.{List}
+use lib.ListN.{length}
+use Rattle.store.specs.Field.{LENGTH}
+use Rattle.store.specs.Words.{view}
+use Rattle.store.specs.Sound.{recs, Sound}
+use Rattle.acts.specs.Opened.{Fresh}
+
+-- long enough, sound, and each record at its start: "opening sets each closed ring .. at its start"
+pub record OpeningLeft (w : List ℕ) : Type 0 where
+  pub long : LENGTH ≤ length w
+  pub sound : Sound (view w)
+  pub fresh : (i : ℕ) → i < recs (view w) → Fresh (view w) i

@@ -1,0 +1,62 @@
+// Finishing in one call: opening, every ring stepped until it is done, writing out.
+use job::refusal::Refusal;
+use opening::clear::clear;
+use opening::open::Opened;
+use opening::open::open;
+use paths::Written;
+use paths::build_paths64;
+use turns::Answer;
+use turns::finish::finish_records;
+ghost use mathlib.Core.Path.{_≡_};
+ghost use lib.ListN.{length};
+ghost use Rattle.store.specs.Words.{view};
+ghost use Rattle.paths.specs.Walking.{Ready};
+ghost use Rattle.paths.specs.Wrote.{buildPaths64};
+ghost use Rattle.finishing.specs.Opened.{OpeningLeft};
+ghost use Rattle.finishing.specs.Finish.{finishRings};
+ghost use Rattle.finishing.specs.InOneCall.{finished, refused, afterWriting, afterSteps, finishOf};
+
+// A refusal leaves zeros only.
+fn refuse(x: Refusal, work: &mut [u32], tray: &mut [u8]) -> Written
+    ensures { λ r. ⌜ finished r (now (work .exit)) (now (tray .exit)) ≡ refused x (length (now (work .entry))) (length (now (tray .entry))) ⌝ }
+{
+    clear(work);
+    paths::clear(tray);
+    Written::Refused(x)
+}
+
+// The paths of rings that are done.
+fn write_finished(work: &mut [u32], tray: &mut [u8]) -> Written
+    requires { ⌜ Ready (now work) ⌝ }
+    ensures { λ r. ⌜ finished r (now (work .exit)) (now (tray .exit)) ≡ afterWriting (now (work .entry)) (buildPaths64 (view (now (work .entry))) (now (tray .entry)) .answer) (buildPaths64 (view (now (work .entry))) (now (tray .entry)) .tray) ⌝ }
+{
+    let r = build_paths64(work, tray);
+    match r {
+        Written::Paths { closed, open } => Written::Paths { closed, open },
+        Written::Refused(x) => refuse(x, work, tray),
+    }
+}
+
+// Every ring stepped until it is done, in rising record order, and then the paths.
+fn finish_opened(work: &mut [u32], tray: &mut [u8]) -> Written
+    requires { ⌜ OpeningLeft (now work) ⌝ }
+    ensures { λ r. ⌜ finished r (now (work .exit)) (now (tray .exit)) ≡ afterSteps (finishRings (now (work .entry))) (now (tray .entry)) ⌝ }
+{
+    let a = finish_records(work);
+    match a {
+        Answer::Ok => write_finished(work, tray),
+        Answer::Full => refuse(Refusal::Full, work, tray),
+        Answer::OutOfTurn => refuse(Refusal::OutOfTurn, work, tray),
+    }
+}
+
+// Finishes a job in one call: the answer, every word and every byte left.
+pub fn finish(bytes: &[u8], work: &mut [u32], tray: &mut [u8]) -> Written
+    ensures { λ r. ⌜ finished r (now (work .exit)) (now (tray .exit)) ≡ finishOf (now (bytes .entry)) (length (now (work .entry))) (now (tray .entry)) ⌝ }
+{
+    let o = open(bytes, work);
+    match o {
+        Opened::Accepted => finish_opened(work, tray),
+        Opened::Refused(x) => refuse(x, work, tray),
+    }
+}
