@@ -1,0 +1,2 @@
+-- The worked jobs, by evaluation.
+pub mod Holds

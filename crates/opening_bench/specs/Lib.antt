@@ -1,0 +1,2 @@
+-- Worked jobs of opening.
+pub mod Bench
