@@ -1,0 +1,228 @@
+// Opens the stored jobs on standard input, each after its length (four bytes, low byte first), and prints what the oracle's command `opened` prints: both counts
+// and each record's ring, or the refusal's number. The jobs are cases written by hand and the generator's (`oracle generate 7 ..`), the file `stdout` is the oracle's.
+use job::refusal::Refusal;
+use libc::STDIN_FILENO;
+use libc::STDOUT_FILENO;
+use opening::open::Opened;
+use opening::open::open;
+use store::Col;
+use store::NONE;
+use store::read;
+ghost use Prim.Native.Nat.{ℕ, _≤_};
+ghost use lib.ListN.{length};
+ghost use Rattle.store.specs.Field.{LENGTH};
+
+const RAISE: usize = 1048576;
+
+fn wide(x: u8) -> usize {
+    x as usize
+}
+
+// The byte at a place, and 0 past the end.
+fn byte(s: &[u8], at: usize) -> usize {
+    if at < s.len() {
+        return wide(s[at]);
+    }
+    0
+}
+
+// A place further on; the input has fewer bytes.
+fn further(at: usize, n: usize) -> usize {
+    if at < 65536 {
+        if n < 65536 {
+            return at + n;
+        }
+    }
+    65536
+}
+
+// The bytes from a place on.
+fn from(s: &[u8], at: usize) -> &[u8] {
+    if at <= s.len() {
+        return &s[at..];
+    }
+    s
+}
+
+fn signed(n: usize) -> isize {
+    if n < 65536 {
+        return n as isize;
+    }
+    0
+}
+
+// The length of the job at a place.
+fn size_at(s: &[u8], at: usize) -> usize {
+    let a = byte(s, at);
+    let b = byte(s, further(at, 1));
+    if a < 256 {
+        if b < 256 {
+            return a + 256 * b;
+        }
+    }
+    0
+}
+
+fn print(n: usize) {
+    io::print_decimal(STDOUT_FILENO, n as u64);
+}
+
+// A coordinate, by its word.
+fn print_coordinate(v: usize) {
+    if v < RAISE {
+        io::write_all(STDOUT_FILENO, b"-");
+        print(RAISE - v);
+        return;
+    }
+    print(v - RAISE);
+}
+
+fn print_owner(o: usize) {
+    if o == NONE {
+        io::write_all(STDOUT_FILENO, b"-");
+        return;
+    }
+    print(o);
+}
+
+// Point p by its number and value.
+fn print_point(w: &[u32], p: usize)
+    requires { ⌜ LENGTH ≤ length (now w) ⌝ }
+{
+    io::write_all(STDOUT_FILENO, b" ");
+    print(p);
+    io::write_all(STDOUT_FILENO, b":");
+    let x = read(w, Col::X, p);
+    print_coordinate(x);
+    io::write_all(STDOUT_FILENO, b",");
+    let y = read(w, Col::Y, p);
+    print_coordinate(y);
+}
+
+// How many points the ring from a on has.
+fn count(w: &[u32], a: usize) -> usize
+    requires { ⌜ LENGTH ≤ length (now w) ⌝ }
+{
+    let mut p = a;
+    let mut n: usize = 0;
+    while n < 2048 {
+        p = read(w, Col::Next, p);
+        n += 1;
+        if p == a {
+            return n;
+        }
+    }
+    n
+}
+
+// n points from a on.
+fn print_points(w: &[u32], a: usize, n: usize)
+    requires { ⌜ LENGTH ≤ length (now w) ⌝ }
+{
+    let mut p = a;
+    let mut left = n;
+    while 0 < left {
+        print_point(w, p);
+        p = read(w, Col::Next, p);
+        left -= 1;
+    }
+}
+
+fn print_ring(w: &[u32], a: usize)
+    requires { ⌜ LENGTH ≤ length (now w) ⌝ }
+{
+    if a == NONE {
+        io::write_all(STDOUT_FILENO, b" ring 0\n");
+        return;
+    }
+    let n = count(w, a);
+    io::write_all(STDOUT_FILENO, b" ring ");
+    print(n);
+    print_points(w, a, n);
+    io::write_all(STDOUT_FILENO, b"\n");
+}
+
+fn print_record(w: &[u32], i: usize)
+    requires { ⌜ LENGTH ≤ length (now w) ⌝ }
+{
+    io::write_all(STDOUT_FILENO, b"record ");
+    print(i);
+    io::write_all(STDOUT_FILENO, b" flags ");
+    let f = read(w, Col::Flags, i);
+    print(f);
+    io::write_all(STDOUT_FILENO, b" owner ");
+    let o = read(w, Col::Owner, i);
+    print_owner(o);
+    let a = read(w, Col::First, i);
+    print_ring(w, a);
+}
+
+fn print_records(w: &[u32])
+    requires { ⌜ LENGTH ≤ length (now w) ⌝ }
+{
+    let n = read(w, Col::Records, 0);
+    let mut i: usize = 0;
+    while i < n {
+        print_record(w, i);
+        i += 1;
+    }
+}
+
+fn print_counts(w: &[u32])
+    requires { ⌜ LENGTH ≤ length (now w) ⌝ }
+{
+    io::write_all(STDOUT_FILENO, b"points ");
+    let p = read(w, Col::Points, 0);
+    print(p);
+    io::write_all(STDOUT_FILENO, b" records ");
+    let n = read(w, Col::Records, 0);
+    print(n);
+    io::write_all(STDOUT_FILENO, b"\n");
+}
+
+fn print_refusal(r: Refusal) {
+    io::write_all(STDOUT_FILENO, b"refused ");
+    io::print_decimal(STDOUT_FILENO, r.number() as u64);
+    io::write_all(STDOUT_FILENO, b"\n");
+}
+
+fn open_one(job: &[u8], w: &mut [u32])
+    requires { ⌜ LENGTH ≤ length (now w) ⌝ }
+{
+    let a = open(job, w);
+    match a {
+        Opened::Accepted => {
+            print_counts(w);
+            print_records(w);
+        }
+        Opened::Refused(r) => {
+            print_refusal(r);
+        }
+    }
+}
+
+fn run(s: &[u8], w: &mut [u32])
+    requires { ⌜ LENGTH ≤ length (now w) ⌝ }
+{
+    let mut at: usize = 0;
+    let mut left: u32 = 1000;
+    while 0 < left {
+        let n = size_at(s, at);
+        if n == 0 {
+            return;
+        }
+        at = further(at, 4);
+        let part = from(s, at);
+        let k = io::count(signed(n), part);
+        open_one(&part[..k], w);
+        at = further(at, n);
+        left -= 1;
+    }
+}
+
+fn main() {
+    let mut buf = io::large_buffer();
+    let n = io::read_full(STDIN_FILENO, &mut buf);
+    let mut w = [0u32; 13840];
+    run(&buf[..n], &mut w);
+}
