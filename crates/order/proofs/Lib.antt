@@ -7,3 +7,4 @@ pub mod Ending
 pub mod InOneCall
 pub mod Theorem
 pub mod Jobs
+pub mod Bench
