@@ -1,0 +1,2 @@
+-- Laws of the listing of a job.
+pub mod Listing

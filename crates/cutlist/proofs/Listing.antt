@@ -1,0 +1,79 @@
+-- What finishing in one call answers can be listed, and the listing is the job's.
+use Prim.Native.Nat.{ℕ}
+use mathlib.Core.Path.{_≡_, refl, sym, ap, _∙_, subst}
+use mathlib.Core.List.{List}
+use native.Mathlib.Omega.{arith}
+use lib.ListN.{length}
+use Rattle.job.specs.Refusal.{numberOf}
+use Rattle.job.specs.declared.refusal.Refusal.{Refusal}
+use Rattle.store.specs.Words.{view}
+use Rattle.store.specs.Sound.{Sound}
+use Rattle.lone.specs.Forest.{ok, full, outOfTurn}
+use Rattle.acts.specs.Step.{Outcome, outcome}
+use Rattle.acts.proofs.Finished.{finish-done}
+use Rattle.turns.specs.Form.{raised, preserves, geometryOf}
+use Rattle.turns.proofs.Ready.{laws}
+use Rattle.paths.specs.declared.Written.{Written}
+use Rattle.paths.specs.declared.Written.the-variants.{Paths, Refused}
+use Rattle.paths.specs.Wrote.{Wrote, wrote, buildPaths64}
+use Rattle.opening.specs.declared.open.Opened.the-variants.{Accepted}
+use Rattle.opening.specs.declared.open.Opened.the-variants as opened
+use Rattle.opening.specs.Open.{End, end, openOf}
+use Rattle.finishing.specs.Opened.{OpeningLeft}
+use Rattle.finishing.specs.Finish.{finishRings}
+use Rattle.finishing.specs.InOneCall.{Finished, finished, refused, afterWriting, afterSteps, afterOpening, finishOf}
+use Rattle.finishing.proofs.Starting.{start-rep}
+use Rattle.finishing.proofs.InOneCall.{opening-left}
+use Rattle.listing.specs.Told.{Listable, Told, told, tell}
+use Rattle.listing.specs.Lines.{listingOf, refusedLine}
+use Rattle.listing.specs.declared.Listed.{Listed}
+use Rattle.listing.proofs.Answers.{answer-listable}
+use Rattle.cutlist.specs.Cutlist.{listedAs, listedFrom, cutlistOf}
+
+never : {A : Type 0} (c o : ℕ) (x : Refusal) (w t w′ t′ : List ℕ) → finished (Paths c o) w t ≡ finished (Refused x) w′ t′ → A
+never c o x w t w′ t′ e =
+    let a : Paths c o ≡ Refused x = ap (λ (f : Finished). f .answer) e in
+    let z : _≡_ {A = ℕ} 0 1 = cc in
+    absurd (omega arith)
+
+module _ (c o : ℕ) (w′ t′ t : List ℕ) where
+  after-writing : (w : List ℕ) → Sound (view w) → (b : Wrote) → buildPaths64 (view w) t ≡ b → finished (Paths c o) w′ t′ ≡ afterWriting w (b .answer) (b .tray) → Listable c o t′
+  after-writing w s b h e = go (b .answer) refl e
+    where
+      go : (r : Written) → b .answer ≡ r → finished (Paths c o) w′ t′ ≡ afterWriting w r (b .tray) → Listable c o t′
+      go (Paths c₁ o₁) f g =
+          let p : Paths c o ≡ Paths c₁ o₁ = ap (λ (z : Finished). z .answer) g in
+          let q : t′ ≡ b .tray = ap (λ (z : Finished). z .tray) g in
+          let y : wrote (Paths c o) t′ ≡ wrote (b .answer) (b .tray) = cc (p, q, f) in
+          answer-listable (view w) c o t t′ s (y ∙ sym h)
+      go (Refused x) f g = never c o x _ _ _ _ g
+
+  after-steps : (w : List ℕ) → OpeningLeft w → (r : Outcome) → finishRings w ≡ r → finished (Paths c o) w′ t′ ≡ afterSteps r t → Listable c o t′
+  unfolding finishRings
+  after-steps w l (outcome ok w₁) h e =
+      after-writing w₁ (finish-done (geometryOf (view w)) raised (laws (preserves (view w))) w _ w₁ (start-rep w l) h .rep .sound) (buildPaths64 (view w₁) t) refl e
+  after-steps w l (outcome full w₁) h e = never c o _ _ _ _ _ e
+  after-steps w l (outcome outOfTurn w₁) h e = never c o _ _ _ _ _ e
+
+  -- what finishing leaves in the tray can be listed
+  pub finish-listable : (bytes : List ℕ) (n : ℕ) → finished (Paths c o) w′ t′ ≡ finishOf bytes n t → Listable c o t′
+  unfolding finishOf
+  finish-listable bytes n e = go (openOf bytes n) refl e
+    where
+      go : (r : End) → openOf bytes n ≡ r → finished (Paths c o) w′ t′ ≡ afterOpening r t → Listable c o t′
+      go (end Accepted w) h g = after-steps w (opening-left bytes n w h) (finishRings w) refl g
+      go (end (opened.Refused x) w) h g = never c o x _ _ _ _ g
+
+module _ (bytes : List ℕ) (n : ℕ) (t w′ t′ : List ℕ) (r : Written) (e : finished r w′ t′ ≡ finishOf bytes n t) where
+  is-listed : listedAs r t′ ≡ cutlistOf bytes n t
+  unfolding cutlistOf
+  is-listed = ap listedFrom e
+
+  pub may-list : (c o : ℕ) → r ≡ Paths c o → Listable c o t′
+  may-list c o h = finish-listable c o w′ t′ t bytes n (subst (λ (z : Written). finished z w′ t′ ≡ finishOf bytes n t) h e)
+
+  pub all-listed : (c o : ℕ) (out out′ : List ℕ) (a : Listed) → r ≡ Paths c o → told a out′ ≡ tell (listingOf c o t′) out → told a out′ ≡ tell (cutlistOf bytes n t) out
+  all-listed c o out out′ a h g = g ∙ ap (λ (s : List ℕ). tell s out) (sym (ap (λ (z : Written). listedAs z t′) h) ∙ is-listed)
+
+  pub refusal-listed : (x : Refusal) (k : ℕ) (out out′ : List ℕ) (a : Listed) → r ≡ Refused x → k ≡ numberOf x → told a out′ ≡ tell (refusedLine k) out → told a out′ ≡ tell (cutlistOf bytes n t) out
+  refusal-listed x k out out′ a h i g = g ∙ ap (λ (m : ℕ). tell (refusedLine m) out) i ∙ ap (λ (s : List ℕ). tell s out) (sym (ap (λ (z : Written). listedAs z t′) h) ∙ is-listed)
