@@ -1,0 +1,2 @@
+-- Laws of the calls for C and Rust.
+pub mod Numbers

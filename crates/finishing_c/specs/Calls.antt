@@ -1,0 +1,88 @@
+-- The calls for C and Rust: 0 or the table's number, and the words and bytes that the entry point of the same name leaves, on every input.
+use Prim.Native.Nat.{ℕ}
+use mathlib.Core.List.{List}
+use Rattle.job.specs.Refusal.{numberOf}
+use Rattle.paths.specs.declared.Written.{Written}
+use Rattle.paths.specs.declared.Written.the-variants as written
+use Rattle.paths.specs.Wrote as paths
+use Rattle.opening.specs.declared.open.Opened.{Opened}
+use Rattle.opening.specs.declared.open.Opened.the-variants as opened
+use Rattle.opening.specs.Open.{End, end, openOf}
+use Rattle.finishing.specs.declared.Stepped.{Stepped}
+use Rattle.finishing.specs.declared.Stepped.the-variants as stepped
+use Rattle.finishing.specs.Step as step
+use Rattle.finishing.specs.Step.{stepOf}
+use Rattle.finishing.specs.Write.{writeOf}
+use Rattle.finishing.specs.InOneCall as call
+use Rattle.finishing.specs.InOneCall.{finishOf}
+
+-- ---- numbers of answers: no refusal is 0
+
+abbrev pub openedNumber : Opened → ℕ
+openedNumber opened.Accepted = 0
+openedNumber (opened.Refused x) = numberOf x
+
+abbrev pub steppedNumber : Stepped → ℕ
+steppedNumber stepped.Done = 0
+steppedNumber (stepped.Refused x) = numberOf x
+
+abbrev pub writtenNumber : Written → ℕ
+writtenNumber (written.Paths closed open′) = 0
+writtenNumber (written.Refused x) = numberOf x
+
+-- ---- a number with what is left
+
+-- a call that changes the work space only
+pub record Worked : Type 0 where
+  pub number : ℕ
+  pub words : List ℕ
+
+abbrev pub worked : ℕ → List ℕ → Worked
+worked n w = record { number = n; words = w }
+
+-- a call that changes the tray only
+pub record Wrote : Type 0 where
+  pub number : ℕ
+  pub tray : List ℕ
+
+abbrev pub wrote : ℕ → List ℕ → Wrote
+wrote n t = record { number = n; tray = t }
+
+-- a call that changes both
+pub record Finished : Type 0 where
+  pub number : ℕ
+  pub words : List ℕ
+  pub tray : List ℕ
+
+abbrev pub finished : ℕ → List ℕ → List ℕ → Finished
+finished n w t = record { number = n; words = w; tray = t }
+
+-- ---- the calls
+
+abbrev pub asOpened : End → Worked
+asOpened (end a w) = worked (openedNumber a) w
+
+abbrev pub asStepped : step.Left → Worked
+asStepped l = worked (steppedNumber (l .answer)) (l .words)
+
+abbrev pub asWritten : paths.Wrote → Wrote
+asWritten l = wrote (writtenNumber (l .answer)) (l .tray)
+
+abbrev pub asFinished : call.Finished → Finished
+asFinished l = finished (writtenNumber (l .answer)) (l .words) (l .tray)
+
+-- `outline_open`, by the job's bytes and the length n of the work space
+unfoldable pub openC : List ℕ → ℕ → Worked
+openC bytes n = asOpened (openOf bytes n)
+
+-- `outline_step`
+unfoldable pub stepC : List ℕ → ℕ → Worked
+stepC w i = asStepped (stepOf w i)
+
+-- `outline_write`
+unfoldable pub writeC : List ℕ → List ℕ → Wrote
+writeC w t = asWritten (writeOf w t)
+
+-- `outline_finish`
+unfoldable pub finishC : List ℕ → ℕ → List ℕ → Finished
+finishC bytes n t = asFinished (finishOf bytes n t)

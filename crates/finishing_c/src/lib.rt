@@ -1,0 +1,88 @@
+// The entry points for C and Rust: the same calls, answering 0 or the refusal's number of document 01's table.
+use finishing::Stepped;
+use finishing::finish::finish;
+use finishing::step;
+use finishing::write_out;
+use opening::open::LENGTH;
+use opening::open::Opened;
+use opening::open::open;
+use paths::Written;
+ghost use mathlib.Core.Path.{_≡_};
+ghost use lib.ListN.{length};
+ghost use Rattle.store.specs.Field.{LENGTH};
+ghost use Rattle.finishing_c.specs.Calls.{openedNumber, steppedNumber, writtenNumber, worked, wrote, finished, openC, stepC, writeC, finishC};
+
+// ---- the numbers of answers
+
+fn opened_number(a: Opened) -> u32
+    ensures { λ r. ⌜ r ≡ openedNumber a ⌝ }
+{
+    match a {
+        Opened::Accepted => 0,
+        Opened::Refused(x) => x.number(),
+    }
+}
+
+fn stepped_number(a: Stepped) -> u32
+    ensures { λ r. ⌜ r ≡ steppedNumber a ⌝ }
+{
+    match a {
+        Stepped::Done => 0,
+        Stepped::Refused(x) => x.number(),
+    }
+}
+
+fn written_number(a: Written) -> u32
+    ensures { λ r. ⌜ r ≡ writtenNumber a ⌝ }
+{
+    match a {
+        Written::Paths { .. } => 0,
+        Written::Refused(x) => x.number(),
+    }
+}
+
+// ---- the calls
+
+// The fixed length of a work space, in words.
+#[no_mangle]
+pub extern "C" fn outline_work_words() -> u64
+    ensures { λ r. ⌜ r ≡ LENGTH ⌝ }
+{
+    LENGTH as u64
+}
+
+// Opens a job.
+#[no_mangle]
+pub extern "C" fn outline_open(job: &[u8], work: &mut [u32]) -> u32
+    ensures { λ r. ⌜ worked r (now (work .exit)) ≡ openC (now (job .entry)) (length (now (work .entry))) ⌝ }
+{
+    let a = open(job, work);
+    opened_number(a)
+}
+
+// A step on a record.
+#[no_mangle]
+pub extern "C" fn outline_step(work: &mut [u32], number: u32) -> u32
+    ensures { λ r. ⌜ worked r (now (work .exit)) ≡ stepC (now (work .entry)) number ⌝ }
+{
+    let a = step(work, number);
+    stepped_number(a)
+}
+
+// Writes all paths into the tray.
+#[no_mangle]
+pub extern "C" fn outline_write(work: &[u32], tray: &mut [u8]) -> u32
+    ensures { λ r. ⌜ wrote r (now (tray .exit)) ≡ writeC (now (work .entry)) (now (tray .entry)) ⌝ }
+{
+    let a = write_out(work, tray);
+    written_number(a)
+}
+
+// Finishes a job in one call.
+#[no_mangle]
+pub extern "C" fn outline_finish(job: &[u8], work: &mut [u32], tray: &mut [u8]) -> u32
+    ensures { λ r. ⌜ finished r (now (work .exit)) (now (tray .exit)) ≡ finishC (now (job .entry)) (length (now (work .entry))) (now (tray .entry)) ⌝ }
+{
+    let a = finish(job, work, tray);
+    written_number(a)
+}
