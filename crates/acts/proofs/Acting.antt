@@ -10,7 +10,7 @@ use Rattle.lone.proofs.Acting.{count}
 use Rattle.lone.specs.Ring.{Act, discard, dropPoint, moveOn, toFirst, double, cut, ringsNew, takesPoints, offcutsNew}
 use Rattle.store.proofs.Keeping.{Kept}
 use Rattle.store.proofs.Storing.{hit}
-use Rattle.store.specs.Field.{pt, rc, X, Y, NEXT, PRESENT, START}
+use Rattle.store.specs.Field.{pt, rc, X, Y, NEXT, PRESENT}
 use Rattle.store.specs.Sound.{pts, recs, dueAt, Closed, Sound}
 use Rattle.store.specs.Words.{Store, onStore}
 use Rattle.acts.proofs.Cutting.{Four, four, cut-steps}

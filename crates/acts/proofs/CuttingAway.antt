@@ -10,7 +10,7 @@ use Rattle.rings.specs.Count.{one, occ}
 use Rattle.rings.specs.Progress.{Due}
 use Rattle.store.proofs.Keeping.{Kept, total-left}
 use Rattle.store.proofs.Storing.{miss}
-use Rattle.store.specs.Field.{pt, rc, X, Y, PREV, REC, PRESENT, START}
+use Rattle.store.specs.Field.{pt, rc, X, Y, PREV, REC, PRESENT}
 use Rattle.store.specs.Sound.{pts, recs, ringAt, total, Closed, PointIn, Sound}
 use Rattle.store.specs.Words.{Store, onStore}
 use Rattle.acts.proofs.Cutting.{Four, cut-steps, cut-occ}

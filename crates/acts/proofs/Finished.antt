@@ -1,7 +1,7 @@
 -- Finishing on words is finishing the forest: done, the words are in step with the finished forest; full, they are in step with the forest after
 -- a list of steps, and that forest's next step is refused as full.
 use Prim.Native.Nat.{ℕ, zero, suc}
-use mathlib.Core.Path.{_≡_, refl, ap, _∙_, sym, subst}
+use mathlib.Core.Path.{_≡_, refl, _∙_, sym, subst}
 use mathlib.Core.List.{List, [], _∷_, _++_}
 use native.Mathlib.Omega.{arith}
 use Rattle.rings.specs.Progress.{Ring}
@@ -14,7 +14,7 @@ use Rattle.store.specs.Words.{view}
 use Rattle.acts.specs.Apply.{Coding}
 use Rattle.acts.specs.Laws.{Laws}
 use Rattle.acts.specs.Rep.{RepW}
-use Rattle.acts.specs.Step.{Outcome, outcome, answerS, stepByW, stepW}
+use Rattle.acts.specs.Step.{Outcome, outcome, answerS, stepW}
 use Rattle.acts.specs.Finish.{andThen, stepsByW, finishRecord, finishFromW, finishW}
 use Rattle.acts.proofs.Stepping.{answer-is, stepW-is}
 use Rattle.acts.proofs.Finishing.{wordsOf}

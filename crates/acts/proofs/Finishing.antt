@@ -1,35 +1,32 @@
 -- Finishing on words: each step that is carried out keeps what finishing needs and lowers the measure; so there is fuel enough.
-use Prim.Native.Nat.{ℕ, zero, suc, _+_, _-_, _≤_, _<_}
+use Prim.Native.Nat.{ℕ, zero, suc, _-_, _<_}
 use mathlib.Core.Path.{_≡_, refl, ap, _∙_, sym, subst}
 use mathlib.Core.Logic.{_⊎_, inl, inr}
-use mathlib.Core.Bool.{Bool, true, false, true≢false}
-use mathlib.Core.List.{List, [], _∷_}
+use mathlib.Core.Bool.{true, false, true≢false}
+use mathlib.Core.List.{List}
 use mathlib.Core.Option.{Option}
-use native.Mathlib.Omega.{arith}
 use lib.ListN.{length}
-use Rattle.rings.specs.Progress.{Ring, mapRing}
+use Rattle.rings.specs.Progress.{Ring}
 use Rattle.lone.specs.Ring.{Act, stay, discard, dropPoint, moveOn, toFirst, double, cut}
 use Rattle.lone.specs.Lone.{Geo}
 use Rattle.lone.specs.Forest.{Answer, ok, full, outOfTurn, isOk, Forest, State, closedRing, at, answer, stepState, stepForest}
 use Rattle.lone.specs.Order.{machine}
-use Rattle.lone.specs.Measure.{measure}
 use Rattle.lone.specs.Finish.{enough}
 use Rattle.lone.proofs.Stepping.{at-closed, step-here, Accepted, Refused}
 use Rattle.lone.proofs.Stepping as lone
-use Rattle.lone.proofs.FinishingRings.{HeldIn, left, leftOf, kept, falls, bound}
+use Rattle.lone.proofs.FinishingRings.{left, leftOf, kept, falls, bound}
 use Rattle.store.specs.Field.{ct, SETTINGS}
 use Rattle.store.specs.Words.{Store, view}
-use Rattle.store.specs.Sound.{pts, loneAt}
 use Rattle.acts.specs.Apply.{Coding, after}
 use Rattle.acts.specs.Laws.{Laws}
-use Rattle.acts.specs.Rep.{RepW, value}
-use Rattle.acts.specs.Step.{Outcome, outcome, actAt, answerS, stepBy, stepS, stepByW, stepW}
+use Rattle.acts.specs.Rep.{RepW}
+use Rattle.acts.specs.Step.{Outcome, outcome, actAt, answerS, stepBy, stepS, stepW}
 use Rattle.acts.specs.Finish.{Finishes, wordsLeft, stepsByW, finishRecord}
-use Rattle.acts.proofs.Representing.{Here, here}
+use Rattle.acts.proofs.Representing.{here}
 use Rattle.acts.proofs.Stepping.{answer-is, view-step, stepW-is, length-step}
 
 -- no act writes the settings
-settings-after : {P : Type 0} (f : Coding P) (s : Store) (i : ℕ) (act : Act P) → after f s i act (ct SETTINGS) 0 ≡ s (ct SETTINGS) 0
+pub settings-after : {P : Type 0} (f : Coding P) (s : Store) (i : ℕ) (act : Act P) → after f s i act (ct SETTINGS) 0 ≡ s (ct SETTINGS) 0
 settings-after f s i stay = refl
 settings-after f s i discard = refl
 settings-after f s i dropPoint = refl

@@ -8,11 +8,10 @@ use mathlib.Core.Option.{Option}
 use native.Mathlib.Omega.{arith}
 use native.Mathlib.Decide.{ℕ-discrete}
 use lib.Dec.{eqb}
-use lib.ListN.{length}
 use Rattle.rings.proofs.Counting.{occ-last, one-else, occ-head, occ-lastOf, all-in}
 use Rattle.rings.proofs.Linking.{linked-splice}
 use Rattle.rings.proofs.Placing.{place-head, place-cut, not-last, not-first}
-use Rattle.rings.specs.Circle.{lastOf, initOf, cutStart}
+use Rattle.rings.specs.Circle.{lastOf, initOf}
 use Rattle.rings.specs.Count.{one, occ}
 use Rattle.rings.specs.Place.{place}
 use Rattle.rings.specs.Progress.{Ring, Due, tidy, tidyAt}

@@ -1,6 +1,6 @@
 -- The step on a store, its answer, and that both are the forest's; then the same for every list of steps.
 use Prim.Native.Nat.{ℕ, _+_, _≤_, _<_}
-use mathlib.Core.Path.{_≡_, refl, ap, _∙_, sym}
+use mathlib.Core.Path.{_≡_, refl, ap, _∙_}
 use mathlib.Core.Logic.{_⊎_, inl, inr}
 use mathlib.Core.Bool.{Bool, true, false, cond, not, _&&_}
 use mathlib.Core.List.{List, [], _∷_}
@@ -24,7 +24,7 @@ use Rattle.acts.proofs.Acting.{Acted, act-steps}
 use Rattle.acts.proofs.OnWords.{after-view, length-after}
 use Rattle.acts.proofs.Readiness.{ready}
 use Rattle.acts.proofs.Representing.{rep-step}
-use Rattle.acts.specs.Apply.{Coding, after, takesRecord, afterW}
+use Rattle.acts.specs.Apply.{Coding, after, takesRecord}
 use Rattle.acts.specs.Laws.{Laws}
 use Rattle.acts.specs.Rep.{value, Shows, as-ringless, as-open, as-closed, Rep, RepW}
 use Rattle.acts.specs.Step.{actAt, live, roomFor, answerS, stepBy, stepS, runS, stepByW, stepW, runW}

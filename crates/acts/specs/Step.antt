@@ -1,9 +1,9 @@
 -- The step on a store and on words: what the record's lone ring would do, whether there is room, and then its writes. A refused step writes nothing.
 use Prim.Native.Nat.{ℕ, _+_}
-use mathlib.Core.Bool.{Bool, true, false, cond, not, _&&_}
+use mathlib.Core.Bool.{Bool, cond, not, _&&_}
 use mathlib.Core.List.{List, [], _∷_}
 use lib.Dec.{leb, ltb}
-use Rattle.rings.specs.Progress.{Ring, isDone, mapRing}
+use Rattle.rings.specs.Progress.{isDone, mapRing}
 use Rattle.lone.specs.Ring.{Act, takesPoints}
 use Rattle.lone.specs.Lone.{Geo, actOf}
 use Rattle.lone.specs.Forest.{Answer, ok, full, outOfTurn}

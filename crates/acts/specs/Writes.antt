@@ -4,8 +4,8 @@ use Prim.Native.Nat.{ℕ, suc}
 use mathlib.Core.Bool.{cond}
 use mathlib.Core.List.{List, [], _∷_, _++_}
 use lib.Dec.{eqb}
-use Rattle.rings.specs.Progress.{Due, validity, done}
-use Rattle.store.specs.Field.{pt, rc, ct, X, Y, NEXT, PREV, REC, FLAGS, OWNER, FIRST, MARK, PRESENT, START, CUT, POINTS, RECORDS, NONE}
+use Rattle.rings.specs.Progress.{Due, done}
+use Rattle.store.specs.Field.{pt, rc, ct, NEXT, PREV, REC, OWNER, FIRST, MARK, PRESENT, START, RECORDS, NONE}
 use Rattle.store.specs.Sound.{pts, recs, markOf}
 use Rattle.store.specs.Words.{Store, Write, write}
 use Rattle.store.specs.Primitive.{pointWrites, linkWrites, unlinkWrites, startWrites}

@@ -1,14 +1,12 @@
 -- A sound store passes the tests; so they pass exactly when it is sound.
-use Prim.Native.Nat.{ℕ, zero, suc, _+_, _≤_, _<_}
-use mathlib.Core.Path.{_≡_, refl, ap, _∙_, sym, subst}
+use Prim.Native.Nat.{ℕ, zero, suc, _≤_, _<_}
+use mathlib.Core.Path.{_≡_, refl}
 use mathlib.Core.Logic.{_⊎_, inl, inr, _↔_}
 use mathlib.Core.Bool.{Bool, true, false}
 use mathlib.Core.List.{List}
 use native.Mathlib.Omega.{arith}
 use native.Mathlib.Decide.{decLt}
-use lib.Dec.{eqb}
 use borrow.Author.Tests.{ne-eqb, eqb-true}
-use Rattle.job.specs.Limits as limit
 use Rattle.rings.specs.Count.{occ}
 use Rattle.rings.specs.Progress.{isDone}
 use Rattle.rings.specs.Walk.{Whole}
@@ -17,8 +15,8 @@ use Rattle.rings.proofs.Members.{next-on, prev-on, next-prev, prev-next}
 use Rattle.rings.proofs.Tables.{Found}
 use Rattle.store.specs.Field.{NONE}
 use Rattle.store.specs.Words.{view}
-use Rattle.store.specs.Named.{pointsOf, recordsOf, nextOf, prevOf, recOf, firstOf, progressOf}
-use Rattle.store.specs.Sound.{recs, ringless, ringAt, dueOf, Closed, PointIn, Sound}
+use Rattle.store.specs.Named.{pointsOf, recordsOf, nextOf, prevOf, firstOf, progressOf}
+use Rattle.store.specs.Sound.{ringless, ringAt, dueOf, PointIn, Sound}
 use Rattle.store.proofs.Soundness.{whole, first-on}
 use Rattle.audit.specs.declared.Verdict.the-variants.{Passed}
 use Rattle.audit.specs.Tests.{reachedBy, offTable, noSuch, noSuchOf, loose, shared, misplaced, testsOf}

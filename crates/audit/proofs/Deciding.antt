@@ -1,34 +1,30 @@
 -- The tests pass exactly when the store is sound.
 use Prim.Native.Nat.{ℕ, zero, suc, _+_, _≤_, _<_}
 use mathlib.Core.Path.{_≡_, refl, ap, _∙_, sym, subst}
-use mathlib.Core.Logic.{_≢_, _⊎_, inl, inr}
+use mathlib.Core.Logic.{_⊎_, inl, inr}
 use mathlib.Core.Bool.{Bool, true, false, cond}
 use mathlib.Core.List.{List, [], _∷_, _++_}
 use native.Mathlib.Omega.{arith}
 use native.Mathlib.Decide.{ℕ-discrete, decLt}
-use lib.Dec.{eqb}
-use lib.ListN.{length}
-use borrow.Author.Tests.{eq-eqb, ne-eqb, eqb-true, eqb-false}
-use Rattle.job.specs.Limits as limit
-use Rattle.rings.specs.Count.{one, occ, sumTo}
+use borrow.Author.Tests.{eqb-false}
+use Rattle.rings.specs.Count.{occ}
 use Rattle.rings.specs.Links.{Seg, Linked}
-use Rattle.rings.specs.Progress.{Due, isDone, validity, removal, triangle, split, done}
+use Rattle.rings.specs.Progress.{isDone}
 use Rattle.rings.specs.Relink.{Mutual}
-use Rattle.rings.specs.Walk.{walk, Whole}
-use Rattle.rings.proofs.Counting.{one-here, one-else, occ-head, sum-two}
-use Rattle.rings.proofs.Members.{one-is, occ-append, From, from, next-on, prev-on, next-prev, prev-next, whole-kept}
+use Rattle.rings.specs.Walk.{Whole}
+use Rattle.rings.proofs.Counting.{one-here, one-else}
+use Rattle.rings.proofs.Members.{From, from, prev-next, whole-kept}
 use Rattle.rings.proofs.Orbits.{Orbit, orbit}
-use Rattle.rings.proofs.Tables.{Found, once-by}
+use Rattle.rings.proofs.Tables.{once-by}
 use Rattle.rings.proofs.Walking.{ring-is}
-use Rattle.store.specs.Field.{pt, rc, NEXT, PREV, FIRST, MARK, PRESENT, OWNER, NONE}
-use Rattle.store.specs.Words.{Store, view}
-use Rattle.store.specs.Named.{pointsOf, recordsOf, nextOf, prevOf, recOf, ownerOf, firstOf, progressOf, presentOf}
-use Rattle.store.specs.Sound.{pts, recs, ringless, ringAt, isOpen, dueOf, dueAt, Closed, PointIn, Good, total, Sound}
-use Rattle.store.proofs.Soundness.{whole, first-on}
-use Rattle.audit.specs.declared.Verdict.the-variants.{Passed}
-use Rattle.audit.specs.Tests.{isIn, reachedBy, offTable, noSuch, noSuchOf, loose, shared, misplaced, testsOf}
-use Rattle.audit.proofs.Reaching.{Reached, reached, only-reached, in-true, in-false}
-use Rattle.audit.proofs.Saying.{none-of, all-none, reached-none, none-reached, on-table, table-on, such, such-not, tied, tied-not, owned, owned-not, alone, alone-not, mark-low, place-on, misplaced-not, Passing, passing, passed, Placed, Numbered, Tied, Owned}
+use Rattle.store.specs.Field.{NONE}
+use Rattle.store.specs.Words.{view}
+use Rattle.store.specs.Named.{pointsOf, recordsOf, nextOf, prevOf, firstOf, progressOf}
+use Rattle.store.specs.Sound.{ringless, ringAt, dueOf, Good, Sound}
+use Rattle.store.proofs.Soundness.{whole}
+use Rattle.audit.specs.Tests.{isIn, reachedBy, offTable, noSuch, noSuchOf, loose, shared, misplaced}
+use Rattle.audit.proofs.Reaching.{Reached, reached, in-true, in-false}
+use Rattle.audit.proofs.Saying.{none-of, reached-none, on-table, such, tied, owned, alone, mark-low, place-on, Passing, Placed, Numbered, Tied}
 
 -- what holds of the first of a ring, and with each point of its next, holds of all
 along : (n p : ℕ → ℕ) (m : ℕ) (P : ℕ → Type 0) → ((k : ℕ) → P k → n k < m → P (n k)) → (a : ℕ) (l : List ℕ) (b : ℕ) → Seg n p (a ∷ l ++ (b ∷ [])) → ((k : ℕ) → 0 < occ k (a ∷ l) → k < m) → P a → (k : ℕ) → 0 < occ k (a ∷ l) → P k

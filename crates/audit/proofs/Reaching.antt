@@ -1,19 +1,19 @@
 -- Laws of the points reached: each once, each a point; whatever is reached is on the list, and nothing else is.
 use Prim.Native.Nat.{ℕ, zero, suc, _+_, _≤_, _<_}
-use mathlib.Core.Path.{_≡_, refl, ap, _∙_, sym, subst}
+use mathlib.Core.Path.{_≡_, refl, ap, sym, subst}
 use mathlib.Core.Logic.{_≢_}
 use mathlib.Core.Bool.{Bool, true, false, cond, not, _&&_}
-use mathlib.Core.List.{List, [], _∷_}
+use mathlib.Core.List.{List, _∷_}
 use native.Mathlib.Omega.{arith}
 use native.Mathlib.Decide.{ℕ-discrete, decLt}
 use lib.Dec.{ltb}
 use lib.ListN.{length}
 use borrow.Author.Tests.{lt-ltb, le-ltb, ltb-true, ltb-false}
 use Rattle.job.specs.Limits as limit
-use Rattle.rings.specs.Count.{one, occ}
-use Rattle.rings.proofs.Counting.{one-here, one-else, one-le, occ-head, pigeon}
+use Rattle.rings.specs.Count.{occ}
+use Rattle.rings.proofs.Counting.{one-else, one-le, occ-head, pigeon}
 use Rattle.rings.proofs.Members.{one-is}
-use Rattle.store.specs.Named.{pointsOf, recordsOf, nextOf, firstOf}
+use Rattle.store.specs.Named.{pointsOf, nextOf, firstOf}
 use Rattle.audit.specs.Tests.{isIn, reach, reachedBy}
 
 -- ---- in a list, as a test and as a count

@@ -1,13 +1,13 @@
 -- What each test says of the words where it does not fail, and back.
 use Prim.Native.Nat.{ℕ, zero, suc, _*_, _≤_, _<_}
-use mathlib.Core.Path.{_≡_, refl, ap, _∙_, sym, subst}
-use mathlib.Core.Logic.{_≢_, _⊎_, inl, inr}
+use mathlib.Core.Path.{_≡_, refl, ap, _∙_}
+use mathlib.Core.Logic.{_⊎_, inl, inr}
 use mathlib.Core.Bool.{Bool, true, false, cond, not, _&&_, _||_}
 use mathlib.Core.List.{List}
 use native.Mathlib.Omega.{arith}
 use native.Mathlib.Decide.{ℕ-discrete, decLt}
 use lib.Dec.{eqb, ltb}
-use borrow.Author.Tests.{eq-eqb, ne-eqb, eqb-true, eqb-false, lt-ltb, le-ltb, ltb-true, ltb-false, not-false}
+use borrow.Author.Tests.{eq-eqb, ne-eqb, eqb-true, lt-ltb, le-ltb, ltb-true, ltb-false, not-false}
 use Rattle.job.specs.Limits as limit
 use Rattle.job.specs.declared.refusal.Refusal.the-variants.{Crowded, OffTheTable, NoSuch, Loose, Muddled}
 use Rattle.rings.specs.Count.{occ}
@@ -15,7 +15,6 @@ use Rattle.store.specs.Field.{pt, X, Y, NONE}
 use Rattle.store.specs.Words.{view}
 use Rattle.store.specs.Named.{pointsOf, recordsOf, nextOf, prevOf, recOf, ownerOf, firstOf, progressOf, presentOf}
 use Rattle.store.specs.Sound.{ringless, ringAt, isOpen}
-use Rattle.audit.specs.declared.Verdict.{Verdict}
 use Rattle.audit.specs.declared.Verdict.the-variants.{Passed, Refused}
 use Rattle.audit.specs.Tests.{isIn, anyBelow, anyReached, anyRecord, reachedBy, crowded, offTable, noSuch, noSuchOf, namesNone, loose, shared, misplaced, testsOf}
 use Rattle.audit.proofs.Reaching.{in-true, in-false, true-in, false-in}

@@ -1,6 +1,6 @@
 -- The tests of a handed work space: document 01, "A step, or writing out after steps, first tests the work space it is handed".
 use Prim.Native.Nat.{ℕ, zero, suc, _*_}
-use mathlib.Core.Bool.{Bool, true, false, cond, not, _&&_, _||_}
+use mathlib.Core.Bool.{Bool, false, cond, not, _&&_, _||_}
 use mathlib.Core.List.{List, [], _∷_}
 use lib.Dec.{eqb, ltb}
 use Rattle.rings.specs.Count.{occ}

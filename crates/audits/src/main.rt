@@ -6,7 +6,7 @@ use store::Col;
 use store::NONE;
 use store::points::start_record;
 use store::set;
-ghost use Prim.Native.Nat.{ℕ, _+_, _<_, _≤_, _^_};
+ghost use Prim.Native.Nat.{_+_, _<_, _≤_, _^_};
 ghost use lib.ListN.{length};
 ghost use Rattle.store.specs.Field.{size, LENGTH};
 ghost use Rattle.store.specs.Column.{fieldOf};

@@ -1,10 +1,11 @@
-// The public entry points: a step, and writing out. No function of this file that is `pub` has a `requires`.
+// The public entry points: opening, a step, and writing out. No function of this file that is `pub` has a `requires`.
 pub mod finish;
 
 use audit::Verdict;
 use audit::tests_of;
 use job::refusal::Refusal;
 use opening::open::LENGTH;
+use opening::open::Opened;
 use paths::Written;
 use paths::build_paths64;
 use store::Col;
@@ -13,8 +14,8 @@ use turns::Answer;
 use turns::step::is_live;
 use turns::step::step_record;
 ghost use mathlib.Core.Path.{_≡_};
-ghost use Prim.Native.Nat.{ℕ, _+_, _<_, _≤_};
 ghost use lib.ListN.{length};
+ghost use Prim.Native.Nat.{_+_, _<_};
 ghost use Rattle.store.specs.Field.{LENGTH};
 ghost use Rattle.store.specs.Words.{view};
 ghost use Rattle.store.specs.Sound.{recs};
@@ -24,6 +25,7 @@ ghost use Rattle.acts.specs.Step.{live};
 ghost use Rattle.turns.specs.Code.{answerIs};
 ghost use Rattle.turns.specs.Reads.{SoundWords};
 ghost use Rattle.paths.specs.Wrote.{wrote};
+ghost use Rattle.opening.specs.Open.{end, openOf};
 ghost use Rattle.finishing.specs.Step.{left, steppedAs, stepBy, stepOf};
 ghost use Rattle.finishing.specs.Write.{writeBy, writeOf};
 ghost use Rattle.finishing.specs.Tested.{Tested};
@@ -32,6 +34,15 @@ ghost use Rattle.finishing.specs.Tested.{Tested};
 pub enum Stepped {
     Done,
     Refused(Refusal),
+}
+
+// ---- opening
+
+// Opens a job: its answer, and every word left.
+pub fn open(bytes: &[u8], work: &mut [u32]) -> Opened
+    ensures { λ r. ⌜ end r (now (work .exit)) ≡ openOf (now (bytes .entry)) (length (now (work .entry))) ⌝ }
+{
+    opening::open::open(bytes, work)
 }
 
 // ---- a step

@@ -1,11 +1,11 @@
 // The entry points for C and Rust: the same calls, answering 0 or the refusal's number of document 01's table.
 use finishing::Stepped;
 use finishing::finish::finish;
+use finishing::open;
 use finishing::step;
 use finishing::write_out;
 use opening::open::LENGTH;
 use opening::open::Opened;
-use opening::open::open;
 use paths::Written;
 ghost use mathlib.Core.Path.{_≡_};
 ghost use lib.ListN.{length};

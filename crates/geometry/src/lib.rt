@@ -2,7 +2,7 @@
 
 ghost use mathlib.Core.Path.{_≡_};
 ghost use Prim.Native.Nat.{_^_};
-ghost use lib.IntN.{pos, _+ℤ_, _-ℤ_, _*ℤ_};
+ghost use lib.IntN.{_+ℤ_, _-ℤ_, _*ℤ_};
 ghost use Rattle.exact.specs.Num.{Within};
 ghost use Rattle.geometry.specs.Plane.{InTable, samePoint, isCollinear, dotProductThreePoints, edgeArea, areaTriangle, closeBy, ptsReallyClose, isVerySmallTriangle, removable, segmentsIntersect};
 ghost use Rattle.geometry.specs.Crossing.{edgePair, crossing, getSegmentIntersectPt, Crossed, pointOf};

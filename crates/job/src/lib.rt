@@ -7,7 +7,6 @@ ghost use mathlib.Core.Path.{_≡_};
 ghost use Prim.Native.Nat.{_+_, _<_, _^_};
 ghost use Rattle.job.specs.Limits as limit;
 ghost use Rattle.job.specs.Job.{fresh, past, Within};
-ghost use Rattle.job.specs.Coordinate.{offTheTable};
 
 // What reading carries from field to field: how far it is, the last tag (0 before the first field), the settings' bits, and
 // how many fields of each kind there were.
@@ -93,13 +92,6 @@ impl Job {
                 return j;
             }
         }
-    }
-
-    // Whether a coordinate's word is beyond the limit.
-    pub fn off_the_table(w: u32) -> bool
-        ensures { λ r. ⌜ r ≡ offTheTable w ⌝ }
-    {
-        2 * Job::COORDINATE < w
     }
 }
 

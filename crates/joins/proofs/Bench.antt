@@ -2,11 +2,10 @@
 use Prim.Native.Nat.{ℕ, _+_}
 use mathlib.Core.Path.{_≡_, refl}
 use mathlib.Core.List.{List, [], _∷_, _++_}
-use lib.ListN.{replicate, length}
+use lib.ListN.{replicate}
 use Rattle.store.specs.Field.{pt, rc, ct, NEXT, PREV, REC, OWNER, FIRST, POINTS, RECORDS, LENGTH, NONE}
 use Rattle.store.specs.Words.{cell, put, Write, write, onWords}
 use Rattle.rings.specs.Walk.{run}
-use Rattle.joins.specs.declared.Joined.{Joined}
 use Rattle.joins.specs.Resolve.{realOf, getRealOutrec, homeOf}
 use Rattle.joins.specs.Join.{End, end, number, relinkOf, newOutRec, nameAll, fixOutrecPts, settleOf, cutOf, splitOf, mergeOf, byRecords, joinOf, joinsFrom, processHorzJoins}
 

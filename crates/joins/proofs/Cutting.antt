@@ -1,33 +1,33 @@
 -- The two cases of a join at the words: each leaves words that keep the invariant.
-use Prim.Native.Nat.{ℕ, zero, suc, _+_, _≤_, _<_}
+use Prim.Native.Nat.{ℕ, _+_, _≤_, _<_}
 use mathlib.Core.Path.{_≡_, refl, ap, _∙_, sym, subst, fun-ext}
 use mathlib.Core.Logic.{_≢_, _⊎_, inl, inr}
 use mathlib.Core.Bool.{Bool, true, false, cond}
 use mathlib.Core.List.{List, [], _∷_, _++_, append-assoc}
 use native.Mathlib.Omega.{arith}
-use native.Mathlib.Decide.{ℕ-discrete, decLt}
+use native.Mathlib.Decide.{decLt}
 use lib.Dec.{eqb}
 use lib.ListN.{length}
-use borrow.Author.Tests.{eq-eqb, ne-eqb, eqb-true, eqb-false}
+use borrow.Author.Tests.{eq-eqb, ne-eqb, eqb-false}
 use Rattle.rings.specs.Count.{one, occ}
 use Rattle.rings.specs.Links.{All, Seg}
-use Rattle.rings.specs.Walk.{walk, Whole}
+use Rattle.rings.specs.Walk.{Whole}
 use Rattle.rings.specs.Relink.{Crossed}
 use Rattle.rings.proofs.Counting.{all-in, one-here, one-else}
-use Rattle.rings.proofs.Members.{one-is, occ-append, Parted, parted, seg-part, seg-next, whole-kept}
+use Rattle.rings.proofs.Members.{occ-append, parted, seg-part, seg-next, whole-kept}
 use Rattle.rings.proofs.Splicing.{occ-halves, whole-cut-new}
 use Rattle.rings.proofs.Walking.{Seen, seen}
 use Rattle.store.specs.Field.{Field, pt, rc, ct, X, Y, NEXT, PREV, REC, FLAGS, OWNER, FIRST, POINTS, RECORDS, NONE, LENGTH, same}
-use Rattle.store.specs.Words.{Store, view, Write, write, onWords, onStore, Within, upd}
+use Rattle.store.specs.Words.{Store, view, Write, write, onStore}
 use Rattle.store.specs.Named.{nextOf, prevOf, recOf, firstOf, pointsOf, recordsOf, setRec, setFirst}
-use Rattle.store.specs.Sound.{pts, recs, ringAt, isOpen}
+use Rattle.store.specs.Sound.{ringAt, isOpen}
 use Rattle.store.proofs.Soundness.{first-on}
-use Rattle.store.proofs.Storing.{view-writes, length-writes, length-put, view-put}
-use Rattle.joins.specs.Resolve.{Resolves, Lives}
-use Rattle.joins.specs.Resolved.{Resolved, Ready}
-use Rattle.joins.specs.Join.{relinkOf, newOutRec, nameAll, fixOutrecPts, settleOf, cutOf, mergeOf}
+use Rattle.store.proofs.Storing.{view-writes, length-writes, length-put}
+use Rattle.joins.specs.Resolve.{Lives}
+use Rattle.joins.specs.Resolved.{Ready}
+use Rattle.joins.specs.Join.{relinkOf, newOutRec, fixOutrecPts, settleOf, cutOf, mergeOf}
 use Rattle.joins.specs.Needs.{Four, Ringed, Pair}
-use Rattle.joins.proofs.Homes.{table, lives-on, on-ring, from, next-lives, prev-lives, next-prev}
+use Rattle.joins.proofs.Homes.{on-ring, from, next-lives, prev-lives, next-prev}
 use Rattle.joins.proofs.Joining.{Split, split-resolved, split-opened, Merged, merge-resolved, merge-opened, Opened}
 use Rattle.joins.proofs.Naming.{name-length, name-col, name-out, name-in}
 

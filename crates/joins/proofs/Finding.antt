@@ -1,15 +1,14 @@
 -- The loop of get_real_outrec: it stands at q, which still resolves to the same record, and each hop leaves fewer.
-use Prim.Native.Nat.{ℕ, zero, suc, _+_, _≤_, _<_}
-use mathlib.Core.Path.{_≡_, refl, ap, _∙_, sym, subst}
+use Prim.Native.Nat.{ℕ, suc, _≤_, _<_}
+use mathlib.Core.Path.{_≡_, ap, _∙_, sym, subst}
 use mathlib.Core.Logic.{_≢_}
 use mathlib.Core.List.{List, [], _∷_}
 use native.Mathlib.Omega.{arith}
 use lib.ListN.{length}
 use Rattle.rings.specs.Links.{All}
-use Rattle.store.specs.Field.{rc, OWNER, FIRST, NONE, LENGTH}
-use Rattle.store.specs.Words.{Store, view}
+use Rattle.store.specs.Field.{NONE, LENGTH}
+use Rattle.store.specs.Words.{view}
 use Rattle.store.specs.Named.{firstOf, ownerOf, recOf, recordsOf, pointsOf}
-use Rattle.store.specs.Sound.{recs}
 use Rattle.joins.specs.Resolve.{getRealOutrec, homeOf, Path, Resolves, Lives}
 use Rattle.joins.specs.Resolved.{Ready}
 use Rattle.joins.specs.Needs.{Resolving, Point}

@@ -1,26 +1,24 @@
 -- A new point keeps the invariant: the next free place goes in before q, with the coordinates and the record of a point of q's ring.
-use Prim.Native.Nat.{ℕ, zero, suc, _+_, _≤_, _<_}
-use mathlib.Core.Path.{_≡_, refl, ap, _∙_, sym, subst}
-use mathlib.Core.Logic.{_≢_, _⊎_, inl, inr}
-use mathlib.Core.List.{List, [], _∷_, _++_}
+use Prim.Native.Nat.{ℕ, suc, _+_, _≤_, _<_}
+use mathlib.Core.Path.{_≡_, ap, _∙_, sym, subst}
+use mathlib.Core.Logic.{_≢_}
+use mathlib.Core.List.{List, _∷_}
 use native.Mathlib.Omega.{arith}
 use native.Mathlib.Decide.{ℕ-discrete, decLt}
 use borrow.Author.Tests.{eq-eqb, ne-eqb}
 use Rattle.rings.specs.Count.{one, occ}
-use Rattle.rings.specs.Links.{All}
-use Rattle.rings.specs.Walk.{Whole}
 use Rattle.rings.specs.Relink.{Inserted}
 use Rattle.rings.specs.Table.{Table, with, Starts, nowhere, on-it}
 use Rattle.rings.specs.Table as rings
-use Rattle.rings.proofs.Counting.{all-in, in-all, one-else, one-here}
+use Rattle.rings.proofs.Counting.{all-in, one-else, one-here}
 use Rattle.rings.proofs.Tables.{found, table-insert, total-insert, walked, table-walked, total-walked}
 use Rattle.store.specs.Field.{pt, rc, X, Y, NEXT, PREV, REC, OWNER, FIRST, NONE}
 use Rattle.store.specs.Words.{Store}
 use Rattle.store.specs.Sound.{pts, recs, ringAt, total}
-use Rattle.joins.specs.Resolve.{Path, Resolves, Lives}
+use Rattle.joins.specs.Resolve.{Resolves, Lives}
 use Rattle.joins.specs.Resolved.{Resolved}
 use Rattle.joins.proofs.Resolving.{path-kept}
-use Rattle.joins.proofs.Homes.{starts, table, on-ring, from}
+use Rattle.joins.proofs.Homes.{starts, table, from}
 
 -- like: the point that is copied
 pub record Grown (s u : Store) (q like : ℕ) : Type 0 where

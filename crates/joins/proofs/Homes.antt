@@ -1,9 +1,7 @@
 -- What the invariant gives: the table of rings, the ring that a point is on, and its neighbours there.
-use Prim.Native.Nat.{ℕ, zero, suc, _+_, _≤_, _<_}
-use mathlib.Core.Path.{_≡_, refl, ap, _∙_, sym, subst}
+use Prim.Native.Nat.{ℕ, _<_}
+use mathlib.Core.Path.{_≡_, subst}
 use mathlib.Core.Logic.{_≢_}
-use mathlib.Core.List.{List, [], _∷_}
-use native.Mathlib.Omega.{arith}
 use native.Mathlib.Decide.{ℕ-discrete}
 use borrow.Author.Tests.{eq-eqb, ne-eqb}
 use Rattle.rings.specs.Count.{occ}
@@ -11,12 +9,12 @@ use Rattle.rings.specs.Walk.{Whole}
 use Rattle.rings.specs.Table.{Table, Starts, nowhere, on-it}
 use Rattle.rings.proofs.Members as members
 use Rattle.rings.proofs.Members.{From}
-use Rattle.rings.proofs.Tables.{Found, found, once-by}
+use Rattle.rings.proofs.Tables.{found, once-by}
 use Rattle.store.specs.Field.{pt, rc, NEXT, PREV, REC, FIRST, NONE}
 use Rattle.store.specs.Words.{Store}
-use Rattle.store.specs.Sound.{pts, recs, ringless, ringAt, total}
+use Rattle.store.specs.Sound.{pts, recs, ringAt}
 use Rattle.store.proofs.Soundness.{first-on}
-use Rattle.joins.specs.Resolve.{Resolves, Lives}
+use Rattle.joins.specs.Resolve.{Lives}
 use Rattle.joins.specs.Resolved.{Resolved}
 use Rattle.joins.proofs.Resolving.{res-same}
 

@@ -1,5 +1,5 @@
 -- A join keeps the invariant: one record for both points gives a second ring with a new record, two records give one ring and empty the second.
-use Prim.Native.Nat.{ℕ, zero, suc, _+_, _≤_, _<_}
+use Prim.Native.Nat.{ℕ, suc, _+_, _≤_, _<_}
 use mathlib.Core.Path.{_≡_, refl, ap, _∙_, sym, subst}
 use mathlib.Core.Logic.{_≢_, _⊎_, inl, inr}
 use mathlib.Core.Bool.{Bool, true, false, cond}
@@ -7,8 +7,7 @@ use mathlib.Core.List.{List, [], _∷_, _++_}
 use native.Mathlib.Omega.{arith}
 use native.Mathlib.Decide.{ℕ-discrete, decLt}
 use borrow.Author.Tests.{eq-eqb, ne-eqb}
-use Rattle.rings.specs.Count.{one, occ}
-use Rattle.rings.specs.Links.{All}
+use Rattle.rings.specs.Count.{occ}
 use Rattle.rings.specs.Walk.{walk, Whole}
 use Rattle.rings.specs.Relink.{Crossed}
 use Rattle.rings.specs.Table.{Table, with, Starts, nowhere, on-it}
@@ -17,7 +16,7 @@ use Rattle.rings.proofs.Counting.{all-in, in-all}
 use Rattle.rings.proofs.Members.{one-is, occ-append}
 use Rattle.rings.proofs.Walking.{run-agree}
 use Rattle.rings.proofs.Splicing.{occ-halves, occ-spliced}
-use Rattle.rings.proofs.Tables.{with-here, with-else, table-cut, total-cut, table-splice, total-splice, Walked, walked, table-walked, total-walked, elsewhere}
+use Rattle.rings.proofs.Tables.{table-cut, total-cut, table-splice, total-splice, walked, table-walked, total-walked, elsewhere}
 use Rattle.store.specs.Field.{pt, rc, X, Y, NEXT, PREV, REC, FLAGS, OWNER, FIRST, NONE}
 use Rattle.store.specs.Words.{Store}
 use Rattle.store.specs.Sound.{pts, recs, ringless, ringAt, isOpen, total}

@@ -1,16 +1,15 @@
 -- What fix_outrec_pts does to the words: the points of a list name a record, and nothing else is written.
-use Prim.Native.Nat.{ℕ, zero, suc, _+_, _≤_, _<_}
-use mathlib.Core.Path.{_≡_, refl, ap, _∙_, sym, subst}
-use mathlib.Core.Logic.{_≢_}
-use mathlib.Core.Bool.{Bool, true, false, cond}
-use mathlib.Core.List.{List, [], _∷_, _++_}
+use Prim.Native.Nat.{ℕ, _≤_, _<_}
+use mathlib.Core.Path.{_≡_, refl, ap, _∙_, sym}
+use mathlib.Core.Bool.{false}
+use mathlib.Core.List.{List, [], _∷_}
 use native.Mathlib.Omega.{arith}
 use native.Mathlib.Decide.{ℕ-discrete}
 use lib.ListN.{length}
 use borrow.Author.Tests.{eq-eqb, ne-eqb}
-use Rattle.rings.specs.Count.{one, occ}
+use Rattle.rings.specs.Count.{occ}
 use Rattle.rings.specs.Links.{All}
-use Rattle.rings.proofs.Counting.{one-else, one-here}
+use Rattle.rings.proofs.Counting.{one-else}
 use Rattle.rings.proofs.Members.{one-is}
 use Rattle.store.specs.Field.{Field, pt, REC, same, LENGTH}
 use Rattle.store.specs.Words.{Store, view, upd}

@@ -1,24 +1,20 @@
 -- Joins of points on closed rings leave every open ring as it was.
 use Prim.Native.Nat.{ℕ, zero, suc, _+_, _*_, _≤_, _<_}
-use mathlib.Core.Path.{_≡_, refl, ap, _∙_, sym, subst}
+use mathlib.Core.Path.{_≡_, refl, _∙_}
 use mathlib.Core.Bool.{Bool, true, false, cond}
-use mathlib.Core.List.{List, [], _∷_}
+use mathlib.Core.List.{List}
 use native.Mathlib.Omega.{arith}
 use lib.Dec.{eqb, ltb}
 use lib.ListN.{getD}
 use native.Mathlib.Decide.{decLt}
 use borrow.Author.Tests.{eqb-true, eqb-false, ltb-true}
-use Rattle.store.specs.Field.{pt, rc, FLAGS}
 use Rattle.store.specs.Words.{Store, view}
-use Rattle.store.specs.Named.{nextOf, pointsOf, recordsOf}
-use Rattle.store.specs.Sound.{pts, recs, ringAt, isOpen}
-use Rattle.joins.specs.declared.Joined.{Joined}
+use Rattle.store.specs.Named.{nextOf, recordsOf}
+use Rattle.store.specs.Sound.{recs, isOpen}
 use Rattle.joins.specs.declared.Joined.the-variants.{Done, Knot, Full}
-use Rattle.joins.specs.Resolve.{homeOf, Lives}
-use Rattle.joins.specs.Resolved.{Resolved, Ready}
+use Rattle.joins.specs.Resolve.{homeOf}
 use Rattle.joins.specs.Join.{End, end, cutOf, splitOf, mergeOf, byRecords, joinOf, follow, joinsFrom, processHorzJoins}
 use Rattle.joins.specs.Needs.{Points, Pair, Joins}
-use Rattle.joins.proofs.Homes.{home-of}
 use Rattle.joins.proofs.Joining.{Shut, Opened}
 use Rattle.joins.proofs.Cutting.{merge-open, cut-open}
 use Rattle.joins.proofs.Turns.{Still, words, pair-same, points-pair, join-kept}

@@ -1,21 +1,20 @@
 -- The loop of fix_outrec_pts: from p on, the points that are yet to name the record, up to the first.
-use Prim.Native.Nat.{ℕ, zero, suc, _+_, _≤_, _<_}
-use mathlib.Core.Path.{_≡_, refl, ap, _∙_, sym, subst, fun-ext}
+use Prim.Native.Nat.{ℕ, _+_, _≤_, _<_}
+use mathlib.Core.Path.{_≡_, ap, _∙_, sym, subst}
 use mathlib.Core.Logic.{_≢_}
-use mathlib.Core.Bool.{true, false}
 use mathlib.Core.List.{List, [], _∷_, _++_}
 use native.Mathlib.Omega.{arith}
 use lib.ListN.{length}
-use borrow.Author.Tests.{eq-eqb, ne-eqb}
-use Rattle.rings.specs.Count.{one, occ}
+use borrow.Author.Tests.{ne-eqb}
+use Rattle.rings.specs.Count.{occ}
 use Rattle.rings.specs.Links.{All, Seg}
-use Rattle.rings.specs.Walk.{run, walk, Whole}
+use Rattle.rings.specs.Walk.{run}
 use Rattle.rings.proofs.Counting.{all-in, one-here, pigeon}
 use Rattle.rings.proofs.Members.{one-is}
 use Rattle.rings.proofs.Walking.{run-seg}
 use Rattle.rings.proofs.Walking as walking
 use Rattle.store.specs.Field.{pt, REC, NEXT, PREV, NONE, LENGTH}
-use Rattle.store.specs.Words.{Store, view, put, upd}
+use Rattle.store.specs.Words.{Store, view, upd}
 use Rattle.store.specs.Named.{nextOf, prevOf, firstOf, setRec}
 use Rattle.store.specs.Sound.{ringAt}
 use Rattle.store.proofs.Storing.{view-put, length-put}

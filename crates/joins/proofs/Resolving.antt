@@ -9,13 +9,13 @@ use native.Mathlib.Decide.{ℕ-discrete}
 use lib.Dec.{eqb}
 use lib.ListN.{length}
 use borrow.Author.Tests.{eq-eqb, ne-eqb}
-use Rattle.rings.specs.Count.{one, occ}
+use Rattle.rings.specs.Count.{occ}
 use Rattle.rings.specs.Links.{All}
 use Rattle.rings.proofs.Counting.{one-else, one-le, in-all, pigeon}
 use Rattle.store.specs.Field.{rc, OWNER, FIRST, NONE}
 use Rattle.store.specs.Words.{Store}
 use Rattle.store.specs.Sound.{recs}
-use Rattle.joins.specs.Resolve.{realOf, Path, Resolves, Lives}
+use Rattle.joins.specs.Resolve.{realOf, Path, Resolves}
 
 module _ (first owner : ℕ → ℕ) where
   -- where it comes to is settled by where it starts, and so is the way

@@ -1,19 +1,19 @@
 -- The needs of a join's functions, as lemmas whose premises are what the callees ensure; and that every join leaves words that keep the invariant.
 use Prim.Native.Nat.{ℕ, zero, suc, _+_, _*_, _≤_, _<_}
 use mathlib.Core.Path.{_≡_, refl, ap, _∙_, sym, subst}
-use mathlib.Core.Logic.{_≢_, _⊎_, inl, inr}
+use mathlib.Core.Logic.{_≢_}
 use mathlib.Core.Bool.{Bool, true, false, cond}
-use mathlib.Core.List.{List, [], _∷_, _++_}
+use mathlib.Core.List.{List}
 use native.Mathlib.Omega.{arith}
 use lib.Dec.{eqb, ltb}
 use lib.ListN.{length, getD}
 use borrow.Author.Tests.{eq-eqb, ne-eqb, eqb-true, eqb-false, lt-ltb, le-ltb, ltb-true}
 use Rattle.store.specs.Field.{pt, rc, REC, FIRST, LENGTH}
-use Rattle.store.specs.Words.{view, put}
+use Rattle.store.specs.Words.{put}
 use Rattle.store.specs.Named.{nextOf, recOf, firstOf, pointsOf, recordsOf}
 use Rattle.joins.specs.declared.Joined.{Joined}
 use Rattle.joins.specs.declared.Joined.the-variants.{Done, Knot, Full}
-use Rattle.joins.specs.Resolve.{homeOf, Lives}
+use Rattle.joins.specs.Resolve.{homeOf}
 use Rattle.joins.specs.Resolved.{Ready}
 use Rattle.joins.specs.Join.{End, end, relinkOf, newOutRec, fixOutrecPts, settleOf, cutOf, splitOf, mergeOf, byRecords, joinOf, follow, joinsFrom, processHorzJoins}
 use Rattle.joins.specs.Needs.{Point, Points, Four, Ringed, Pair, Joins}

@@ -7,7 +7,7 @@ use mathlib.Core.List.{List, [], _∷_}
 use lib.Dec.{eqb}
 use Rattle.rings.specs.Links.{All}
 use Rattle.store.specs.Field.{pt, rc, REC, OWNER, FIRST, NONE}
-use Rattle.store.specs.Words.{Store, view}
+use Rattle.store.specs.Words.{Store}
 use Rattle.store.specs.Named.{firstOf, ownerOf, recOf}
 use Rattle.store.specs.Sound.{pts, recs}
 

@@ -4,7 +4,7 @@ use store::Col;
 use store::get;
 use store::set;
 ghost use mathlib.Core.Path.{_≡_};
-ghost use Prim.Native.Nat.{ℕ, _+_, _<_, _≤_};
+ghost use Prim.Native.Nat.{_+_, _<_, _≤_};
 ghost use lib.ListN.{length, getD};
 ghost use Rattle.store.specs.Field.{LENGTH};
 ghost use Rattle.store.specs.Named.{recordsOf, firstOf};

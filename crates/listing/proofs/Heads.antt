@@ -4,10 +4,10 @@ use mathlib.Core.Path.{_≡_, refl, sym, ap, _∙_, subst}
 use mathlib.Core.Bool.{Bool, true, false}
 use mathlib.Core.List.{List, [], _∷_, _++_}
 use native.Mathlib.Omega.{arith}
-use lib.IntN.{ℤ, pos, natAbs, _+ℤ_}
+use lib.IntN.{ℤ, natAbs}
 use lib.ListN.{length}
 use mir.Syntax.{w64}
-use mir.Val.{SFits, toZ, ofZ}
+use mir.Val.{toZ, ofZ}
 use mir.Facts.{toZ-ofZ}
 use Rattle.exact.specs.Num.{Within}
 use Rattle.exact.proofs.Size.{fits-size, size-add}
@@ -16,9 +16,9 @@ use Rattle.geometry.specs.declared.Point.{Point}
 use Rattle.geometry.specs.Plane.{InTable, AllInTable, edgeArea, areaFrom, areaOutpt}
 use Rattle.geometry.proofs.Coordinates.{edge-within}
 use Rattle.listing.specs.Pour.{poured, pour}
-use Rattle.listing.specs.Text.{SPACE, NEWLINE, decimal, signedText, LINE}
-use Rattle.listing.specs.Fields.{pointIn, pointsIn, Run, Sized, valueLength, pathIn, nextField, FieldIn}
-use Rattle.listing.specs.Lines.{wordOf, pointsText, closedHead, openHead, headOf, lineOf}
+use Rattle.listing.specs.Text.{SPACE, decimal, signedText, LINE}
+use Rattle.listing.specs.Fields.{pointsIn, Sized, valueLength, pathIn, FieldIn}
+use Rattle.listing.specs.Lines.{wordOf, pointsText, closedHead, headOf, lineOf}
 use Rattle.listing.proofs.Pouring.{pour-more}
 
 length-points : (t : List ℕ) (n at : ℕ) → length (pointsIn t n at) ≡ n

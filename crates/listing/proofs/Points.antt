@@ -1,32 +1,28 @@
 -- The points that a tray holds: read, and their text.
-use Prim.Native.Nat.{ℕ, zero, suc, _+_, _-_, _*_, _≤_, _<_, _^_}
-use mathlib.Core.Path.{_≡_, refl, sym, ap, _∙_, subst}
-use mathlib.Core.Logic.{_≢_}
-use mathlib.Core.Bool.{Bool, true, false}
-use mathlib.Core.List.{List, [], _∷_, _++_, append-assoc, append-nil}
+use Prim.Native.Nat.{ℕ, _+_, _-_, _*_, _≤_, _<_, _^_}
+use mathlib.Core.Path.{_≡_, ap, _∙_}
+use mathlib.Core.Bool.{false}
+use mathlib.Core.List.{List, [], _∷_, _++_}
 use native.Mathlib.Omega.{arith}
 use lib.Dec.{ltb}
-use lib.IntN.{ℤ, pos, natAbs, _+ℤ_, +ℤ-assoc, +ℤ-idl, +ℤ-idr}
-use lib.ListN.{length, getD}
+use lib.IntN.{ℤ, natAbs}
+use lib.ListN.{getD}
 use borrow.Author.Tests.{le-ltb, ltb-false}
 use mir.Syntax.{w32, w64}
 use mir.Val.{SFits, toZ, ofZ}
 use mir.Facts.{toZ-ofZ}
 use Rattle.exact.specs.Num.{Within}
-use Rattle.exact.proofs.Size.{fits-size, size-add}
+use Rattle.exact.proofs.Size.{fits-size}
 use Rattle.exact.proofs.Words.{cast-wide, wide-is}
 use Rattle.numbers.specs.Bytes.{le}
 use Rattle.numbers.specs.Raised.{raised, signed, coordinate}
 use Rattle.numbers.proofs.Widths.{below}
 use Rattle.numbers.proofs.Raises.{off-means, raised-means}
-use Rattle.rings.specs.Circle.{lastOf}
 use Rattle.geometry.specs.declared.Point.{Point}
-use Rattle.geometry.specs.Plane.{InTable, AllInTable, edgeArea, areaFrom, areaOutpt}
-use Rattle.geometry.proofs.Coordinates.{edge-within}
 use Rattle.listing.specs.Pour.{poured, pour}
-use Rattle.listing.specs.Text.{SPACE, COMMA, signedText}
-use Rattle.listing.specs.Fields.{pointIn, Held, pointsIn, Run, Adding}
-use Rattle.listing.specs.Lines.{pointText, pointsText}
+use Rattle.listing.specs.Text.{signedText}
+use Rattle.listing.specs.Fields.{pointIn, Held}
+use Rattle.listing.specs.Lines.{pointText}
 use Rattle.listing.proofs.Pouring.{pour-more}
 
 -- ---- a point is read

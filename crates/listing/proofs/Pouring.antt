@@ -1,12 +1,12 @@
 -- Text after text.
-use Prim.Native.Nat.{ℕ, zero, suc, _+_, _≤_, _<_, min, max}
-use mathlib.Core.Path.{_≡_, refl, sym, ap, _∙_, subst}
-use mathlib.Core.List.{List, [], _∷_, _++_, append-nil}
+use Prim.Native.Nat.{ℕ, suc, _+_, _≤_, _<_, min, max}
+use mathlib.Core.Path.{_≡_, refl, sym, ap, _∙_}
+use mathlib.Core.List.{List, [], _∷_, _++_}
 use native.Mathlib.Omega.{arith}
 use native.Mathlib.Decide.{decLt}
 use native.Mathlib.Nat.{add-zero}
-use lib.ListN.{length, getD, set, take, drop, length-append, length-set}
-use lib.Seq.{sets, length-sets, set-out, take-suc, take-length, take-all}
+use lib.ListN.{length, getD, set, take, length-append}
+use lib.Seq.{sets, length-sets, set-out, take-suc, take-all}
 use Rattle.listing.specs.Pour.{Poured, poured, pour}
 
 sets-append : (t a b : List ℕ) (at : ℕ) → sets t at (a ++ b) ≡ sets (sets t at a) (at + length a) b

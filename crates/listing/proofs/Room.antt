@@ -1,11 +1,11 @@
 -- How many bytes a listing has: 150,000 always suffice for a tray that was written from a sound store.
-use Prim.Native.Nat.{ℕ, zero, suc, _+_, _*_, _/_, _%_, _≤_, _<_}
-use mathlib.Core.Path.{_≡_, refl, sym, ap, _∙_, subst}
+use Prim.Native.Nat.{ℕ, zero, suc, _+_, _*_, _/_, _%_, _≤_}
+use mathlib.Core.Path.{_≡_, refl, ap}
 use mathlib.Core.Bool.{Bool, true, false, cond}
 use mathlib.Core.List.{List, [], _∷_, _++_}
 use mathlib.Core.Option.{Option, none, some}
 use native.Mathlib.Omega.{arith}
-use lib.Dec.{ltb, leb}
+use lib.Dec.{ltb}
 use lib.IntN.{ℤ, pos, negsuc}
 use lib.ListN.{length, length-append}
 use borrow.Author.Tests.{le-leb}
@@ -20,8 +20,8 @@ use Rattle.paths.proofs.Counts.{length-pathField}
 use Rattle.paths.proofs.Bound.{always-suffice}
 use Rattle.listing.specs.declared.Listed.the-variants.{Bytes}
 use Rattle.listing.specs.Text.{SPACE, COMMA, NEWLINE, digit, digits, decimal, signedText, CLOSED, OPEN, LINE}
-use Rattle.listing.specs.Lines.{wordOf, pointText, pointsText, closedHead, openHead, headOf, lineOf, linesOf, firstLine, listingOf}
-use Rattle.listing.specs.Told.{answerAt, tell}
+use Rattle.listing.specs.Lines.{wordOf, pointText, pointsText, headOf, lineOf, linesOf, firstLine, listingOf}
+use Rattle.listing.specs.Told.{tell}
 use Rattle.listing.proofs.Trays.{written-listing}
 
 -- ---- numbers

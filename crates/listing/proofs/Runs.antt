@@ -9,7 +9,6 @@ use lib.ListN.{length}
 use mir.Syntax.{w64}
 use mir.Val.{SFits, toZ, ofZ}
 use mir.Facts.{toZ-ofZ}
-use Rattle.exact.specs.Num.{Within}
 use Rattle.exact.proofs.Size.{fits-size, size-add}
 use Rattle.rings.specs.Circle.{lastOf}
 use Rattle.geometry.specs.declared.Point.{Point}

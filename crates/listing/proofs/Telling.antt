@@ -1,22 +1,20 @@
 -- Line after line, and what is told at the end.
-use Prim.Native.Nat.{ℕ, zero, suc, _+_, _-_, _≤_, _<_, min, max}
+use Prim.Native.Nat.{ℕ, suc, _+_, _-_, _≤_, _<_, min, max}
 use mathlib.Core.Path.{_≡_, refl, sym, ap, _∙_, subst}
-use mathlib.Core.Bool.{Bool, true, false, cond}
+use mathlib.Core.Bool.{Bool, true, false}
 use mathlib.Core.List.{List, [], _∷_, _++_, append-assoc, append-nil}
 use native.Mathlib.Omega.{arith}
 use native.Mathlib.Decide.{decLt}
-use lib.Dec.{leb}
 use lib.ListN.{length, set, take, drop}
-use lib.Seq.{sets, length-sets, take-nil, drop-nil}
+use lib.Seq.{sets, length-sets, drop-nil}
 use borrow.Author.Tests.{le-leb, lt-leb}
-use Rattle.geometry.specs.declared.Point.{Point}
 use Rattle.listing.specs.declared.Listed.{Listed}
 use Rattle.listing.specs.declared.Listed.the-variants.{Bytes, NoRoom}
 use Rattle.listing.specs.Pour.{Poured, poured, pour}
 use Rattle.listing.specs.Text.{SPACE, NEWLINE, decimal, CLOSED, OPEN, REFUSED}
 use Rattle.listing.specs.Fields.{valueLength, nextField, pathIn, pathsIn, fieldAfter, FieldIn, FieldsIn}
 use Rattle.listing.specs.Lines.{lineOf, linesOf, firstLine, listingOf, refusedLine, Going}
-use Rattle.listing.specs.Told.{Told, told, answerAt, tell, Listable}
+use Rattle.listing.specs.Told.{told, answerAt, tell, Listable}
 use Rattle.listing.proofs.Pouring.{pour-none, pour-more, pour-length}
 
 -- ---- lines

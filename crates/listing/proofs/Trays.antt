@@ -1,15 +1,15 @@
 -- A tray that crate paths wrote is read back: its fields hold the paths that were written, and it can be listed.
-use Prim.Native.Nat.{ℕ, zero, suc, _+_, _-_, _*_, _/_, _%_, _^_, _≤_, _<_}
+use Prim.Native.Nat.{ℕ, _+_, _-_, _*_, _/_, _%_, _^_, _≤_, _<_}
 use mathlib.Core.Path.{_≡_, refl, sym, ap, _∙_, subst}
-use mathlib.Core.Bool.{Bool, true, false}
+use mathlib.Core.Bool.{true, false}
 use mathlib.Core.List.{List, [], _∷_, _++_, append-assoc, append-nil}
 use native.Mathlib.Omega.{arith}
 use native.Mathlib.Nat.{mod-eq-of-lt}
-use lib.IntN.{ℤ, natAbs}
-use lib.ListN.{length, drop, replicate, length-append}
+use lib.IntN.{ℤ}
+use lib.ListN.{length, replicate, length-append}
 use lib.Seq.{drop-append-seam}
 use mir.Syntax.{w32}
-use mir.Val.{Fits, SFits, toZ, ofZ}
+use mir.Val.{SFits, ofZ}
 use mir.ValLaws.{ofZ-fits, toZ-ofZ}
 use Rattle.exact.specs.Num.{Within}
 use Rattle.exact.proofs.Size.{fits-size}
@@ -20,9 +20,9 @@ use Rattle.geometry.specs.declared.Point.{Point}
 use Rattle.geometry.specs.Plane.{InTable, AllInTable}
 use Rattle.store.specs.Words.{Store}
 use Rattle.store.specs.Sound.{recs, Sound}
-use Rattle.paths.specs.Path.{pathsBelow, closedPaths, openPaths}
+use Rattle.paths.specs.Path.{closedPaths, openPaths}
 use Rattle.paths.specs.Tray.{lowBytes, i32Bytes, pointBytes, pathBytes, pathField, tagOf, fields, fieldsOf, padded, over}
-use Rattle.paths.proofs.Laying.{length-lowBytes, length-pointBytes, length-pathBytes, put-over}
+use Rattle.paths.proofs.Laying.{length-lowBytes, length-pointBytes, put-over}
 use Rattle.paths.proofs.Counts.{length-pathField}
 use Rattle.paths.proofs.Tables.{Fit, Each, paths-fit}
 use Rattle.listing.specs.Fields.{pointIn, pointsIn, valueLength, nextField, pathIn, pathsIn, fieldAfter, FieldIn, FieldsIn}

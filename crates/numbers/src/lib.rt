@@ -1,9 +1,7 @@
 // Numbers in bytes, low byte first, and signed numbers as raised words.
 ghost use mathlib.Core.Path.{_≡_};
-ghost use Prim.Native.Nat.{ℕ, _+_, _-_, _%_, _<_, _≤_, _^_};
+ghost use Prim.Native.Nat.{_+_, _-_, _%_, _<_, _≤_};
 ghost use lib.ListN.{length, set};
-ghost use mir.Syntax.{w64};
-ghost use mir.Val.{toZ};
 ghost use Rattle.numbers.specs.Bytes.{le, putLe, Number, Part};
 ghost use Rattle.numbers.specs.Raised.{raised, lowered, coordinate};
 

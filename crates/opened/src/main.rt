@@ -8,7 +8,7 @@ use opening::open::open;
 use store::Col;
 use store::NONE;
 use store::read;
-ghost use Prim.Native.Nat.{ℕ, _≤_};
+ghost use Prim.Native.Nat.{_≤_};
 ghost use lib.ListN.{length};
 ghost use Rattle.store.specs.Field.{LENGTH};
 

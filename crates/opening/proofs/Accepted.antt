@@ -1,7 +1,7 @@
 -- After an accepted opening: the work space is sound, passes the tests of a step, every ring is at its start, and the open rings are the job's.
 use Prim.Native.Nat.{ℕ, _*_, _≤_, _<_}
 use mathlib.Core.Path.{_≡_, refl, ap, _∙_, sym, subst}
-use mathlib.Core.Bool.{Bool, true, false, cond, _&&_, _||_}
+use mathlib.Core.Bool.{Bool, true, false, cond, _&&_}
 use mathlib.Core.List.{List}
 use native.Mathlib.Omega.{arith}
 use lib.Dec.{ltb}
@@ -10,10 +10,10 @@ use borrow.Author.Tests.{ltb-false, lt-ltb}
 use Rattle.rings.specs.Count.{occ}
 use Rattle.job.specs.declared.Job.{Job}
 use Rattle.job.specs.declared.refusal.Refusal.the-variants as refusal
-use Rattle.store.specs.Field.{pt, rc, X, Y, FLAGS, LENGTH}
+use Rattle.store.specs.Field.{rc, X, Y, FLAGS, LENGTH}
 use Rattle.store.specs.Words.{Store, view}
 use Rattle.store.specs.Named.{recordsOf}
-use Rattle.store.specs.Sound.{recs, pts, ringAt, isOpen}
+use Rattle.store.specs.Sound.{recs, ringAt, isOpen}
 use Rattle.audit.specs.Tests.{anyBelow}
 use Rattle.audit.proofs.Agreeing.{sound-passed}
 use Rattle.audit.proofs.Saying.{none-of}
@@ -30,7 +30,6 @@ use Rattle.joins.specs.declared.Joined.the-variants as joined
 use Rattle.joins.specs.Join as join
 use Rattle.joins.specs.Join.{processHorzJoins}
 use Rattle.joins.specs.Needs.{Joins}
-use Rattle.joins.specs.Resolve.{Lives}
 use Rattle.joins.specs.Resolved.{Resolved, Ready}
 use Rattle.joins.proofs.Homes.{on-ring}
 use Rattle.joins.proofs.Joining.{Shut, Opened}

@@ -18,7 +18,7 @@ use Rattle.accepting.specs.Accept.{judged, acceptOf, Accepted}
 use Rattle.accepting.proofs.Accepting.{accepted}
 use Rattle.segments.specs.declared.pairs.Converted.{Converted}
 use Rattle.segments.specs.declared.pairs.Converted.the-variants as converted
-use Rattle.segments.specs.Make.{Made, made, convertHorzSegsToJoins, Converting}
+use Rattle.segments.specs.Make.{made, convertHorzSegsToJoins, Converting}
 use Rattle.segments.proofs.Converting.{JoinsOf, convert-joins}
 use Rattle.joins.specs.declared.Joined.{Joined}
 use Rattle.joins.specs.Join as join

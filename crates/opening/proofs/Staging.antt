@@ -1,6 +1,6 @@
 -- The stages put together: each law's premises are what the calls ensure, and how their answers came out.
 use Prim.Native.Nat.{ℕ, _≤_, _<_}
-use mathlib.Core.Path.{_≡_, refl, ap, _∙_, sym}
+use mathlib.Core.Path.{_≡_, ap, _∙_}
 use mathlib.Core.List.{List}
 use native.Mathlib.Omega.{arith}
 use lib.ListN.{length, replicate, length-replicate}
@@ -23,7 +23,7 @@ use Rattle.joins.specs.Join.{processHorzJoins}
 use Rattle.opening.specs.declared.open.Opened.{Opened}
 use Rattle.opening.specs.declared.open.Opened.the-variants.{Accepted, Refused}
 use Rattle.opening.specs.Start.{startRings}
-use Rattle.opening.specs.Open.{End, end, afterJoins, afterSegments, stagesOf, settled, openOf}
+use Rattle.opening.specs.Open.{end, afterJoins, afterSegments, stagesOf, settled, openOf}
 
 module _ (k : ℕ) (js w x : List ℕ) (t : Joined) (e : join.end t x ≡ processHorzJoins k js w) where
   pub joins-done : (y : List ℕ) → t ≡ joined.Done → y ≡ startRings x → end Accepted y ≡ afterJoins (processHorzJoins k js w)

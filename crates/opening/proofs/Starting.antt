@@ -1,16 +1,14 @@
 -- Rings at their start: what the words are after it, and that a store that was joined is then sound, and fresh for the steps.
 use Prim.Native.Nat.{ℕ, zero, suc, _+_, _%_, _≤_, _<_}
 use mathlib.Core.Path.{_≡_, refl, ap, _∙_, sym, subst}
-use mathlib.Core.Logic.{_≢_, _⊎_}
-use mathlib.Core.Bool.{Bool, true, false, cond}
-use mathlib.Core.List.{List, []}
+use mathlib.Core.Bool.{cond}
+use mathlib.Core.List.{List}
 use native.Mathlib.Numerals.{add-one}
 use native.Mathlib.Omega.{arith}
 use native.Mathlib.Decide.{ℕ-discrete}
 use lib.Dec.{eqb}
 use lib.ListN.{length}
 use Rattle.rings.specs.Count.{occ}
-use Rattle.rings.specs.Walk.{walk, Whole}
 use Rattle.rings.proofs.Counting.{sum-same}
 use Rattle.store.specs.Field.{PointCol, Count, pt, rc, ct, X, Y, NEXT, PREV, REC, FLAGS, OWNER, FIRST, MARK, PRESENT, START, CUT, POINTS, RECORDS, NONE, LENGTH}
 use Rattle.store.specs.Words.{Store, view, onStore}

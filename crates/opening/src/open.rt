@@ -10,7 +10,7 @@ use reading::fill::Outcome;
 use segments::convert::convert_horz_segs_to_joins;
 use segments::pairs::Converted;
 ghost use mathlib.Core.Path.{_≡_};
-ghost use Prim.Native.Nat.{ℕ, _≤_};
+ghost use Prim.Native.Nat.{_≤_};
 ghost use lib.ListN.{length};
 ghost use Rattle.store.specs.Field.{LENGTH};
 ghost use Rattle.segments.specs.Make.{convertHorzSegsToJoins, Converting};

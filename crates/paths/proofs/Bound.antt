@@ -1,13 +1,11 @@
 -- "17,920 bytes always suffice": three bytes for each record and eight for each point, since a point is on at most one ring.
 use Prim.Native.Nat.{ℕ, zero, suc, _+_, _*_, _≤_, _<_}
-use mathlib.Core.Path.{_≡_, refl, sym, ap, _∙_, subst}
-use mathlib.Core.Bool.{Bool, true, false, cond, Bool·beq}
-use mathlib.Core.List.{List, [], _∷_, _++_}
-use mathlib.Core.Option.{Option, none, some}
+use mathlib.Core.Path.{_≡_, refl, sym, ap}
+use mathlib.Core.Bool.{Bool, true, false, Bool·beq}
+use mathlib.Core.List.{List, [], _++_}
 use native.Mathlib.Omega.{arith}
 use native.Mathlib.Decide.{decLt}
-use lib.Dec.{eqb, leb}
-use lib.ListN.{length, length-append, length-drop}
+use lib.ListN.{length, length-append}
 use borrow.Author.Tests.{le-leb, lt-leb}
 use Rattle.job.specs.declared.refusal.Refusal.the-variants.{SmallTray}
 use Rattle.rings.specs.Count.{sumTo, occ}
@@ -17,12 +15,12 @@ use Rattle.store.specs.Words.{Store, view}
 use Rattle.store.specs.Sound.{pts, recs, ringAt, isOpen, Sound}
 use Rattle.paths.specs.declared.Need.{Need}
 use Rattle.paths.specs.declared.Written.the-variants.{Paths, Refused}
-use Rattle.paths.specs.Path.{reverseSolution, pathIf, listed, pathsBelow, closedPaths, openPaths, sizeOf}
+use Rattle.paths.specs.Path.{reverseSolution, pathIf, closedPaths, openPaths, sizeOf}
 use Rattle.paths.specs.Tray.{tagOf, fields, fieldsOf, padded}
-use Rattle.paths.specs.Walking.{Ready, Directed}
-use Rattle.paths.specs.Count.{fieldSize, needOf}
+use Rattle.paths.specs.Walking.{Ready}
+use Rattle.paths.specs.Count.{needOf}
 use Rattle.paths.specs.Filling.{fieldAt, fieldsBelow, AllFit}
-use Rattle.paths.specs.Wrote.{Wrote, wrote, buildPaths64}
+use Rattle.paths.specs.Wrote.{wrote, buildPaths64}
 use Rattle.paths.proofs.Counts.{field-length, fieldSize-le, size-le}
 use Rattle.paths.proofs.Filling.{below-more}
 

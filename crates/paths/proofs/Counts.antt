@@ -1,5 +1,5 @@
 -- Paths and their bytes, counted record by record.
-use Prim.Native.Nat.{ℕ, zero, suc, _+_, _*_, _≤_, _<_}
+use Prim.Native.Nat.{ℕ, suc, _+_, _*_, _≤_, _<_}
 use mathlib.Core.Path.{_≡_, refl, sym, ap, _∙_, subst}
 use mathlib.Core.Logic.{_≢_}
 use mathlib.Core.Bool.{Bool, true, false, cond, not, _&&_, Bool·beq}
@@ -21,9 +21,9 @@ use Rattle.store.proofs.Soundness.{whole}
 use Rattle.paths.specs.declared.Need.{Need}
 use Rattle.paths.specs.Path.{pointAt, pointsAt, preserveCollinear, reverseSolution, pathBy, pathAt, pathIf, listed, pathsBelow, sizeOf}
 use Rattle.paths.specs.Tray.{lowBytes, pathBytes, pathField, tagOf, fields}
-use Rattle.paths.specs.Walking.{Ready, Known, Directed, Asked}
+use Rattle.paths.specs.Walking.{Known, Directed, Asked}
 use Rattle.paths.specs.Count.{pathCount, fieldSize, needOf, Tally}
-use Rattle.paths.proofs.Laying.{length-lowBytes, length-pathBytes}
+use Rattle.paths.proofs.Laying.{length-pathBytes}
 use Rattle.paths.proofs.Sizes.{path-le, length-inOrder}
 
 -- ---- a path that is there has two points or more, and no more than its ring

@@ -1,22 +1,21 @@
 -- A ring walked from the path's first point, forward or reversed, is its points in the path's order.
-use Prim.Native.Nat.{ℕ, suc, _+_, _≤_, _<_}
+use Prim.Native.Nat.{ℕ, _+_, _≤_, _<_}
 use mathlib.Core.Path.{_≡_, refl, sym, ap, _∙_, subst}
 use mathlib.Core.Bool.{Bool, true, false, cond, not}
 use mathlib.Core.List.{List, [], _∷_, _++_, map, reverse, reverseAux, reverseAux-eq, reverseAux-append}
 use native.Mathlib.Omega.{arith}
-use lib.ListN.{length}
 use Rattle.rings.specs.Circle.{turn}
-use Rattle.rings.specs.Count.{one, occ}
+use Rattle.rings.specs.Count.{occ}
 use Rattle.rings.specs.Links.{Seg, Linked}
-use Rattle.rings.specs.Walk.{run, walk, Whole}
+use Rattle.rings.specs.Walk.{walk, Whole}
 use Rattle.rings.proofs.Counting.{occ-turn}
 use Rattle.rings.proofs.Linking.{seg-join}
 use Rattle.rings.proofs.Mapping.{map-turn}
 use Rattle.rings.proofs.Walking.{ring-is, whole-spin}
 use Rattle.lone.specs.Path.{inOrder, withoutEquals}
-use Rattle.store.specs.Field.{pt, rc, NEXT, PREV, FIRST, LENGTH}
-use Rattle.store.specs.Words.{Store, view}
-use Rattle.store.specs.Sound.{pts, recs, ringless, ringAt, PointIn, Sound}
+use Rattle.store.specs.Field.{pt, rc, NEXT, PREV, FIRST}
+use Rattle.store.specs.Words.{view}
+use Rattle.store.specs.Sound.{pts, recs, ringless, ringAt}
 use Rattle.store.proofs.Soundness.{whole, from-first}
 use Rattle.lone.specs.Plane.{plane}
 use Rattle.paths.specs.Path.{pointAt, pointsAt, preserveCollinear}

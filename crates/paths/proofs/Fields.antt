@@ -1,5 +1,5 @@
 -- A record's field is written: its header, then its path in the part after it.
-use Prim.Native.Nat.{ℕ, suc, _+_, _-_, _*_, _≤_, _<_}
+use Prim.Native.Nat.{ℕ, _+_, _-_, _*_, _≤_}
 use mathlib.Core.Path.{_≡_, refl, sym, ap, _∙_, subst}
 use mathlib.Core.Logic.{_≢_}
 use mathlib.Core.Bool.{Bool, true, false, cond, not, _&&_, Bool·beq}
@@ -8,7 +8,6 @@ use mathlib.Core.Option.{Option, none, some}
 use native.Mathlib.Omega.{arith}
 use lib.Dec.{eqb, leb}
 use lib.ListN.{length, set, take, drop, length-append, length-drop, length-set}
-use borrow.Author.Tests.{ne-eqb}
 use borrow.Rule.Slice.PartMut.{putMid}
 use Rattle.numbers.specs.Bytes.{putLe}
 use Rattle.numbers.proofs.Written.{length-put}
@@ -19,16 +18,16 @@ use Rattle.lone.specs.Plane.{plane}
 use Rattle.lone.specs.Path.{inOrder, withoutEquals, isSmallRing, buildPath64FromOutpt}
 use Rattle.store.specs.Field.{rc, FIRST}
 use Rattle.store.specs.Words.{Store, view}
-use Rattle.store.specs.Sound.{recs, ringless, isOpen}
-use Rattle.paths.specs.Path.{pointsAt, preserveCollinear, reverseSolution, pathBy, pathAt, pathIf, listed, pathsBelow, sizeOf}
+use Rattle.store.specs.Sound.{ringless, isOpen}
+use Rattle.paths.specs.Path.{pointsAt, preserveCollinear, reverseSolution, pathBy, pathAt, pathIf, listed, sizeOf}
 use Rattle.paths.specs.Tray.{lowBytes, pathBytes, pathField, tagOf, fields, over}
-use Rattle.paths.specs.Walking.{startFrom, Round, Room, Known, Asked, Laid, laid, pathRound}
+use Rattle.paths.specs.Walking.{startFrom, Round, Room, laid, pathRound}
 use Rattle.paths.specs.Count.{fieldSize}
-use Rattle.paths.specs.Filling.{pathPoints, fieldAt, fieldsBelow, layOver, PointsFit, FieldFits, FieldsFit, Filled}
+use Rattle.paths.specs.Filling.{pathPoints, fieldAt, layOver, PointsFit, FieldFits}
 use Rattle.paths.proofs.Directions.{Ringed, ringed, path-of}
-use Rattle.paths.proofs.Laying.{length-lowBytes, length-pathBytes, length-over, put-over, set-over}
-use Rattle.paths.proofs.Counts.{field-length, fields-append, size-fits}
-use Rattle.paths.proofs.Parts.{tray-length, part-is, part-over}
+use Rattle.paths.proofs.Laying.{length-pathBytes, put-over, set-over}
+use Rattle.paths.proofs.Counts.{field-length, size-fits}
+use Rattle.paths.proofs.Parts.{part-is, part-over}
 
 -- ---- the points of a path
 

@@ -1,8 +1,8 @@
 -- The fields of all records, one after another, each in the part after the last; then zeros.
-use Prim.Native.Nat.{ℕ, zero, suc, _+_, _-_, _*_, _≤_, _<_}
-use mathlib.Core.Path.{_≡_, refl, sym, ap, _∙_, subst}
+use Prim.Native.Nat.{ℕ, zero, suc, _+_, _-_, _≤_, _<_}
+use mathlib.Core.Path.{_≡_, refl, sym, ap, _∙_}
 use mathlib.Core.Bool.{Bool, true, false}
-use mathlib.Core.List.{List, [], _∷_, _++_}
+use mathlib.Core.List.{List, _++_}
 use native.Mathlib.Omega.{arith}
 use native.Mathlib.Decide.{ℕ-discrete}
 use lib.ListN.{length, take, drop, replicate, length-append, length-drop}
@@ -10,8 +10,8 @@ use borrow.Rule.Slice.PartMut.{putMid}
 use Rattle.store.specs.Words.{Store, view}
 use Rattle.store.specs.Sound.{recs}
 use Rattle.paths.specs.Path.{pathIf, listed, pathsBelow}
-use Rattle.paths.specs.Tray.{tagOf, fields, fieldsOf, padded, over}
-use Rattle.paths.specs.Walking.{Known, Directed, Asked, Laid, laid}
+use Rattle.paths.specs.Tray.{tagOf, fieldsOf, padded, over}
+use Rattle.paths.specs.Walking.{Directed, Laid, laid}
 use Rattle.paths.specs.Filling.{fieldAt, fieldsBelow, layOver, FieldFits, FieldsFit, AllFit, Filled}
 use Rattle.paths.proofs.Counts.{fields-append}
 use Rattle.paths.proofs.Parts.{tray-length, part-is, part-over, part-clear}

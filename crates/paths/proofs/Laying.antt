@@ -1,15 +1,14 @@
 -- Bytes laid over the beginning of a tray: byte after byte, number after number, part after part.
 use Prim.Native.Nat.{ℕ, zero, suc, _+_, _-_, _*_, _/_, _%_, _^_, _≤_, _<_}
-use mathlib.Core.Path.{_≡_, refl, sym, ap, _∙_, subst}
+use mathlib.Core.Path.{_≡_, refl, sym, ap, _∙_}
 use mathlib.Core.List.{List, [], _∷_, _++_, append-nil, append-assoc}
-use native.Mathlib.Nat.{add-zero}
 use native.Mathlib.Omega.{arith}
-use lib.ListN.{length, getD, set, take, drop, length-append, length-drop, length-take}
-use lib.Seq.{drop-cons, append-snoc, set-append-seam, drop-append-seam, drop-append-add, drop-drop, take-append-seam, take-all}
+use lib.ListN.{length, getD, set, drop, length-append, length-drop}
+use lib.Seq.{drop-cons, append-snoc, set-append-seam, drop-append-seam, drop-append-add, drop-drop}
 use Rattle.numbers.specs.Bytes.{putLe}
 use Rattle.numbers.proofs.Written.{put-more}
 use Rattle.geometry.specs.declared.Point.{Point}
-use Rattle.paths.specs.Tray.{lowBytes, i32Bytes, pointBytes, pathBytes, pathField, fields, over}
+use Rattle.paths.specs.Tray.{lowBytes, i32Bytes, pointBytes, pathBytes, over}
 
 -- ---- lengths
 

@@ -1,9 +1,9 @@
 -- Laws of the path that goes round a ring: its points are counted on one walk.
-use Prim.Native.Nat.{ℕ, zero, suc, _+_, _≤_, _<_}
-use mathlib.Core.Path.{_≡_, refl, sym, ap, _∙_, subst}
+use Prim.Native.Nat.{ℕ, _+_, _≤_}
+use mathlib.Core.Path.{_≡_, refl, ap, _∙_}
 use mathlib.Core.Logic.{_≢_}
 use mathlib.Core.Bool.{Bool, true, false, cond, _&&_}
-use mathlib.Core.List.{List, [], _∷_, _++_, map}
+use mathlib.Core.List.{List, [], _∷_, _++_}
 use native.Mathlib.Omega.{arith}
 use lib.ListN.{length, length-append}
 use lib.IntN.{ℤ}
@@ -12,10 +12,10 @@ use Rattle.exact.proofs.Size.{eqZ-true}
 use Rattle.geometry.specs.declared.Point.{Point}
 use Rattle.geometry.specs.Plane.{samePoint}
 use Rattle.store.specs.Words.{Store, view}
-use Rattle.store.specs.Sound.{pts, PointIn}
+use Rattle.store.specs.Sound.{PointIn}
 use Rattle.paths.specs.Path.{pointAt}
-use Rattle.paths.specs.Walking.{linkOf, roundFrom, Readable, Round, Going, afterPoint, pathRound, more, Counting}
-use Rattle.paths.proofs.Walks.{othersOf, walk-is, round-here, round-short, going-begins, going-here, going-on, going-ends, going-less}
+use Rattle.paths.specs.Walking.{linkOf, Readable, Round, Going, afterPoint, pathRound, more, Counting}
+use Rattle.paths.proofs.Walks.{othersOf, walk-is, round-here, round-short, going-begins, going-here, going-on, going-ends}
 
 and-split : (a b : Bool) → (a && b) ≡ true → (a ≡ true) × (b ≡ true)
 and-split true b e = (refl, e)

@@ -1,32 +1,32 @@
 -- How many points a record's path has, by the code's tests.
-use Prim.Native.Nat.{ℕ, zero, suc, _+_, _≤_, _<_}
+use Prim.Native.Nat.{ℕ, suc, _≤_, _<_}
 use mathlib.Core.Path.{_≡_, refl, sym, ap, _∙_, subst}
 use mathlib.Core.Logic.{_≢_}
 use mathlib.Core.Bool.{Bool, true, false, cond, not, _&&_}
-use mathlib.Core.List.{List, [], _∷_, _++_, map}
-use mathlib.Core.Option.{Option, none, some}
+use mathlib.Core.List.{List, [], _∷_, map}
+use mathlib.Core.Option.{some}
 use native.Mathlib.Omega.{arith}
 use lib.Dec.{eqb, leb}
 use lib.ListN.{length, length-map, length-reverse}
 use borrow.Author.Tests.{eq-eqb, ne-eqb, le-leb, lt-leb}
 use Rattle.rings.specs.Circle.{turn, lastOf}
-use Rattle.rings.specs.Count.{one, occ}
+use Rattle.rings.specs.Count.{occ}
 use Rattle.rings.specs.Walk.{Whole}
 use Rattle.rings.proofs.Circles.{length-turn}
 use Rattle.rings.proofs.Counting.{occ-lastOf, one-here, apart}
 use Rattle.rings.proofs.Linking.{prev-is}
 use Rattle.rings.proofs.Mapping.{map-turn}
-use Rattle.rings.proofs.Members.{one-is, next-on, prev-on}
+use Rattle.rings.proofs.Members.{next-on, prev-on}
 use Rattle.geometry.specs.declared.Point.{Point}
 use Rattle.geometry.specs.Plane.{isVerySmallTriangle}
 use Rattle.lone.specs.Lone.{Geo}
 use Rattle.lone.specs.Plane.{plane}
 use Rattle.lone.specs.Path.{inOrder, dropEquals, withoutEquals, isSmallRing, buildPath64FromOutpt}
 use Rattle.store.specs.Field.{pt, rc, NEXT, PREV, FIRST}
-use Rattle.store.specs.Words.{Store, view}
-use Rattle.store.specs.Sound.{pts, recs, ringless, ringAt, PointIn}
+use Rattle.store.specs.Words.{view}
+use Rattle.store.specs.Sound.{pts, ringAt, PointIn}
 use Rattle.paths.specs.Path.{pointAt, pointsAt, preserveCollinear, pathBy, sizeOf}
-use Rattle.paths.specs.Walking.{linkOf, startFrom, roundFrom, Readable, Round, Ready, Known, Three, Sized, afterPoint, pathRound}
+use Rattle.paths.specs.Walking.{startFrom, roundFrom, Readable, Round, Known, Three, Sized, pathRound}
 use Rattle.paths.proofs.Walks.{othersOf, walk-is, round-here}
 use Rattle.paths.proofs.Directions.{Ringed, ringed, path-of}
 

@@ -1,6 +1,5 @@
 -- The points of every path are within the limit.
-use Prim.Native.Nat.{ℕ, zero, suc, _+_, _*_, _≤_, _<_}
-use mathlib.Core.Path.{_≡_, refl, sym, ap, _∙_, subst}
+use Prim.Native.Nat.{ℕ, zero, suc, _+_, _≤_, _<_}
 use mathlib.Core.Bool.{Bool, true, false, cond, not, _&&_, Bool·beq}
 use mathlib.Core.List.{List, [], _∷_, _++_, map, reverseAux}
 use mathlib.Core.Option.{Option, none, some}
@@ -11,7 +10,7 @@ use Rattle.rings.specs.Circle.{turn}
 use Rattle.rings.specs.Count.{occ}
 use Rattle.rings.proofs.Counting.{one-here, pigeon}
 use Rattle.geometry.specs.declared.Point.{Point}
-use Rattle.geometry.specs.Plane.{InTable, AllInTable}
+use Rattle.geometry.specs.Plane.{AllInTable}
 use Rattle.lone.specs.Lone.{Geo}
 use Rattle.lone.specs.Plane.{plane}
 use Rattle.lone.specs.Path.{inOrder, dropEquals, withoutEquals, isSmallRing, buildPath64FromOutpt}

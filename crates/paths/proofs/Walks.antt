@@ -1,5 +1,5 @@
 -- Laws of a walk round a ring, in either direction.
-use Prim.Native.Nat.{ℕ, zero, suc, _+_, _≤_, _<_}
+use Prim.Native.Nat.{ℕ, zero, suc, _+_, _<_}
 use mathlib.Core.Path.{_≡_, refl, sym, ap, _∙_, subst}
 use mathlib.Core.Logic.{_≢_}
 use mathlib.Core.Bool.{Bool, true, false, cond, not}
@@ -8,14 +8,14 @@ use native.Mathlib.Omega.{arith}
 use lib.Dec.{eqb}
 use lib.ListN.{length}
 use borrow.Author.Tests.{eq-eqb, ne-eqb}
-use Rattle.rings.specs.Count.{one, occ}
+use Rattle.rings.specs.Count.{occ}
 use Rattle.rings.specs.Links.{All, Seg}
 use Rattle.rings.specs.Walk.{run, walk, Whole}
 use Rattle.rings.proofs.Counting.{apart, all-in, pigeon, one-here}
 use Rattle.store.specs.Field.{pt, NEXT, PREV}
 use Rattle.store.specs.Words.{Store, view}
 use Rattle.store.specs.Sound.{pts, PointIn}
-use Rattle.paths.specs.Walking.{linkOf, startFrom, roundFrom, Readable, Round, Ahead, toGo, Going}
+use Rattle.paths.specs.Walking.{linkOf, startFrom, Readable, Round, Ahead, toGo, Going}
 
 -- the two directions
 pub link-back : (s : Store) (rev : Bool) (k r : ℕ) → rev ≡ true → r ≡ s (pt PREV) k → r ≡ linkOf s rev k

@@ -1,13 +1,11 @@
 -- The path that goes round a ring is written on one walk.
-use Prim.Native.Nat.{ℕ, zero, suc, _+_, _*_, _≤_, _<_}
+use Prim.Native.Nat.{ℕ, suc, _+_, _*_, _≤_}
 use mathlib.Core.Path.{_≡_, refl, sym, ap, _∙_, subst}
 use mathlib.Core.Logic.{_≢_}
 use mathlib.Core.Bool.{Bool, true, false, cond}
 use mathlib.Core.List.{List, [], _∷_, _++_, append-assoc, append-nil}
 use native.Mathlib.Omega.{arith}
 use lib.ListN.{length, length-append}
-use mir.Syntax.{w32}
-use mir.Val.{ofZ}
 use Rattle.numbers.specs.Bytes.{putLe}
 use Rattle.numbers.specs.Raised.{lowered, coordinate}
 use Rattle.job.specs.Limits.{COORDINATE}
@@ -22,7 +20,7 @@ use Rattle.paths.specs.Walking.{linkOf, Readable, Round, Going, afterPoi
 use Rattle.paths.proofs.Coordinates.{coordinate-bits}
 use Rattle.paths.proofs.Walks.{othersOf, round-here, going-begins, going-here, going-on, going-ends}
 use Rattle.paths.proofs.Rounds.{adds, after-more, path-is}
-use Rattle.paths.proofs.Laying.{length-lowBytes, length-pointBytes, length-pathBytes, pathBytes-append, put-over, length-over, over-none, over-again}
+use Rattle.paths.proofs.Laying.{length-lowBytes, length-pathBytes, pathBytes-append, put-over, length-over, over-again}
 
 -- ---- one point
 

@@ -5,18 +5,17 @@ use mathlib.Core.List.{List, [], _∷_, _++_, map}
 use mathlib.Core.Option.{Option, none, some}
 use lib.Dec.{eqb}
 use lib.ListN.{length}
-use Rattle.numbers.specs.Raised.{coordinate}
-use Rattle.job.specs.Limits.{COORDINATE}
 use Rattle.geometry.specs.declared.Point.{Point}
 use Rattle.lone.specs.Path.{buildPath64FromOutpt}
-use Rattle.store.specs.Field.{pt, ct, X, Y, SETTINGS}
+use Rattle.store.specs.Field.{ct, SETTINGS}
 use Rattle.store.specs.Words.{Store}
+use Rattle.store.specs.Value as value
 use Rattle.store.specs.Sound.{recs, ringAt, isOpen}
 use Rattle.lone.specs.Plane.{plane}
 
--- the point of number k, by value
+-- the point of number k, by value: the store's own, which stays folded here until a proof asks for its coordinates
 unfoldable pub pointAt : Store → ℕ → Point
-pointAt s k = record { x = coordinate COORDINATE (s (pt X) k); y = coordinate COORDINATE (s (pt Y) k) }
+pointAt s k = value.pointAt s k
 
 -- the points of record i's ring by value, from the first in walk order
 abbrev pub pointsAt : Store → ℕ → List Point

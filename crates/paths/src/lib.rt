@@ -4,7 +4,7 @@ use job::Job;
 use job::refusal::Refusal;
 use store::Col;
 ghost use mathlib.Core.Path.{_≡_};
-ghost use Prim.Native.Nat.{ℕ, _+_, _*_, _<_, _≤_, _^_};
+ghost use Prim.Native.Nat.{_+_, _*_, _<_, _≤_};
 ghost use mathlib.Core.Bool.{false, cond, not, _&&_, Bool·beq};
 ghost use mathlib.Core.List.{map};
 ghost use lib.Dec.{eqb, leb};

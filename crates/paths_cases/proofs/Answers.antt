@@ -1,8 +1,8 @@
 -- A work space that passes its tests may be written out, and what is written may be listed.
 use Prim.Native.Nat.{ℕ, _≤_}
-use mathlib.Core.Path.{_≡_, refl, sym, ap, _∙_, subst}
-use mathlib.Core.Bool.{Bool, true, false, cond}
-use mathlib.Core.List.{List, _++_}
+use mathlib.Core.Path.{_≡_, refl, sym, ap, _∙_}
+use mathlib.Core.Bool.{Bool, true, false}
+use mathlib.Core.List.{List}
 use native.Mathlib.Omega.{arith}
 use lib.Dec.{leb}
 use lib.ListN.{length, take, drop, length-append, length-drop, length-take}
@@ -19,7 +19,7 @@ use Rattle.paths.specs.Wrote.{wrote, buildPaths64}
 use Rattle.paths.specs.Walking.{Ready}
 use Rattle.listing.specs.declared.Listed.{Listed}
 use Rattle.listing.specs.declared.Listed.the-variants.{Bytes, NoRoom}
-use Rattle.listing.specs.Told.{Told, told, answerAt, tell, Listable}
+use Rattle.listing.specs.Told.{Told, told, tell, Listable}
 use Rattle.listing.proofs.Answers.{answer-listable}
 
 pub ready : (w : List ℕ) (v : Verdict) → LENGTH ≤ length w → v ≡ testsOf w → v ≡ Passed → Ready w

@@ -10,7 +10,7 @@ use native.Mathlib.Decide.{ℕ-discrete}
 use lib.ListN.{length, getD, set}
 use lib.Dec.{eqb}
 use borrow.Author.Tests.{eq-eqb, ne-eqb}
-use Rattle.rings.specs.Circle.{turn, spin, lastOf, initOf, rest, back, cutCircle}
+use Rattle.rings.specs.Circle.{turn, spin, lastOf, initOf, rest}
 use Rattle.rings.specs.Count.{sumBy, sumTo, one, occ}
 use Rattle.rings.specs.Links.{All}
 

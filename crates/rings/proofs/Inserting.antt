@@ -1,13 +1,12 @@
 -- A point put into a ring, before or after one of its points, and a point taken out.
-use Prim.Native.Nat.{ℕ, zero, suc, _+_, _≤_, _<_}
-use mathlib.Core.Path.{_≡_, refl, sym, ap, _∙_, subst}
-use mathlib.Core.Logic.{_≢_}
+use Prim.Native.Nat.{ℕ, _+_, _≤_, _<_}
+use mathlib.Core.Path.{_≡_, refl, sym, _∙_, subst}
 use mathlib.Core.List.{List, [], _∷_, _++_}
 use native.Mathlib.Omega.{arith}
 use native.Mathlib.Decide.{ℕ-discrete}
 use Rattle.rings.specs.Circle.{initOf, lastOf}
 use Rattle.rings.specs.Count.{one, occ}
-use Rattle.rings.specs.Links.{All, Linked}
+use Rattle.rings.specs.Links.{Linked}
 use Rattle.rings.specs.Walk.{Whole}
 use Rattle.rings.specs.Relink.{Inserted, Unlinked}
 use Rattle.rings.proofs.Counting.{all-in, one-else, occ-last}

@@ -1,7 +1,7 @@
 -- Laws of links: rotation, members' neighbours, rings not written to, and what each change of a circle needs of its links.
-use mathlib.Core.Path.{_≡_, refl, sym, ap, _∙_, subst}
+use mathlib.Core.Path.{_≡_, sym, _∙_, subst}
 use mathlib.Core.List.{List, [], _∷_, _++_, append-assoc}
-use mathlib.Core.Bool.{Bool, true, false}
+use mathlib.Core.Bool.{true, false}
 use Prim.Native.Nat.{ℕ, zero, suc}
 use lib.ListN.{take}
 use Rattle.rings.specs.Circle.{turn, spin, lastOf, initOf, back, headOr, cutCircle}

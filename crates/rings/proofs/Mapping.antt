@@ -1,12 +1,12 @@
 -- Every view of a circle commutes with a map of its elements.
 use mathlib.Core.Path.{_≡_, refl, ap, _∙_}
-use mathlib.Core.List.{List, [], _∷_, _++_, map, map-append}
+use mathlib.Core.List.{List, [], _∷_, map, map-append}
 use mathlib.Core.Bool.{Bool, true, false}
 use mathlib.Core.Option.{Option}
 use Prim.Native.Nat.{ℕ, zero, suc}
 use lib.ListN.{take}
-use Rattle.rings.specs.Circle.{turn, spin, lastOf, initOf, back, headOr, rest, cutCircle}
-use Rattle.rings.specs.Progress.{Due, validity, removal, triangle, split, done, Ring, resting, tidyAt, tidy, mapRing}
+use Rattle.rings.specs.Circle.{turn, spin, lastOf, initOf, back, rest, cutCircle}
+use Rattle.rings.specs.Progress.{Due, validity, removal, triangle, split, done, Ring, tidyAt, tidy, mapRing}
 
 module _ {A B : Type 0} (f : A → B) where
   pub map-turn : (c : List A) → map f (turn c) ≡ turn (map f c)

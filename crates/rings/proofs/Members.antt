@@ -1,14 +1,12 @@
 -- Members of a ring: a list is parted at a member, a ring may be seen from it, and its next and prev are members too.
-use Prim.Native.Nat.{ℕ, zero, suc, _+_, _≤_, _<_}
-use mathlib.Core.Path.{_≡_, refl, sym, ap, _∙_, subst}
-use mathlib.Core.Logic.{_≢_}
-use mathlib.Core.List.{List, [], _∷_, _++_, append-assoc}
+use Prim.Native.Nat.{ℕ, _+_, _≤_, _<_}
+use mathlib.Core.Path.{_≡_, sym, ap, _∙_, subst}
+use mathlib.Core.List.{List, [], _∷_, _++_}
 use native.Mathlib.Omega.{arith}
 use native.Mathlib.Decide.{ℕ-discrete}
 use lib.ListN.{length}
-use Rattle.rings.specs.Circle.{initOf}
 use Rattle.rings.specs.Count.{one, occ}
-use Rattle.rings.specs.Links.{All, Seg, Linked}
+use Rattle.rings.specs.Links.{Seg, Linked}
 use Rattle.rings.specs.Walk.{Whole}
 use Rattle.rings.proofs.Circles.{spin-past}
 use Rattle.rings.proofs.Counting.{sumBy-append, one-here, one-else, all-in, occ-rotate}

@@ -6,13 +6,13 @@ use mathlib.Core.List.{List, [], _∷_, _++_, append-assoc}
 use native.Mathlib.Omega.{arith}
 use native.Mathlib.Decide.{ℕ-discrete, decLt}
 use lib.ListN.{length, length-append}
-use Rattle.rings.specs.Count.{one, occ}
-use Rattle.rings.specs.Links.{Seg, Linked}
+use Rattle.rings.specs.Count.{occ}
+use Rattle.rings.specs.Links.{Seg}
 use Rattle.rings.specs.Walk.{Whole}
 use Rattle.rings.specs.Relink.{Mutual}
 use Rattle.rings.proofs.Counting.{one-else, one-le, pigeon}
 use Rattle.rings.proofs.Linking.{seg-join}
-use Rattle.rings.proofs.Members.{one-is, occ-append, Parted, parted, seg-part, seg-prev}
+use Rattle.rings.proofs.Members.{occ-append, parted, seg-part, seg-prev}
 
 -- the ring through s
 pub record Orbit (n p : ℕ → ℕ) (c s : ℕ) : Type 0 where

@@ -1,16 +1,14 @@
 -- The nexts of two points exchanged: one ring is cut in two, two rings are spliced into one, and a ring without the points stays.
 use Prim.Native.Nat.{ℕ, zero, suc, _+_, _≤_, _<_}
-use mathlib.Core.Path.{_≡_, refl, sym, ap, _∙_, subst}
-use mathlib.Core.Logic.{_≢_}
+use mathlib.Core.Path.{_≡_, refl, sym, _∙_, subst}
 use mathlib.Core.List.{List, [], _∷_, _++_, append-assoc}
 use native.Mathlib.Omega.{arith}
-use Rattle.rings.specs.Circle.{initOf}
 use Rattle.rings.specs.Count.{one, occ}
-use Rattle.rings.specs.Links.{All, Seg, Linked}
+use Rattle.rings.specs.Links.{Seg, Linked}
 use Rattle.rings.specs.Walk.{Whole}
 use Rattle.rings.specs.Relink.{Crossed}
 use Rattle.rings.proofs.Circles.{initOf-snoc}
-use Rattle.rings.proofs.Counting.{all-in, one-le}
+use Rattle.rings.proofs.Counting.{all-in}
 use Rattle.rings.proofs.Linking.{seg-join, seg-keep, close}
 use Rattle.rings.proofs.Members.{one-is, occ-append, seg-part, seg-next, whole-kept}
 

@@ -2,14 +2,12 @@
 use Prim.Native.Nat.{ℕ, zero, suc, _+_, _≤_, _<_}
 use mathlib.Core.Path.{_≡_, refl, sym, ap, _∙_, subst}
 use mathlib.Core.Logic.{_≢_}
-use mathlib.Core.Bool.{Bool, true, false, cond}
 use mathlib.Core.List.{List, [], _∷_, _++_}
 use native.Mathlib.Omega.{arith}
 use native.Mathlib.Decide.{ℕ-discrete, decLt}
-use lib.Dec.{eqb}
 use borrow.Author.Tests.{eq-eqb, ne-eqb}
-use Rattle.rings.specs.Count.{sumTo, one, occ}
-use Rattle.rings.specs.Walk.{walk, Whole}
+use Rattle.rings.specs.Count.{one, occ}
+use Rattle.rings.specs.Walk.{Whole}
 use Rattle.rings.specs.Relink.{Crossed, Inserted, Unlinked}
 use Rattle.rings.specs.Table.{total, Table, with, ringFrom, Starts, nowhere, on-it}
 use Rattle.rings.proofs.Counting.{sum-same, sum-change, sum-term, sum-two, one-le}

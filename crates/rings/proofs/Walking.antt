@@ -8,9 +8,9 @@ use native.Mathlib.Omega.{arith}
 use lib.Dec.{eqb}
 use lib.ListN.{length}
 use borrow.Author.Tests.{eq-eqb, ne-eqb}
-use Rattle.rings.specs.Circle.{spin, headOr, turn}
-use Rattle.rings.specs.Count.{one, occ}
-use Rattle.rings.specs.Links.{Seg, Linked}
+use Rattle.rings.specs.Circle.{spin, headOr}
+use Rattle.rings.specs.Count.{occ}
+use Rattle.rings.specs.Links.{Seg}
 use Rattle.rings.specs.Place.{place}
 use Rattle.rings.specs.Walk.{run, walk, Whole}
 use Rattle.rings.proofs.Circles.{length-spin}

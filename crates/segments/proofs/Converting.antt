@@ -1,14 +1,13 @@
 -- The needs of convert_horz_segs_to_joins; and that its joins are joins of points, which process_horz_joins asks.
-use Prim.Native.Nat.{ℕ, zero, suc, _+_, _*_, _≤_, _<_}
-use mathlib.Core.Path.{_≡_, refl, ap, _∙_, sym, subst}
-use mathlib.Core.Logic.{_≢_, _⊎_, inl, inr}
+use Prim.Native.Nat.{ℕ, zero, suc, _+_, _<_}
+use mathlib.Core.Path.{_≡_, refl, ap, _∙_}
+use mathlib.Core.Logic.{_⊎_, inl}
 use mathlib.Core.Bool.{Bool, true, false, cond}
-use mathlib.Core.List.{List, [], _∷_, _++_, map}
+use mathlib.Core.List.{List, [], _∷_, map}
 use native.Mathlib.Omega.{arith}
-use lib.Dec.{eqb, ltb}
+use lib.Dec.{ltb}
 use lib.ListN.{getD, set, length, length-set, length-append, replicate}
 use Rattle.store.specs.Field.{NONE}
-use Rattle.store.specs.Named.{pointsOf}
 use Rattle.joins.specs.Needs as need
 use Rattle.segments.specs.declared.pairs.Converted.{Converted}
 use Rattle.segments.specs.declared.pairs.Converted.the-variants.{Joins, Full}
@@ -18,7 +17,7 @@ use Rattle.segments.specs.Row.{Row, columns, columnsOf, rowsOf, place, p
 use Rattle.segments.specs.Update.{updateHorzSegment, Claim, claim, claimOf, rowOf, onClaim, updateFrom, Listed}
 use Rattle.segments.specs.Make.{Made, made, Out, out, madeOf, outerFrom, blank, segmentRows, pairsOf, convertHorzSegsToJoins, Pairing, Converting}
 use Rattle.segments.proofs.Stable.{Each, sorted-each}
-use Rattle.segments.proofs.Sinking.{Holds, holds, rows-are}
+use Rattle.segments.proofs.Sinking.{holds, rows-are}
 use Rattle.segments.proofs.Updates.{Row-fit, updated-fit}
 use Rattle.segments.proofs.Making.{PairingOf}
 use Rattle.segments.proofs.Looping.{outer-kept}

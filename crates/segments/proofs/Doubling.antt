@@ -1,25 +1,24 @@
 -- A copy of a point (`duplicate_op`) keeps the invariant, and what was known of the points there were.
-use Prim.Native.Nat.{ℕ, zero, suc, _+_, _*_, _≤_, _<_}
+use Prim.Native.Nat.{ℕ, suc, _+_, _≤_, _<_}
 use mathlib.Core.Path.{_≡_, refl, ap, _∙_, sym, subst}
 use mathlib.Core.Logic.{_≢_}
 use mathlib.Core.Bool.{Bool, true, false, cond}
-use mathlib.Core.List.{List, [], _∷_, _++_}
+use mathlib.Core.List.{List, _++_}
 use native.Mathlib.Omega.{arith}
-use lib.Dec.{eqb, ltb}
+use lib.Dec.{ltb}
 use lib.ListN.{length}
 use borrow.Author.Tests.{eq-eqb, ne-eqb, ltb-true}
-use Rattle.store.specs.declared.points.Room.{Room}
 use Rattle.store.specs.declared.points.Room.the-variants.{At, Full}
-use Rattle.store.specs.Field.{pt, rc, ct, X, Y, NEXT, PREV, REC, FLAGS, OWNER, FIRST, POINTS, RECORDS, LENGTH}
-use Rattle.store.specs.Words.{Store, view, Write, write, onWords, onStore}
+use Rattle.store.specs.Field.{pt, rc, REC, FLAGS, LENGTH}
+use Rattle.store.specs.Words.{Store, view, Write, onWords, onStore}
 use Rattle.store.specs.Named.{nextOf, prevOf, pointsOf}
 use Rattle.rings.specs.Count.{occ}
 use Rattle.rings.proofs.Tables.{elsewhere}
-use Rattle.store.specs.Sound.{pts, recs, ringAt, isOpen}
+use Rattle.store.specs.Sound.{recs, ringAt, isOpen}
 use Rattle.store.specs.Primitive.{Taken, taken, copyWrites, linkWrites, afterWrites, beforeWrites, duplicateOp, Beside}
 use Rattle.store.proofs.Storing.{view-writes, length-writes}
 use Rattle.joins.specs.Resolve.{Lives}
-use Rattle.joins.specs.Resolved.{Resolved, Ready}
+use Rattle.joins.specs.Resolved.{Ready}
 use Rattle.joins.specs.Needs.{Point}
 use Rattle.joins.proofs.Homes.{home-of, next-lives, prev-lives, prev-next, on-ring, table}
 use Rattle.joins.proofs.Growing.{Grown, grown-res, grown-resolved, grown-lives}

@@ -1,22 +1,19 @@
 -- The loops over pairs: each turn keeps the invariant, and the loops follow their definitions.
-use Prim.Native.Nat.{ℕ, zero, suc, _+_, _-_, _*_, _≤_, _<_}
+use Prim.Native.Nat.{ℕ, zero, suc, _+_, _-_, _≤_, _<_}
 use mathlib.Core.Path.{_≡_, refl, ap, _∙_, sym, subst}
-use mathlib.Core.Logic.{_≢_, _⊎_, inl, inr}
-use mathlib.Core.Bool.{Bool, true, false, cond, _||_, not}
-use mathlib.Core.List.{List, [], _∷_, map}
+use mathlib.Core.Logic.{_≢_}
+use mathlib.Core.Bool.{Bool, true, false, cond}
+use mathlib.Core.List.{List}
 use native.Mathlib.Omega.{arith}
-use lib.Dec.{eqb, ltb}
+use lib.Dec.{eqb}
 use lib.ListN.{getD, set, length}
-use borrow.Author.Tests.{eq-eqb, ne-eqb, eqb-true, eqb-false}
+use borrow.Author.Tests.{eq-eqb, ne-eqb, eqb-false}
 use Rattle.store.specs.Field.{NONE, LENGTH}
-use Rattle.store.specs.Named.{pointsOf}
-use Rattle.joins.specs.Resolved.{Ready}
 use Rattle.segments.specs.declared.pairs.Converted.{Converted}
 use Rattle.segments.specs.declared.pairs.Converted.the-variants.{Joins, Full}
-use Rattle.segments.specs.Level.{xOf, yOf}
-use Rattle.segments.specs.Pair.{oneOf, twoOf, Span, Overlap}
-use Rattle.segments.specs.Make.{Made, made, makeJoin, Out, out, withLefts, apartOf, joinPair, firstOne, secondOne, movedPair, pairOf, andThen, innerFrom, outerFrom, Making, Pairing, Valid, Overlapping, PairAt}
-use Rattle.segments.proofs.Making.{span-low, pair-valid, pair-overlaps, one-moved, two-moved, making-on, making-back, PairingOf, pair-kept}
+use Rattle.segments.specs.Pair.{Overlap}
+use Rattle.segments.specs.Make.{made, makeJoin, Out, out, withLefts, apartOf, joinPair, firstOne, secondOne, movedPair, pairOf, andThen, innerFrom, outerFrom, Making, Pairing, Valid, Overlapping, PairAt}
+use Rattle.segments.proofs.Making.{span-low, pair-overlaps, making-on, making-back, PairingOf, pair-kept}
 
 -- ---- the needs of apart and of moved
 

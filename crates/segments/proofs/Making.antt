@@ -1,28 +1,25 @@
 -- A join made from two segments: what it keeps; the needs of its functions; and that a pair keeps the invariant of the loops.
-use Prim.Native.Nat.{ℕ, zero, suc, _+_, _*_, _≤_, _<_}
+use Prim.Native.Nat.{ℕ, _+_, _*_, _<_}
 use mathlib.Core.Path.{_≡_, refl, ap, _∙_, sym, subst}
 use mathlib.Core.Logic.{_≢_, _⊎_, inl, inr}
 use mathlib.Core.Bool.{Bool, true, false, cond, _||_, not}
-use mathlib.Core.List.{List, [], _∷_}
+use mathlib.Core.List.{List}
 use native.Mathlib.Omega.{arith}
 use native.Mathlib.Decide.{ℕ-discrete}
 use lib.Dec.{eqb, ltb}
 use lib.ListN.{getD, set, length, length-set}
 use lib.Seq.{getD-set-same, getD-set-other}
-use borrow.Author.Tests.{eq-eqb, ne-eqb, ltb-true}
+use borrow.Author.Tests.{ltb-true}
 use Rattle.store.specs.declared.points.Room.{Room}
 use Rattle.store.specs.declared.points.Room.the-variants as room
-use Rattle.store.specs.Field.{NONE, LENGTH}
-use Rattle.store.specs.Words.{view}
+use Rattle.store.specs.Field.{NONE}
 use Rattle.store.specs.Named.{pointsOf}
 use Rattle.store.specs.Primitive.{Taken, taken, duplicateOp, Beside}
-use Rattle.joins.specs.Resolve.{Lives}
-use Rattle.joins.specs.Resolved.{Ready}
 use Rattle.joins.specs.Needs.{Point}
 use Rattle.segments.specs.declared.pairs.Converted.{Converted}
 use Rattle.segments.specs.declared.pairs.Converted.the-variants.{Joins, Full}
-use Rattle.segments.specs.Level.{xOf, yOf, Together}
-use Rattle.segments.specs.Pair.{oneOf, twoOf, Span, Overlap}
+use Rattle.segments.specs.Level.{xOf, yOf}
+use Rattle.segments.specs.Pair.{Span}
 use Rattle.segments.specs.Make.{Made, made, secondAt, firstAt, makeJoin, Out, out, withLefts, apartOf, joinPair, firstOne, secondOne, movedPair, pairOf, Making, Pairing, Valid, Overlapping, PairAt}
 use Rattle.segments.proofs.Moving.{one-span, two-span}
 use Rattle.segments.proofs.Doubling.{Keeps, keeps-on, Grew, Doubles, beside, doubles}

@@ -1,17 +1,15 @@
 -- The invariant of the pairs: a segment's left point stays on its ring and strictly left of its right point, so both walks of a pair end.
-use Prim.Native.Nat.{ℕ, zero, suc, _+_, _≤_, _<_}
-use mathlib.Core.Path.{_≡_, refl, ap, _∙_, sym, subst}
-use mathlib.Core.Logic.{_≢_, _⊎_, inl, inr}
+use Prim.Native.Nat.{ℕ, zero, suc, _≤_, _<_}
+use mathlib.Core.Path.{_≡_, refl, ap, _∙_}
 use mathlib.Core.Bool.{Bool, true, false, cond, _||_, not}
 use mathlib.Core.List.{List}
 use native.Mathlib.Omega.{arith}
-use lib.Dec.{eqb, ltb}
 use borrow.Author.Tests.{ltb-false}
 use Rattle.store.specs.Words.{view}
 use Rattle.store.specs.Named.{pointsOf}
 use Rattle.joins.specs.Resolve.{Lives}
 use Rattle.joins.specs.Resolved.{Ready}
-use Rattle.segments.specs.Level.{xOf, yOf, alongOf, until, atLimit, limitRun, Together, Bounded}
+use Rattle.segments.specs.Level.{xOf, alongOf, until, atLimit, limitRun, Bounded}
 use Rattle.segments.specs.Pair.{Span, Overlap, oneOf, twoOf}
 use Rattle.segments.proofs.Running.{along-lives}
 

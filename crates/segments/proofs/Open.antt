@@ -1,6 +1,6 @@
 -- Segments and joins on closed rings: conversion leaves every open ring as it was, and its joins are of points on closed rings.
-use Prim.Native.Nat.{ℕ, zero, suc, _+_, _*_, _≤_, _<_}
-use mathlib.Core.Path.{_≡_, refl, ap, _∙_, sym, subst}
+use Prim.Native.Nat.{ℕ, zero, suc, _+_, _*_, _<_}
+use mathlib.Core.Path.{_≡_, refl, subst}
 use mathlib.Core.Logic.{_≢_, _⊎_, inl, inr}
 use mathlib.Core.Bool.{Bool, true, false, cond}
 use mathlib.Core.List.{List, [], _∷_, map}
@@ -29,7 +29,7 @@ use Rattle.segments.specs.Row.{Row}
 use Rattle.segments.specs.Update.{segment, headed, endsOf, updateHorzSegment, Claim, claim, claimOf, rowOf, onClaim, updateFrom, Listed}
 use Rattle.segments.specs.Make.{Made, made, secondAt, firstAt, makeJoin, Out, out, withLefts, apartOf, joinPair, firstOne, secondOne, movedPair, pairOf, andThen, innerFrom, outerFrom, blank, segmentRows, pairsOf, madeOf, convertHorzSegsToJoins, Making, Pairing, Overlapping, PairAt, Converting}
 use Rattle.segments.proofs.Doubling.{Grew, Doubles, doubles, Opens, opens}
-use Rattle.segments.proofs.Making.{Gives, GivesOf, make-gives, making-point, pair-overlaps, one-moved, two-moved, making-on, making-back, PairingOf, pair-kept}
+use Rattle.segments.proofs.Making.{making-point, pair-overlaps, one-moved, two-moved, making-on, making-back, PairingOf, pair-kept}
 use Rattle.segments.proofs.Looping.{inner-kept}
 use Rattle.segments.proofs.Stable.{Each, sorted-each}
 use Rattle.segments.proofs.Updates.{point-at-home, ends-on, claimed, each-set}

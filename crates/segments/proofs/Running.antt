@@ -1,12 +1,11 @@
 -- The loops of the level walks: each moves until its test holds, which it does at the latest at the stop, or before it.
-use Prim.Native.Nat.{ℕ, zero, suc, _+_, _≤_, _<_}
-use mathlib.Core.Path.{_≡_, refl, ap, _∙_, sym, subst}
-use mathlib.Core.Logic.{_≢_, _⊎_, inl, inr}
-use mathlib.Core.Bool.{Bool, true, false, cond, _||_, not}
-use mathlib.Core.List.{List, [], _∷_, _++_}
+use Prim.Native.Nat.{ℕ, zero, suc, _≤_, _<_}
+use mathlib.Core.Path.{_≡_, refl, ap, _∙_, sym}
+use mathlib.Core.Logic.{_⊎_, inl, inr}
+use mathlib.Core.Bool.{Bool, true, false, cond}
+use mathlib.Core.List.{List}
 use native.Mathlib.Omega.{arith}
-use lib.Dec.{eqb, ltb}
-use borrow.Author.Tests.{eq-eqb, ne-eqb, lt-ltb}
+use borrow.Author.Tests.{eq-eqb, lt-ltb}
 use Rattle.store.specs.Words.{view}
 use Rattle.store.specs.Named.{pointsOf, recordsOf, firstOf, nextOf, prevOf}
 use Rattle.joins.specs.Resolve.{Lives}
@@ -14,7 +13,7 @@ use Rattle.joins.specs.Resolved.{Ready}
 use Rattle.joins.specs.Needs.{Point}
 use Rattle.joins.proofs.Homes.{home-of, next-lives, prev-lives}
 use Rattle.joins.proofs.Homes as homes
-use Rattle.segments.specs.Level.{xOf, yOf, alongOf, until, atWall, atStop, atLimit, wallRun, stopRun, limitRun, Together, Bounded, Home}
+use Rattle.segments.specs.Level.{xOf, alongOf, until, atWall, atStop, atLimit, wallRun, stopRun, limitRun, Together, Bounded, Home}
 use Rattle.segments.proofs.Walks.{First, Steps, forwards, backwards}
 
 -- how often a walk moves: a loop's measure

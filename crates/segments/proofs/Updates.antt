@@ -7,19 +7,18 @@ use mathlib.Core.List.{List, [], _∷_, map}
 use native.Mathlib.Omega.{arith}
 use lib.Dec.{eqb, ltb}
 use lib.ListN.{getD, set, length, length-set}
-use borrow.Author.Tests.{eq-eqb, ne-eqb, eqb-true, eqb-false, lt-ltb, le-ltb, ltb-true, ltb-false}
+use borrow.Author.Tests.{eq-eqb, ne-eqb, eqb-false, lt-ltb, le-ltb, ltb-true, ltb-false}
 use Rattle.store.specs.Field.{NONE, LENGTH}
 use Rattle.store.specs.Words.{view}
-use Rattle.store.specs.Named.{nextOf, firstOf, pointsOf}
+use Rattle.store.specs.Named.{pointsOf}
 use Rattle.joins.specs.Resolve.{homeOf, Lives}
-use Rattle.joins.specs.Resolved.{Ready}
 use Rattle.joins.specs.Needs.{Point}
 use Rattle.joins.proofs.Finding.{at-home}
 use Rattle.segments.specs.declared.level.Ends.{Ends}
 use Rattle.segments.specs.declared.update.Segment.{Segment}
-use Rattle.segments.specs.Level.{xOf, yOf, atWall, atStop, wallRun, stopRun, Together, Home}
+use Rattle.segments.specs.Level.{xOf, yOf, wallRun, stopRun, Together, Home}
 use Rattle.segments.specs.Pair.{Span}
-use Rattle.segments.specs.Row.{Row, Columns, columns, columnsOf, rowsOf, Even}
+use Rattle.segments.specs.Row.{Row, columns, columnsOf, rowsOf, Even}
 use Rattle.segments.specs.Update.{hasFront, walledEnds, freeEnds, endsOf, segment, headed, updateHorzSegment, Claim, claim, claimOf, rowOf, onClaim, updateFrom, Listed}
 use Rattle.segments.proofs.Running.{until-lives}
 use Rattle.segments.proofs.Sinking.{Holds, holds, columns-rows}

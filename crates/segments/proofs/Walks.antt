@@ -1,12 +1,12 @@
 -- A walk along next or prev from one point of a ring to another comes there, in fewer than 2,048 steps.
 use Prim.Native.Nat.{ℕ, zero, suc, _+_, _≤_, _<_}
-use mathlib.Core.Path.{_≡_, refl, ap, _∙_, sym, subst}
+use mathlib.Core.Path.{_≡_, refl, ap, sym, subst}
 use mathlib.Core.Logic.{_≢_}
 use mathlib.Core.List.{List, [], _∷_, _++_, append-assoc}
 use native.Mathlib.Omega.{arith}
 use native.Mathlib.Decide.{ℕ-discrete}
 use lib.ListN.{length, length-append}
-use Rattle.rings.specs.Count.{one, occ}
+use Rattle.rings.specs.Count.{occ}
 use Rattle.rings.specs.Links.{Seg}
 use Rattle.rings.specs.Walk.{Whole}
 use Rattle.rings.proofs.Counting.{one-else, one-here, pigeon}
@@ -14,7 +14,7 @@ use Rattle.rings.proofs.Linking.{seg-join}
 use Rattle.rings.proofs.Members.{one-is, occ-append, parted, seg-part}
 use Rattle.store.specs.Field.{pt, NEXT, PREV}
 use Rattle.store.specs.Words.{Store}
-use Rattle.store.specs.Sound.{pts, ringAt}
+use Rattle.store.specs.Sound.{pts}
 use Rattle.joins.specs.Resolve.{Lives}
 use Rattle.joins.specs.Resolved.{Resolved}
 use Rattle.joins.proofs.Homes.{on-ring, from}

@@ -1,13 +1,12 @@
 -- The walks of convert_horz_segs_to_joins: along next or prev, until a test holds. Three tests, one walk.
 use Prim.Native.Nat.{ℕ, zero, suc, _<_}
-use mathlib.Core.Path.{_≡_}
-use mathlib.Core.Bool.{Bool, true, false, cond, _||_, not}
+use mathlib.Core.Bool.{Bool, cond, _||_, not}
 use mathlib.Core.List.{List}
 use lib.Dec.{eqb, ltb}
 use Rattle.job.specs.Limits as limit
 use Rattle.store.specs.Field.{pt, X, Y}
 use Rattle.store.specs.Words.{view}
-use Rattle.store.specs.Named.{nextOf, prevOf, firstOf}
+use Rattle.store.specs.Named.{nextOf, prevOf}
 use Rattle.joins.specs.Resolve.{Lives}
 use Rattle.joins.specs.Resolved.{Ready}
 

@@ -3,11 +3,10 @@ use Prim.Native.Nat.{ℕ, zero, suc, _+_, _*_, _≤_, _<_}
 use mathlib.Core.Path.{_≡_}
 use mathlib.Core.Logic.{_≢_, _⊎_}
 use mathlib.Core.Bool.{Bool, true, false, cond, _||_, not}
-use mathlib.Core.List.{List, [], _∷_, map}
+use mathlib.Core.List.{List, map}
 use lib.Dec.{eqb, ltb}
 use lib.ListN.{getD, set, length, replicate}
 use Rattle.job.specs.Limits as limit
-use Rattle.store.specs.declared.points.Room.{Room}
 use Rattle.store.specs.declared.points.Room.the-variants as room
 use Rattle.store.specs.Field.{NONE}
 use Rattle.store.specs.Named.{pointsOf}

@@ -1,7 +1,7 @@
 -- The first loop of convert_horz_segs_to_joins: each of the job's segments is run to both sides, headed, and struck out where its left point is taken.
 use Prim.Native.Nat.{ℕ, zero, suc, _+_, _%_, _/_, _≤_, _<_}
 use mathlib.Core.Bool.{Bool, true, false, cond}
-use mathlib.Core.List.{List, [], _∷_}
+use mathlib.Core.List.{List}
 use lib.Dec.{eqb, ltb}
 use lib.ListN.{getD, set, length}
 use Rattle.job.specs.Limits as limit

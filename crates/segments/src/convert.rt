@@ -4,7 +4,6 @@ use crate::pairs::Converted;
 use crate::sorting;
 use crate::update;
 ghost use mathlib.Core.Path.{_≡_};
-ghost use Prim.Native.Nat.{ℕ, _+_, _<_, _≤_};
 ghost use Rattle.segments.specs.Make.{made, convertHorzSegsToJoins, Converting};
 
 const NONE: usize = 65535;

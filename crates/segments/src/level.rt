@@ -3,7 +3,7 @@ use store::Col;
 use store::get;
 ghost use mathlib.Core.Bool.{true, false};
 ghost use mathlib.Core.Path.{_≡_};
-ghost use Prim.Native.Nat.{ℕ, _+_, _<_, _≤_};
+ghost use Prim.Native.Nat.{_<_};
 ghost use Rattle.joins.specs.Needs.{Point};
 ghost use Rattle.segments.specs.Level.{alongOf, atWall, atStop, atLimit, wallRun, stopRun, limitRun, Together, Bounded, Home};
 ghost use Rattle.segments.specs.Update.{walledEnds, freeEnds};

@@ -10,7 +10,7 @@ use store::points::duplicate_op;
 ghost use mathlib.Core.Bool.{true, false};
 ghost use mathlib.Core.Path.{_≡_};
 ghost use mathlib.Core.Logic.{_≢_};
-ghost use Prim.Native.Nat.{ℕ, _+_, _*_, _-_, _<_, _≤_, _^_};
+ghost use Prim.Native.Nat.{_+_, _*_, _-_, _<_, _≤_, _^_};
 ghost use lib.ListN.{length, getD, set};
 ghost use lib.Dec.{ltb};
 ghost use Rattle.store.specs.Field.{LENGTH};

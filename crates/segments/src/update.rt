@@ -7,7 +7,7 @@ use joins::point_at;
 use store::Col;
 use store::get;
 ghost use mathlib.Core.Path.{_≡_};
-ghost use Prim.Native.Nat.{ℕ, _+_, _<_, _≤_};
+ghost use Prim.Native.Nat.{_+_, _<_, _≤_};
 ghost use lib.ListN.{length, replicate, set};
 ghost use Rattle.store.specs.Field.{LENGTH};
 ghost use Rattle.joins.specs.Needs.{Point};

@@ -1,5 +1,5 @@
 -- Coordinates and their words: a word within the limit stands for a coordinate within it, and back.
-use Prim.Native.Nat.{ℕ, zero, suc, _+_, _-_, _*_, _≤_, _<_, _^_}
+use Prim.Native.Nat.{ℕ, suc, _+_, _-_, _*_, _≤_, _<_}
 use mathlib.Core.Path.{_≡_, refl, ap, _∙_, sym}
 use mathlib.Core.List.{List}
 use native.Mathlib.Omega.{arith}

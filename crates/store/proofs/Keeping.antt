@@ -4,13 +4,13 @@ use Prim.Native.Nat.{ℕ, zero, suc, _+_, _≤_, _<_}
 use mathlib.Core.Path.{_≡_, refl, ap, _∙_, sym, subst}
 use mathlib.Core.Logic.{_≢_, _⊎_, inl, inr}
 use mathlib.Core.Bool.{Bool, true, false, cond}
-use mathlib.Core.List.{List, [], _∷_}
+use mathlib.Core.List.{[]}
 use native.Mathlib.Omega.{arith}
 use native.Mathlib.Decide.{ℕ-discrete, decLt}
 use Rattle.rings.specs.Count.{sumTo, occ}
 use Rattle.rings.specs.Progress.{Due, validity, removal, triangle, split, done, isDone, resting, gone}
 use Rattle.rings.specs.Walk.{walk}
-use Rattle.rings.proofs.Counting.{all-in, sum-same, sum-term, sum-two, sum-change}
+use Rattle.rings.proofs.Counting.{all-in, sum-same, sum-two, sum-change}
 use Rattle.rings.proofs.Linking.{linked-kept}
 use Rattle.rings.proofs.Walking.{run-agree, Seen}
 use Rattle.store.specs.Field.{RecordCol, pt, rc, X, Y, NEXT, PREV, REC, FLAGS, OWNER, FIRST, MARK, PRESENT, START, NONE}

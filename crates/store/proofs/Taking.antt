@@ -1,8 +1,8 @@
 -- What the primitives' code leaves: each law's premises are what the callees ensure, and the branches.
-use Prim.Native.Nat.{ℕ, suc, _+_, _*_, _≤_, _<_, _^_}
-use mathlib.Core.Path.{_≡_, refl, ap, _∙_, sym}
+use Prim.Native.Nat.{ℕ, _+_, _≤_, _<_}
+use mathlib.Core.Path.{_≡_, ap, _∙_}
 use mathlib.Core.Bool.{Bool, true, false}
-use mathlib.Core.List.{List, [], _∷_, _++_}
+use mathlib.Core.List.{List}
 use native.Mathlib.Omega.{arith}
 use native.Mathlib.Numerals.{add-one}
 use lib.Dec.{ltb}
@@ -14,7 +14,7 @@ use Rattle.job.specs.Limits as limit
 use Rattle.geometry.specs.declared.Point.{Point}
 use Rattle.geometry.specs.Plane.{InTable}
 use Rattle.store.specs.declared.points.Room.the-variants.{At, Full}
-use Rattle.store.specs.Field.{pt, ct, X, Y, REC, NEXT, PREV, POINTS, RECORDS}
+use Rattle.store.specs.Field.{pt, ct, X, Y, REC, POINTS, RECORDS}
 use Rattle.store.specs.Words.{view, cell, put, onWords}
 use Rattle.store.specs.Named.{pointsOf, recordsOf, nextOf, prevOf}
 use Rattle.store.specs.Value.{wordOf}

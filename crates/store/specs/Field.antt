@@ -1,6 +1,6 @@
 -- The layout: every column of the work space by its name, where it begins and how long it is. The only file of definitions with numbers of words.
 use Prim.Native.Nat.{ℕ, _+_, _*_}
-use mathlib.Core.Bool.{Bool, true, false}
+use mathlib.Core.Bool.{Bool, false}
 use lib.Dec.{eqb}
 use Rattle.job.specs.Limits as limit
 

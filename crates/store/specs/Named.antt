@@ -1,11 +1,9 @@
 -- Words by name: what a field of a point or of a record reads, and the words with another number there. Definitions are written with these, as the Rust
 -- reads and writes the fields of its arenas.
-use Prim.Native.Nat.{ℕ, _%_}
-use mathlib.Core.Bool.{Bool}
+use Prim.Native.Nat.{ℕ}
 use mathlib.Core.List.{List}
-use lib.Dec.{eqb}
 use Rattle.rings.specs.Walk.{walk}
-use Rattle.store.specs.Field.{pt, rc, ct, X, Y, NEXT, PREV, REC, FLAGS, OWNER, FIRST, MARK, PRESENT, START, CUT, SETTINGS, POINTS, RECORDS}
+use Rattle.store.specs.Field.{pt, rc, ct, NEXT, PREV, REC, FLAGS, OWNER, FIRST, MARK, PRESENT, START, CUT, SETTINGS, POINTS, RECORDS}
 use Rattle.store.specs.Words.{view, put}
 
 -- ---- the counts

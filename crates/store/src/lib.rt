@@ -1,7 +1,7 @@
 // The work space: every word is read and written by its column's name.
 use job::Job;
 ghost use mathlib.Core.Path.{_≡_};
-ghost use Prim.Native.Nat.{ℕ, _+_, _<_, _≤_, _^_};
+ghost use Prim.Native.Nat.{_+_, _<_, _≤_, _^_};
 ghost use lib.ListN.{length, getD};
 ghost use Rattle.store.specs.Field.{size, base, LENGTH};
 ghost use Rattle.store.specs.Words.{cell, put};

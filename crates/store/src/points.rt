@@ -6,8 +6,7 @@ use crate::set;
 use geometry::Point;
 use job::Job;
 ghost use mathlib.Core.Path.{_≡_};
-ghost use mathlib.Core.List.{_++_};
-ghost use Prim.Native.Nat.{ℕ, _+_, _*_, _<_, _≤_, _^_};
+ghost use Prim.Native.Nat.{_+_, _*_, _<_, _≤_, _^_};
 ghost use lib.ListN.{length};
 ghost use Rattle.job.specs.Limits as limit;
 ghost use Rattle.numbers.specs.Raised.{coordinate};
@@ -15,9 +14,9 @@ ghost use Rattle.exact.specs.Num.{Within};
 ghost use Rattle.geometry.specs.Plane.{InTable};
 ghost use Rattle.store.specs.Field.{pt, X, Y, LENGTH};
 ghost use Rattle.store.specs.Words.{view, onWords};
-ghost use Rattle.store.specs.Named.{pointsOf, recordsOf};
+ghost use Rattle.store.specs.Named.{pointsOf};
 ghost use Rattle.store.specs.Value.{pointOf, wordOf, outRecOf};
-ghost use Rattle.store.specs.Primitive.{taken, disposed, pointWrites, ownWrites, linkWrites, unlinkWrites, startWrites, recordWrites, afterWrites, beforeWrites, newOutPt, duplicateOp, newOutRec, disposeOutPt, disposeOutPts, Beside};
+ghost use Rattle.store.specs.Primitive.{taken, disposed, pointWrites, ownWrites, linkWrites, unlinkWrites, startWrites, afterWrites, beforeWrites, newOutPt, duplicateOp, newOutRec, disposeOutPt, disposeOutPts, Beside};
 
 // The place that was taken, or that there is none.
 pub enum Room {

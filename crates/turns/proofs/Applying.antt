@@ -1,9 +1,9 @@
 -- What the code that applies an act leaves: each law's premises are what the callees ensure, and the branches.
-use Prim.Native.Nat.{ℕ, suc, _+_, _≤_, _<_, _^_}
-use mathlib.Core.Path.{_≡_, refl, ap, _∙_, sym, subst}
+use Prim.Native.Nat.{ℕ, _+_, _≤_, _<_}
+use mathlib.Core.Path.{_≡_, ap, _∙_, sym, subst}
 use mathlib.Core.Logic.{_≢_}
 use mathlib.Core.Bool.{Bool, true, false, cond}
-use mathlib.Core.List.{List, [], _∷_, _++_}
+use mathlib.Core.List.{List}
 use native.Mathlib.Numerals.{add-one}
 use native.Mathlib.Omega.{arith}
 use lib.Dec.{eqb}
@@ -14,9 +14,8 @@ use mir.Val.{toZ, ofZ}
 use mir.Facts.{toZ-ofZ}
 use Rattle.rings.specs.Progress.{Due}
 use Rattle.geometry.specs.declared.Point.{Point}
-use Rattle.geometry.specs.Plane.{InTable}
-use Rattle.lone.specs.Ring.{stay, discard, dropPoint, moveOn, toFirst, double, cut, takesPoints}
-use Rattle.store.specs.Field.{pt, rc, ct, X, Y, NEXT, PREV, REC, FLAGS, OWNER, FIRST, MARK, PRESENT, START, CUT, POINTS, RECORDS, LENGTH}
+use Rattle.lone.specs.Ring.{double, cut, takesPoints}
+use Rattle.store.specs.Field.{pt, rc, ct, NEXT, PREV, REC, OWNER, FIRST, MARK, PRESENT, START, POINTS, RECORDS, LENGTH}
 use Rattle.store.specs.Sound.{pts, recs, markOf}
 use Rattle.store.specs.Words.{Store, view, cell, put, onWords, onStore, Within}
 use Rattle.store.proofs.Storing.{view-writes, length-writes}
@@ -24,9 +23,9 @@ use Rattle.store.specs.Value.{wordOf}
 use Rattle.store.specs.Primitive.{pointWrites, linkWrites, unlinkWrites, startWrites}
 use Rattle.store.proofs.Coordinates.{fits}
 use Rattle.acts.specs.Writes.{moveWrites, toFirstWrites, discardWrites, dropWrites, putWrites, doubleWrites, placeWrites, cutWrites, cutPutWrites, recordWrites, offcutWrites}
-use Rattle.acts.specs.Apply.{ringWrites, offWrites, afterW}
+use Rattle.acts.specs.Apply.{ringWrites, afterW}
 use Rattle.turns.specs.declared.Act.{Act}
-use Rattle.turns.specs.declared.Act.the-variants.{Stay, Discard, Drop, MoveOn, ToFirst, Double, Cut}
+use Rattle.turns.specs.declared.Act.the-variants.{Discard, Drop, MoveOn, ToFirst, Double, Cut}
 use Rattle.turns.specs.declared.Due as code
 use Rattle.turns.specs.Code.{dueIs, actIs}
 use Rattle.turns.specs.Form.{raised}

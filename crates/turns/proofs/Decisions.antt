@@ -1,8 +1,8 @@
 -- What the needs of the deciding code come to: each premise is what a callee ensures, or a branch.
-use Prim.Native.Nat.{ℕ, zero, suc, _+_, _*_, _/_, _%_, _≤_, _<_}
+use Prim.Native.Nat.{ℕ, _*_, _/_, _%_, _≤_, _<_}
 use mathlib.Core.Path.{_≡_, refl, ap, _∙_, sym, subst}
 use mathlib.Core.Logic.{_≢_}
-use mathlib.Core.Bool.{Bool, true, false, cond, not, _&&_, _||_, Bool·beq}
+use mathlib.Core.Bool.{Bool, true, false, cond, not, _||_, Bool·beq}
 use mathlib.Core.List.{List, [], _∷_, map}
 use native.Mathlib.Omega.{arith}
 use lib.Dec.{eqb, ltb, leb}
@@ -25,7 +25,7 @@ use Rattle.geometry.proofs.Edges.{pair-of}
 use Rattle.geometry.proofs.Crossings.{crossed-of, meets-of, point-crossing}
 use Rattle.turns.specs.declared.Corner.{Corner}
 use Rattle.lone.specs.Ring.{Act, stay, discard, dropPoint, moveOn, toFirst, double, cut}
-use Rattle.lone.specs.Lone.{isValidClosedPath, tooSmall}
+use Rattle.lone.specs.Lone.{isValidClosedPath}
 use Rattle.lone.specs.Plane.{plane}
 use Rattle.store.specs.Field.{pt, rc, ct, NEXT, PREV, FIRST, PRESENT, START, SETTINGS}
 use Rattle.store.specs.Words.{view, cell}

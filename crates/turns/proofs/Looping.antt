@@ -12,7 +12,6 @@ use Rattle.lone.specs.Forest.{Answer, ok, full, outOfTurn, isOk}
 use Rattle.lone.specs.Finish.{enough}
 use Rattle.store.specs.Field.{ct, SETTINGS}
 use Rattle.store.specs.Words.{view}
-use Rattle.acts.specs.Laws.{Laws}
 use Rattle.acts.specs.Step.{Outcome, outcome, answerS, stepByW, stepW, stepOf}
 use Rattle.acts.specs.Finish.{Finishes, wordsLeft, andThen, stepsByW, finishRecord, finishFromW, finishW}
 use Rattle.acts.proofs.Stepping.{length-step}

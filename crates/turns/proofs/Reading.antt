@@ -1,8 +1,8 @@
 -- What reading a ring comes to: the next and the point before are on it, a point's value is in the table, a mark is its step due.
-use Prim.Native.Nat.{ℕ, zero, suc, _+_, _*_, _≤_, _<_, _^_}
+use Prim.Native.Nat.{ℕ, zero, suc, _≤_, _<_}
 use mathlib.Core.Path.{_≡_, refl, ap, _∙_, sym, subst}
 use mathlib.Core.Logic.{_≢_}
-use mathlib.Core.List.{List, [], _∷_}
+use mathlib.Core.List.{List, _∷_}
 use native.Mathlib.Omega.{arith}
 use lib.ListN.{length}
 use Rattle.rings.specs.Circle.{lastOf, back, initOf, spin}
@@ -15,7 +15,7 @@ use Rattle.rings.proofs.Linking.{prev-is}
 use Rattle.rings.proofs.Walking.{ring-is, whole-spin}
 use Rattle.geometry.specs.declared.Point.{Point}
 use Rattle.store.specs.Field.{pt, rc, X, Y, NEXT, PREV, MARK, LENGTH}
-use Rattle.store.specs.Words.{Store, view, cell}
+use Rattle.store.specs.Words.{view, cell}
 use Rattle.store.specs.Sound.{pts, PointIn, dueOf, dueAt}
 use Rattle.store.specs.Value.{pointOf}
 use Rattle.store.specs.Named.{nextOf, prevOf, pointsOf, ringOf}

@@ -1,13 +1,10 @@
 -- A sound work space meets what the code of a step requires: its points are on rings, its words in their columns; and the real geometry has the laws.
-use Prim.Native.Nat.{ℕ, zero, suc, _+_, _≤_, _<_}
-use mathlib.Core.Path.{_≡_, refl, ap, _∙_, sym, subst}
-use mathlib.Core.Bool.{Bool, true, false, cond}
-use mathlib.Core.List.{List, [], _∷_}
+use Prim.Native.Nat.{ℕ}
+use mathlib.Core.Path.{_≡_, ap, _∙_, subst}
+use mathlib.Core.Bool.{Bool}
+use mathlib.Core.List.{List}
 use native.Mathlib.Omega.{arith}
 use lib.IntN.{ℤ}
-use lib.ListN.{length}
-use Rattle.rings.specs.Count.{occ}
-use Rattle.rings.specs.Progress.{isDone}
 use Rattle.geometry.specs.declared.Point.{Point}
 use Rattle.geometry.specs.Plane.{InTable}
 use Rattle.geometry.proofs.Crossings.{crossing-in-table}
@@ -17,14 +14,12 @@ use Rattle.lone.proofs.Plane.{plane-laws}
 use Rattle.numbers.specs.Raised.{coordinate}
 use Rattle.job.specs.Limits as limit
 use Rattle.store.specs.Value.{wordOf}
-use Rattle.store.specs.Field.{pt, rc, NEXT, PREV, FIRST, PRESENT, LENGTH}
-use Rattle.store.specs.Words.{view, cell}
-use Rattle.store.specs.Sound.{pts, recs, ringAt, Closed, Sound, dueAt}
+use Rattle.store.specs.Field.{rc, FIRST, PRESENT}
+use Rattle.store.specs.Words.{view}
 use Rattle.store.proofs.Soundness.{first-on}
 use Rattle.store.proofs.Coordinates.{lowered-in, raise-low, raised-back}
-use Rattle.walks.specs.Ring.{OnRing}
 use Rattle.walks.proofs.Visiting.{on-ring}
-use Rattle.acts.specs.Apply.{Coding, Codes}
+use Rattle.acts.specs.Apply.{Codes}
 use Rattle.acts.specs.Laws.{Laws}
 use Rattle.acts.specs.Step.{actAt}
 use Rattle.turns.specs.Form.{raised, preserves, geometryOf}

@@ -14,7 +14,6 @@ use borrow.Author.Tests.{lt-ltb, ltb-true}
 use mir.Syntax.{w64}
 use mir.Val.{toZ, ofZ, SFits, Fits}
 use mir.Facts.{toZ-ofZ}
-use Rattle.exact.specs.Num.{Within}
 use Rattle.exact.proofs.Size.{fits-size, size-add, within-add}
 use Rattle.rings.specs.Circle.{lastOf}
 use Rattle.rings.specs.Count.{occ}

@@ -2,26 +2,25 @@
 use Prim.Native.Nat.{ℕ, zero, suc, _+_, _%_, _≤_, _<_}
 use mathlib.Core.Path.{_≡_, refl, ap, _∙_, sym, subst}
 use mathlib.Core.Logic.{_≢_}
-use mathlib.Core.Bool.{Bool, true, false, cond, not, _&&_}
-use mathlib.Core.List.{List, [], _∷_}
+use mathlib.Core.Bool.{Bool, true, false, not, _&&_}
+use mathlib.Core.List.{List}
 use native.Mathlib.Omega.{arith}
 use lib.Dec.{eqb, ltb, leb}
-use lib.ListN.{length}
 use borrow.Author.Tests.{eq-eqb, ne-eqb, lt-ltb, le-ltb, leb-true}
-use Rattle.rings.specs.Progress.{Due, validity, removal, triangle, split, done, isDone}
+use Rattle.rings.specs.Progress.{Due, isDone}
 use Rattle.geometry.specs.declared.Point.{Point}
-use Rattle.lone.specs.Ring.{Act, stay, discard, dropPoint, moveOn, toFirst, double, cut, takesPoints}
-use Rattle.lone.specs.Forest.{Answer, ok, full, outOfTurn}
+use Rattle.lone.specs.Ring.{Act, cut, takesPoints}
+use Rattle.lone.specs.Forest.{ok, full, outOfTurn}
 use Rattle.store.specs.Field.{rc, ct, FLAGS, FIRST, MARK, POINTS, RECORDS}
 use Rattle.store.specs.Words.{Store, view, cell}
-use Rattle.store.specs.Sound.{pts, recs, ringless, isOpen, dueOf, dueAt, Closed, Sound, loneAt}
+use Rattle.store.specs.Sound.{pts, recs, dueOf, dueAt}
 use Rattle.acts.specs.Apply.{takesRecord, afterW}
-use Rattle.acts.specs.Step.{outcome, fits, live, actAt, answerS, stepByW, stepW, stepOf}
+use Rattle.acts.specs.Step.{outcome, fits, live, actAt, answerS, stepW, stepOf}
 use Rattle.acts.proofs.Acting.{Ready, to-discard, to-move, to-go-first, to-drop, to-double, to-cut}
 use Rattle.acts.proofs.Readiness.{ready}
 use Rattle.acts.proofs.Stepping.{live-is, live-too, due-is}
 use Rattle.turns.specs.declared.Act as code
-use Rattle.turns.specs.declared.Act.the-variants.{Stay, Discard, Drop, MoveOn, ToFirst, Double, Cut}
+use Rattle.turns.specs.declared.Act.the-variants.{Cut}
 use Rattle.turns.specs.declared.Due as due
 use Rattle.turns.specs.Code.{dueIs, actIs}
 use Rattle.turns.specs.Form.{raised, preserves, geometryOf}

@@ -1,5 +1,5 @@
 -- A point by value, from its two words, as the acts read and write it; and the settings' bit that the geometry takes.
-use Prim.Native.Nat.{ℕ, _%_}
+use Prim.Native.Nat.{_%_}
 use mathlib.Core.Bool.{Bool}
 use lib.Dec.{eqb}
 use Rattle.numbers.specs.Raised.{coordinate}

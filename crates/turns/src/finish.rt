@@ -3,7 +3,6 @@ use crate::Answer;
 use crate::step::step_record;
 ghost use mathlib.Core.Path.{_≡_};
 ghost use mathlib.Core.Bool.{not};
-ghost use Prim.Native.Nat.{ℕ};
 ghost use Rattle.lone.specs.Forest.{isOk};
 ghost use Rattle.store.specs.Words.{view};
 ghost use Rattle.acts.specs.Step.{outcome};

@@ -1,16 +1,15 @@
 -- How many points a ring has, as the tests of the code tell it: by its first point's next and prev.
-use Prim.Native.Nat.{ℕ, zero, suc, _+_, _≤_, _<_}
+use Prim.Native.Nat.{ℕ, _≤_, _<_}
 use mathlib.Core.Path.{_≡_, refl, ap, _∙_, sym, subst}
 use mathlib.Core.Logic.{_≢_}
-use mathlib.Core.Bool.{Bool, true, false, cond, not}
-use mathlib.Core.List.{List, [], _∷_, _++_, map}
+use mathlib.Core.Bool.{Bool, true, false, not}
+use mathlib.Core.List.{List, [], _∷_, map}
 use native.Mathlib.Omega.{arith}
 use lib.ListN.{length}
 use borrow.Author.Tests.{eq-eqb, ne-eqb}
 use Rattle.rings.specs.Circle.{lastOf}
 use Rattle.rings.specs.Count.{one, occ}
 use Rattle.rings.specs.Walk.{Whole}
-use Rattle.rings.specs.Table.{ringFrom}
 use Rattle.rings.proofs.Counting.{one-here, occ-head, occ-lastOf}
 use Rattle.rings.proofs.Linking.{prev-is}
 use Rattle.rings.proofs.Members.{one-is, next-on, prev-on}
@@ -18,13 +17,11 @@ use Rattle.job.specs.Limits as limit
 use Rattle.geometry.specs.Plane.{isVerySmallTriangle}
 use Rattle.lone.specs.Lone.{isValidClosedPath}
 use Rattle.lone.specs.Plane.{plane}
-use Rattle.store.specs.Field.{LENGTH, NONE}
-use Rattle.store.specs.Words.{view}
+use Rattle.store.specs.Field.{NONE}
 use Rattle.store.specs.Named.{pointsOf, nextOf, prevOf, ringOf}
-use Rattle.store.specs.Sound.{PointIn}
 use Rattle.store.specs.Value.{pointOf}
 use Rattle.walks.specs.Ring.{OnRing, MaybeOnRing, Three, valuesFrom, valuesOf, isVerySmall}
-use Rattle.walks.proofs.Visiting.{Split, split}
+use Rattle.walks.proofs.Visiting.{split}
 
 -- a, b, and those after: each once
 module _ (w : List ℕ) (a : ℕ) where

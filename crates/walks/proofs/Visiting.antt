@@ -1,5 +1,5 @@
 -- A walk round a ring, one point at a time: what is left of it, and what the loop at hand says of the points yet to be visited.
-use Prim.Native.Nat.{ℕ, zero, suc, _+_, _*_, _≤_, _<_, _^_}
+use Prim.Native.Nat.{ℕ, _+_, _*_, _≤_, _<_, _^_}
 use mathlib.Core.Path.{_≡_, refl, ap, _∙_, sym, subst}
 use mathlib.Core.Logic.{_≢_}
 use mathlib.Core.Bool.{cond}
@@ -9,16 +9,13 @@ use lib.Dec.{eqb}
 use lib.ListN.{length}
 use lib.IntN.{ℤ, pos, natAbs, _+ℤ_, +ℤ-assoc, +ℤ-idl, +ℤ-idr}
 use mir.Syntax.{w64}
-use mir.Val.{SFits, toZ, ofZ}
-use mir.Facts.{toZ-ofZ}
-use Rattle.exact.specs.Num.{Within}
+use mir.Val.{SFits}
 use Rattle.exact.proofs.Size.{size-add, fits-size}
 use Rattle.job.specs.Limits as limit
-use Rattle.rings.specs.Circle.{lastOf}
 use Rattle.rings.specs.Count.{one, occ}
 use Rattle.rings.specs.Links.{Seg}
 use Rattle.rings.specs.Walk.{run, Whole}
-use Rattle.rings.proofs.Counting.{one-here, one-else, occ-head, pigeon}
+use Rattle.rings.proofs.Counting.{one-here, occ-head, pigeon}
 use Rattle.rings.proofs.Linking.{prev-is}
 use Rattle.rings.proofs.Mapping.{map-lastOf}
 use Rattle.rings.proofs.Members.{next-on, prev-on}
@@ -26,7 +23,7 @@ use Rattle.rings.proofs.Walking.{run-seg, Seen, seen}
 use Rattle.geometry.specs.declared.Point.{Point}
 use Rattle.geometry.specs.Plane.{InTable, edgeArea, areaFrom, areaOutpt}
 use Rattle.geometry.proofs.Coordinates.{edge-within}
-use Rattle.store.specs.Field.{LENGTH, NONE}
+use Rattle.store.specs.Field.{LENGTH}
 use Rattle.store.specs.Words.{view}
 use Rattle.store.specs.Named.{pointsOf, nextOf, prevOf, ringOf}
 use Rattle.store.specs.Sound.{PointIn, Sound, recs, ringAt}

@@ -6,12 +6,12 @@ use store::get;
 use store::points::point;
 ghost use mathlib.Core.Path.{_≡_};
 ghost use mathlib.Core.Bool.{true};
-ghost use Prim.Native.Nat.{ℕ, _+_, _<_, _≤_, _^_};
+ghost use Prim.Native.Nat.{_+_};
 ghost use lib.ListN.{length};
 ghost use Rattle.geometry.specs.Plane.{edgeArea, areaOutpt, isVerySmallTriangle};
 ghost use Rattle.lone.specs.Lone.{isValidClosedPath};
 ghost use Rattle.lone.specs.Plane.{plane};
-ghost use Rattle.store.specs.Named.{nextOf, prevOf, ringOf};
+ghost use Rattle.store.specs.Named.{prevOf, ringOf};
 ghost use Rattle.store.specs.Value.{pointOf};
 ghost use Rattle.walks.specs.Ring.{OnRing, MaybeOnRing, Edge, Three, valuesFrom, valuesOf, isVerySmall};
 

@@ -1,8 +1,7 @@
 -- `listing::put_text` meets its contract: the first i bytes are poured.
-use Prim.Native.Nat.{_-_, _≤_}
+use Prim.Native.Nat.{_-_}
 use mathlib.Core.Path.{_≡_}
-use native.Mathlib.Omega.{arith}
-use lib.ListN.{length, take}
+use lib.ListN.{take}
 use borrow.Author.Needs.{needs}
 use Rattle.listing.specs.Pour.{poured, pour}
 use Rattle.listing.proofs.Pouring.{pour-none, pour-length, text-more, text-all}

@@ -1,10 +1,10 @@
 -- `paths::clear` meets its contract: the first i bytes are zero.
 use borrow.Author.Needs.{needs}
 use Prim.Native.Nat.{_-_, _≤_}
-use mathlib.Core.Path.{_≡_, refl, sym, ap, _∙_}
+use mathlib.Core.Path.{_≡_}
 use mathlib.Core.List.{_++_}
 use native.Mathlib.Omega.{arith}
-use lib.ListN.{length, drop, replicate, length-set}
+use lib.ListN.{length, drop, replicate}
 use borrow.Author.Fill.{fill-none, fill-more}
 use Rattle.paths.proofs.Parts.{clearing-length, cleared}
 use Rattle.paths.proofs.clear.Statement.{statement}

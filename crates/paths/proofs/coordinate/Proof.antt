@@ -1,5 +1,4 @@
 -- `paths::coordinate` meets its contract: the difference fits in 32 bits.
-use Prim.Native.Nat.{_≤_}
 use native.Mathlib.Omega.{arith}
 use mir.Syntax.{w32}
 use mir.ValLaws.{toZ-pos, toZ-ofZ}

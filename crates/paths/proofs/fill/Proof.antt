@@ -1,8 +1,7 @@
 -- `paths::fill` meets its contract.
 use borrow.Author.Needs.{needs}
 use mathlib.Core.Path.{refl}
-use native.Mathlib.Omega.{arith}
-use Rattle.paths.proofs.Filling.{closed-fit, closed-at, closed-length, open-fit, used-at, filled-all}
+use Rattle.paths.proofs.Filling.{closed-fit, closed-at, open-fit, used-at, filled-all}
 use Rattle.paths.proofs.fill.Statement.{statement}
 use Rattle.paths.proofs.fill.Tie as tie
 

@@ -1,5 +1,4 @@
 -- `paths::is_small` meets its contract.
-use borrow.Author.Needs.{needs}
 use Rattle.paths.proofs.Sizes.{three-of, not-closed, not-three, is-three}
 use Rattle.paths.proofs.is_small.Statement.{statement}
 use Rattle.paths.proofs.is_small.Tie as tie

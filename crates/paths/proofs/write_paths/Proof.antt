@@ -1,7 +1,6 @@
 -- `paths::write_paths` meets its contract: the fields of the records below i are written.
 use borrow.Author.Needs.{needs}
 use Prim.Native.Nat.{_-_}
-use native.Mathlib.Omega.{arith}
 use Rattle.paths.specs.Filling.{Filled}
 use Rattle.paths.proofs.Filling.{filled-begins, filled-length, filled-at, filled-ends, field-fits, filled-on, filled-fits}
 use Rattle.paths.proofs.write_paths.Statement.{statement}

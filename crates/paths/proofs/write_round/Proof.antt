@@ -1,7 +1,5 @@
 -- `paths::write_round` meets its contract: what is written and what the rest of the walk adds is the path.
 use borrow.Author.Needs.{needs}
-use native.Mathlib.Omega.{arith}
-use lib.ListN.{length}
 use Rattle.store.specs.Words.{view}
 use Rattle.paths.specs.Walking.{linkOf, toGo, Going, Laying, pathRound}
 use Rattle.paths.proofs.Walks.{round-here, going-less}

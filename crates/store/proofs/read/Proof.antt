@@ -2,10 +2,6 @@ use borrow.Author.Needs.{needs}
 use Rattle.store.proofs.Storing.{past-end}
 use Rattle.store.proofs.read.Statement.{statement}
 use Rattle.store.proofs.read.Tie as tie
-use Rattle.store.proofs.read.Reads as reads
-use Rattle.store.proofs.read.Lts as lts
-use Rattle.store.proofs.get.Reads as get-reads
-use Rattle.store.proofs.size_of.Reads as size-of-reads
 
 -- src/lib.rt:114:9
 size-of-requires : tie.Need-size-of-requires

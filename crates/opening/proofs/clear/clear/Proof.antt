@@ -1,10 +1,10 @@
 -- `opening::clear::clear` meets its contract: after i turns the first i words are 0 and the rest are as they were.
-use mathlib.Core.Path.{_≡_, ap, _∙_}
-use mathlib.Core.List.{List, [], _++_, append-nil}
-use Prim.Native.Nat.{ℕ, _-_, _<_, _≤_}
+use mathlib.Core.Path.{_≡_, _∙_}
+use mathlib.Core.List.{_++_, append-nil}
+use Prim.Native.Nat.{_-_, _<_, _≤_}
 use native.Mathlib.Omega.{arith}
-use lib.ListN.{length, set, drop, replicate, length-set, drop-of-length-le}
-use borrow.Author.Needs.{needs, scaled-fits}
+use lib.ListN.{length, drop, replicate, length-set}
+use borrow.Author.Needs.{needs}
 use borrow.Author.Fill.{fill-more}
 use lib.Seq.{drop-length}
 use Rattle.opening.proofs.clear.clear.Statement.{statement}

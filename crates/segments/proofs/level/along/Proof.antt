@@ -1,6 +1,6 @@
 -- `segments::level::along` meets its contract.
 use borrow.Author.Needs.{needs}
-use Rattle.joins.proofs.Finding.{point-low, point-long}
+use Rattle.joins.proofs.Finding.{point-low}
 use Rattle.segments.proofs.Running.{along-yes, along-no}
 use Rattle.segments.proofs.level.along.Statement.{statement}
 use Rattle.segments.proofs.level.along.Tie as tie

@@ -1,5 +1,4 @@
 -- `segments::level::limit_run` meets its contract.
-use borrow.Author.Needs.{needs}
 use Rattle.segments.specs.Level.{alongOf, atLimit, limitRun}
 use Rattle.segments.proofs.Running.{moves, Going, point, end, next, falls, limit-begun}
 use Rattle.segments.proofs.level.limit_run.Statement.{statement}

@@ -1,5 +1,4 @@
 -- `segments::level::stop_run` meets its contract.
-use borrow.Author.Needs.{needs}
 use Rattle.segments.specs.Level.{alongOf, atStop, stopRun}
 use Rattle.segments.proofs.Running.{moves, Going, point, end, next, falls, stop-begun}
 use Rattle.segments.proofs.level.stop_run.Statement.{statement}

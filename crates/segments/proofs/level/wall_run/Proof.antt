@@ -1,5 +1,4 @@
 -- `segments::level::wall_run` meets its contract.
-use borrow.Author.Needs.{needs}
 use Rattle.segments.specs.Level.{alongOf, atWall, wallRun}
 use Rattle.segments.proofs.Running.{moves, Going, point, end, next, falls, wall-begun}
 use Rattle.segments.proofs.level.wall_run.Statement.{statement}

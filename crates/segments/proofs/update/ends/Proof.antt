@@ -1,6 +1,6 @@
 -- `segments::update::ends` meets its contract.
 use borrow.Author.Needs.{needs}
-use Rattle.segments.proofs.Updates.{home-point, home-long, home-self, ends-walled, ends-free}
+use Rattle.segments.proofs.Updates.{home-point, home-self, ends-walled, ends-free}
 use Rattle.segments.proofs.Running.{home-low}
 use Rattle.segments.proofs.update.ends.Statement.{statement}
 use Rattle.segments.proofs.update.ends.Tie as tie
