@@ -1,18 +1,23 @@
 -- The loops of finishing: how far each is, with laws begun, next and stop.
 use Prim.Native.Nat.{ℕ, zero, suc, _+_, _-_, _%_, _≤_, _<_}
 use mathlib.Core.Path.{_≡_, refl, ap, _∙_, sym, subst}
-use mathlib.Core.Bool.{Bool, true, false, not}
+use mathlib.Core.Bool.{Bool, true, false, not, cond, _&&_}
 use mathlib.Core.List.{List}
 use native.Mathlib.Omega.{arith}
 use native.Mathlib.Numerals.{add-one}
 use lib.Dec.{eqb}
+use borrow.Author.Tests.{le-ltb}
 use lib.ListN.{length}
+use Rattle.geometry.specs.declared.Point.{Point}
+use Rattle.rings.specs.Progress.{isDone}
+use Rattle.lone.specs.Lone.{Geo}
 use Rattle.lone.specs.Plane.{plane}
 use Rattle.lone.specs.Forest.{Answer, ok, full, outOfTurn, isOk}
 use Rattle.lone.specs.Finish.{enough}
-use Rattle.store.specs.Field.{ct, SETTINGS}
+use Rattle.store.specs.Field.{ct, SETTINGS, LENGTH}
 use Rattle.store.specs.Words.{view}
-use Rattle.acts.specs.Step.{Outcome, outcome, answerS, stepByW, stepW, stepOf}
+use Rattle.store.specs.Sound.{recs, isOpen, loneAt}
+use Rattle.acts.specs.Step.{Outcome, outcome, actAt, roomFor, answerS, stepByW, stepW, stepOf}
 use Rattle.acts.specs.Finish.{Finishes, wordsLeft, andThen, stepsByW, finishRecord, finishFromW, finishW}
 use Rattle.acts.proofs.Stepping.{length-step}
 use Rattle.acts.proofs.Finishing.{settings-kept, finishes-step, words-fall, words-bound, finishes-record, settings-record, length-record}
@@ -93,6 +98,24 @@ module _ (w₀ : List ℕ) (i : ℕ) (w : List ℕ) (R : Running w₀ i w) where
           go (suc n) z full k = refl
           go (suc n) z outOfTurn k = refl
 
+-- a number that is no record's: the step is out of turn, and finishing it changes nothing
+module _ (G : Geo Point) (w : List ℕ) where
+  past : (i : ℕ) → recs (view w) ≤ i → answerS G raised (view w) i ≡ outOfTurn
+  unfolding answerS
+  past i h = ap (λ (b : Bool). cond (b && (not (isOpen (view w) i) && not (isDone (loneAt (view w) i .due)))) (roomFor (view w) (actAt G raised (view w) i)) outOfTurn) (le-ltb i (recs (view w)) h)
+
+  idle : (i : ℕ) → recs (view w) ≤ i → finishRecord G raised w i ≡ outcome outOfTurn w
+  unfolding finishRecord
+  idle i h = ap (λ (a : Answer). stepsByW G raised (enough 2048) a w i) (past i h) ∙ go (enough 2048)
+    where
+      go : (n : ℕ) → stepsByW G raised n outOfTurn w i ≡ outcome outOfTurn w
+      go zero = refl
+      go (suc n) = refl
+
+  none-left : (m i : ℕ) → recs (view w) ≤ i → finishFromW G raised m w i ≡ outcome ok w
+  none-left zero i h = refl
+  none-left (suc m) i h = ap (λ (o : Outcome). andThen o (λ (u : List ℕ). finishFromW G raised m u (suc i))) (idle i h) ∙ none-left m (suc i) (omega (arith, h))
+
 -- finishing all records of the words w₀ stands at record i, with w
 pub record Remaining (w₀ : List ℕ) (i : ℕ) (w : List ℕ) : Type 0 where
   pub finishes : Finishes (geometryOf (view w₀)) raised w
@@ -143,6 +166,13 @@ module _ (w₀ : List ℕ) (i : ℕ) (w : List ℕ) (R : Remaining w₀ i w) whe
           go ok h = let y : _≡_ {A = ℕ} 0 1 = cc in absurd (omega arith)
           go full h = refl
           go outOfTurn h = let y : _≡_ {A = ℕ} 0 1 = cc in absurd (omega arith)
+
+  pub long-all : LENGTH ≤ length w
+  long-all = R .finishes .rep .long
+
+  -- past the records nothing is left to do
+  pub past-all : (n : ℕ) → n ≡ recs (view w) → n ≤ i → outcome ok w ≡ finishW (geometryOf (view w₀)) raised w₀
+  past-all n e h = sym (R .is ∙ none-left (geometryOf (view w₀)) w (512 - i) i (omega (arith, e, h)))
 
   pub end-all : 512 ≤ i → outcome ok w ≡ finishW (geometryOf (view w₀)) raised w₀
   end-all h = let n : 512 - i ≡ 0 = omega arith in sym (R .is ∙ ap (λ (m : ℕ). finishFromW (geometryOf (view w₀)) raised m w i) n)

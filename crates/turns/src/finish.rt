@@ -1,6 +1,8 @@
 // Finishing: one record, or all in rising order, stepped until done; it ends where a step is full.
 use crate::Answer;
 use crate::step::step_record;
+use store::Col;
+use store::get;
 ghost use mathlib.Core.Path.{_≡_};
 ghost use mathlib.Core.Bool.{not};
 ghost use Rattle.lone.specs.Forest.{isOk};
@@ -52,6 +54,10 @@ pub fn finish_records(w: &mut [u32]) -> Answer
 {
     let mut i = 0;
     while i < 512 {
+        let n = get(w, Col::Records, 0);
+        if n <= i {
+            return Answer::Ok;
+        }
         let a = finish_record(w, i);
         let full = is_full(a);
         if full {

@@ -2,7 +2,7 @@
 use Prim.Native.Nat.{_-_}
 use borrow.Author.Needs.{needs}
 use native.Mathlib.Omega.{arith}
-use Rattle.turns.proofs.Looping.{Remaining, begun-all, finishes-now, next-all, stop-all, end-all}
+use Rattle.turns.proofs.Looping.{Remaining, begun-all, long-all, past-all, finishes-now, next-all, stop-all, end-all}
 use Rattle.turns.proofs.finish.finish_records.Statement.{statement}
 use Rattle.turns.proofs.finish.finish_records.Tie as tie
 
@@ -19,6 +19,9 @@ finish-records-spec =
     Inv-loop
     μ-loop
     (λ c. search (begun-all, needs))
+    (λ c κs. search (long-all, needs))
+    (λ c. search needs)
+    (λ c. search (past-all, needs))
     (λ c κs. search (finishes-now, needs))
     (λ c κs. search needs)
     (λ c. search needs)
