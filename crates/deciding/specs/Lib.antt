@@ -1,0 +1,2 @@
+-- How many bytes decide a job.
+pub mod Decides
