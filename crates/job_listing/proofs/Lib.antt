@@ -1,2 +1,3 @@
 -- Laws of the listing of a job.
 pub mod Listing
+pub mod Decided

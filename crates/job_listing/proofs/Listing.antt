@@ -28,7 +28,7 @@ use Rattle.listing.specs.Told.{Listable, Told, told, tell}
 use Rattle.listing.specs.Lines.{listingOf, refusedLine}
 use Rattle.listing.specs.declared.Listed.{Listed}
 use Rattle.listing.proofs.Answers.{answer-listable}
-use Rattle.cutlist.specs.Cutlist.{listedAs, listedFrom, cutlistOf}
+use Rattle.job_listing.specs.Cutlist.{listedAs, listedFrom, cutlistOf}
 
 never : {A : Type 0} (c o : ℕ) (x : Refusal) (w t w′ t′ : List ℕ) → finished (Paths c o) w t ≡ finished (Refused x) w′ t′ → A
 never c o x w t w′ t′ e =
