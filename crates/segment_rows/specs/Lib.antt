@@ -1,0 +1,2 @@
+-- Definitions of rows in a lent slice.
+pub mod Swap
