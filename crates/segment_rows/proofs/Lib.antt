@@ -1,3 +1,5 @@
--- Laws of rows in a lent slice, and steps that the walks by hand share.
+-- Laws of segments in a lent slice, and steps that the walks by hand share.
 pub mod Swapping
+pub mod Sorting
 pub mod Elements
+pub mod Lending

@@ -1,2 +1,3 @@
--- Definitions of rows in a lent slice.
+-- Definitions of level segments as whole records in a lent slice.
 pub mod Swap
+pub mod Sort
