@@ -1,5 +1,6 @@
 -- Laws of segments in a lent slice, and steps that the walks by hand share.
 pub mod Swapping
 pub mod Sorting
+pub mod Same
 pub mod Elements
 pub mod Lending
