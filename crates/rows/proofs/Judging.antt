@@ -18,6 +18,9 @@ module _ (w : List ℕ) (r : Bool) (a : r ≡ anyBelow (recordsOf w) (circles w)
   pub circle-found : r ≡ true → true ≡ muddled w
   circle-found h = rw (← a, h)
 
+  pub none-circles : r ≡ false → anyBelow (recordsOf w) (circles w) ≡ false
+  none-circles h = sym a ∙ h
+
   module _ (ms : List ℕ) (s : Bool) (h : r ≡ false) (g : AllWalked w ms s) where
     pub estranged-found : s ≡ true → true ≡ muddled w
     estranged-found e = rw (← a, h, ← g .found, e)

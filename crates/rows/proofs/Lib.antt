@@ -1,4 +1,7 @@
 pub mod Chains
+pub mod Tabling
+pub mod Following
+pub mod Reaching
 pub mod Rounds
 pub mod Marking
 pub mod Homes

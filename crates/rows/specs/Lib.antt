@@ -1,3 +1,4 @@
 pub mod Owners
 pub mod Rings
 pub mod Rows
+pub mod Tables

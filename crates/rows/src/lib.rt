@@ -1,6 +1,8 @@
 // Rows 4 to 8 of document 01's table, each over the whole job as it was read.
 pub mod marks;
 pub mod owners;
+pub mod resolving;
+pub mod tables;
 
 use audit::PointTest;
 use audit::RecordTest;
@@ -11,7 +13,7 @@ use store::get;
 use store::read;
 ghost use mathlib.Core.Path.{_≡_};
 ghost use Prim.Native.Nat.{ℕ, _*_, _≤_};
-ghost use lib.ListN.{length, getD};
+ghost use lib.ListN.{length, getD, replicate};
 ghost use Rattle.store.specs.Field.{LENGTH};
 ghost use Rattle.store.specs.Words.{view};
 ghost use Rattle.store.specs.Named.{pointsOf};
@@ -20,6 +22,7 @@ ghost use Rattle.audit.specs.Tests.{anyBelow};
 ghost use Rattle.audit.specs.Marks.{fails, Counted};
 ghost use Rattle.rows.specs.Rows.{unnamed, noSuchNumber, onOpen, muddled, openEdge, rowsOf, Filled, Named};
 ghost use Rattle.rows.specs.Owners.{resolved};
+ghost use Rattle.rows.specs.Tables.{UNKNOWN, Homes};
 
 // Whether a point fails the test.
 fn any_point(w: &[u32], t: PointTest) -> bool
@@ -74,25 +77,25 @@ fn no_such_number(w: &[u32], segments: &[u32], m: usize, joins: &[u32], n: usize
 }
 
 // Whether the point is on an open ring: its ring's record is the one it resolves to.
-fn on_open(w: &[u32], k: usize) -> bool
-    requires { ⌜ LENGTH ≤ length (now w) ⌝ }
+fn on_open(w: &[u32], homes: &[usize], k: usize) -> bool
+    requires { ⌜ (LENGTH ≤ length (now w)) × Homes (now w) (now homes) ⌝ }
     ensures { λ r. ⌜ r ≡ isOpen (view (now (w .entry))) (resolved (now (w .entry)) k) ⌝ }
 {
     let r = read(w, Col::Rec, k);
-    let i = owners::find(w, r);
+    let i = resolving::find(w, homes, r);
     let g = read(w, Col::Flags, i);
     g % 2 == 1
 }
 
 // Whether one of the first n points of a list is on an open ring.
-fn any_open(w: &[u32], list: &[u32], n: usize) -> bool
-    requires { ⌜ Named (now w) (now list) n ⌝ }
+fn any_open(w: &[u32], homes: &[usize], list: &[u32], n: usize) -> bool
+    requires { ⌜ Named (now w) (now list) n × Homes (now w) (now homes) ⌝ }
     ensures { λ r. ⌜ r ≡ anyBelow n (λ i. onOpen (now (w .entry)) (getD (now (list .entry)) i 0)) ⌝ }
 {
     let mut i: usize = 0;
     while i < n {
         let p = wide(list[i]);
-        let found = on_open(w, p);
+        let found = on_open(w, homes, p);
         if found {
             return true;
         }
@@ -101,28 +104,36 @@ fn any_open(w: &[u32], list: &[u32], n: usize) -> bool
     false
 }
 
-// Row 7.
-fn muddled(w: &[u32]) -> bool
-    requires { ⌜ Counted (now w) ⌝ }
-    ensures { λ r. ⌜ r ≡ muddled (now (w .entry)) ⌝ }
+// Row 7, and the table of homes.
+fn muddled(w: &[u32], homes: &mut [usize]) -> bool
+    requires { ⌜ Counted (now w) × (now homes ≡ replicate 512 UNKNOWN) ⌝ }
+    ensures { λ r. ⌜ (r ≡ muddled (now (w .entry))) × Homes (now (w .entry)) (now (homes .exit)) ⌝ }
 {
     if owners::any_circle(w) {
         return true;
     }
+    resolving::find_all(w, homes);
     let mut marks = [0u8; 2048];
-    if marks::walk_all(w, &mut marks) {
+    if marks::walk_all(w, homes, &mut marks) {
         return true;
     }
     marks::any_bare(w, &marks)
 }
 
 // Row 8.
-fn open_edge(w: &[u32], segments: &[u32], m: usize, joins: &[u32], n: usize) -> bool
-    requires { ⌜ Named (now w) (now segments) m × Named (now w) (now joins) (2 * n) ⌝ }
+fn open_edge(
+    w: &[u32],
+    homes: &[usize],
+    segments: &[u32],
+    m: usize,
+    joins: &[u32],
+    n: usize,
+) -> bool
+    requires { ⌜ Named (now w) (now segments) m × Named (now w) (now joins) (2 * n) × Homes (now w) (now homes) ⌝ }
     ensures { λ r. ⌜ r ≡ openEdge (now (w .entry)) (now (segments .entry)) m (now (joins .entry)) n ⌝ }
 {
-    let a = any_open(w, segments, m);
-    let b = any_open(w, joins, 2 * n);
+    let a = any_open(w, homes, segments, m);
+    let b = any_open(w, homes, joins, 2 * n);
     a | b
 }
 
@@ -140,10 +151,11 @@ pub fn rows(w: &[u32], segments: &[u32], m: usize, joins: &[u32], n: usize) -> V
     if any_point(w, PointTest::Links) {
         return Verdict::Refused(Refusal::Loose);
     }
-    if muddled(w) {
+    let mut homes = [65536usize; 512];
+    if muddled(w, &mut homes) {
         return Verdict::Refused(Refusal::Muddled);
     }
-    if open_edge(w, segments, m, joins, n) {
+    if open_edge(w, &homes, segments, m, joins, n) {
         return Verdict::Refused(Refusal::OpenEdge);
     }
     Verdict::Passed

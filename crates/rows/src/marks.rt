@@ -1,5 +1,5 @@
 // Walks round the rings of a job, with a mark for each point.
-use crate::owners;
+use crate::resolving;
 use job::Job;
 use store::Col;
 use store::get;
@@ -13,6 +13,7 @@ ghost use Rattle.store.specs.Named.{pointsOf, ringOf};
 ghost use Rattle.store.specs.Sound.{ringAt};
 ghost use Rattle.audit.specs.Tests.{anyBelow};
 ghost use Rattle.rows.specs.Rings.{elsewhere, bare, Walked, AllWalked};
+ghost use Rattle.rows.specs.Tables.{Homes};
 
 const NONE: usize = 65535;
 
@@ -26,24 +27,24 @@ fn mark(marks: &mut [u8], k: usize)
 }
 
 // Whether point k resolves to another record than i.
-fn elsewhere(w: &[u32], i: usize, k: usize) -> bool
-    requires { ⌜ LENGTH ≤ length (now w) ⌝ }
+fn elsewhere(w: &[u32], homes: &[usize], i: usize, k: usize) -> bool
+    requires { ⌜ (LENGTH ≤ length (now w)) × Homes (now w) (now homes) ⌝ }
     ensures { λ r. ⌜ r ≡ elsewhere (now (w .entry)) i k ⌝ }
 {
     let r = read(w, Col::Rec, k);
-    let h = owners::find(w, r);
+    let h = resolving::find(w, homes, r);
     h != i
 }
 
 // Marks the ring from a on, up to a point that resolves to another record than i: is there one?
-fn walk_ring(w: &[u32], marks: &mut [u8], i: usize, a: usize) -> bool
-    requires { ⌜ LENGTH ≤ length (now w) ⌝ }
+fn walk_ring(w: &[u32], homes: &[usize], marks: &mut [u8], i: usize, a: usize) -> bool
+    requires { ⌜ (LENGTH ≤ length (now w)) × Homes (now w) (now homes) ⌝ }
     ensures { λ r. ⌜ Walked (now (w .entry)) i (ringOf (now (w .entry)) a) (now (marks .entry)) (now (marks .exit)) r ⌝ }
 {
     let mut p = a;
     let mut left: usize = Job::POINTS;
     while 0 < left {
-        let found = elsewhere(w, i, p);
+        let found = elsewhere(w, homes, i, p);
         if found {
             return true;
         }
@@ -58,26 +59,26 @@ fn walk_ring(w: &[u32], marks: &mut [u8], i: usize, a: usize) -> bool
 }
 
 // The same for record i's ring, if it has one.
-fn walk_record(w: &[u32], marks: &mut [u8], i: usize) -> bool
-    requires { ⌜ LENGTH ≤ length (now w) ⌝ }
+fn walk_record(w: &[u32], homes: &[usize], marks: &mut [u8], i: usize) -> bool
+    requires { ⌜ (LENGTH ≤ length (now w)) × Homes (now w) (now homes) ⌝ }
     ensures { λ r. ⌜ Walked (now (w .entry)) i (ringAt (view (now (w .entry))) i) (now (marks .entry)) (now (marks .exit)) r ⌝ }
 {
     let a = read(w, Col::First, i);
     if a == NONE {
         return false;
     }
-    walk_ring(w, marks, i, a)
+    walk_ring(w, homes, marks, i, a)
 }
 
 // The same for every record's ring, from marks that are all 0.
-pub fn walk_all(w: &[u32], marks: &mut [u8]) -> bool
-    requires { ⌜ (LENGTH ≤ length (now w)) × (now marks ≡ replicate 2048 0) ⌝ }
+pub fn walk_all(w: &[u32], homes: &[usize], marks: &mut [u8]) -> bool
+    requires { ⌜ (LENGTH ≤ length (now w)) × Homes (now w) (now homes) × (now marks ≡ replicate 2048 0) ⌝ }
     ensures { λ r. ⌜ AllWalked (now (w .entry)) (now (marks .exit)) r ⌝ }
 {
     let n = get(w, Col::Records, 0);
     let mut i: usize = 0;
     while i < n {
-        let found = walk_record(w, marks, i);
+        let found = walk_record(w, homes, marks, i);
         if found {
             return true;
         }

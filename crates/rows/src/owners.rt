@@ -1,4 +1,7 @@
-// Owner chains, before they are known to end.
+// Owner chains, before they are known to end: does one circle? Each record is passed twice at most.
+use crate::tables::UNKNOWN;
+use crate::tables::at;
+use crate::tables::put;
 use job::Job;
 use store::Col;
 use store::get;
@@ -8,27 +11,50 @@ ghost use Prim.Native.Nat.{ℕ, _≤_};
 ghost use lib.ListN.{length};
 ghost use Rattle.job.specs.Limits.{RECORDS};
 ghost use Rattle.store.specs.Field.{LENGTH};
-ghost use Rattle.store.specs.Named.{recordsOf, firstOf, ownerOf};
+ghost use Rattle.store.specs.Named.{recordsOf};
 ghost use Rattle.audit.specs.Tests.{anyBelow};
-ghost use Rattle.rows.specs.Owners.{circles, findIn};
+ghost use Rattle.rows.specs.Owners.{circles};
+ghost use Rattle.rows.specs.Tables.{Long, Lengths, Followed};
 
 const NONE: usize = 65535;
 
-// Whether the owner chain from record i circles.
-fn circles(w: &[u32], i: usize) -> bool
-    requires { ⌜ LENGTH ≤ length (now w) ⌝ }
-    ensures { λ r. ⌜ r ≡ circles (now (w .entry)) i ⌝ }
+// How long the owner chain from record i is, followed up to a record whose length is known; more than 512, if it circles.
+fn follow(w: &[u32], lengths: &[usize], i: usize) -> usize
+    requires { ⌜ (LENGTH ≤ length (now w)) × Lengths (now w) (now lengths) ⌝ }
+    ensures { λ n. ⌜ Followed (now (w .entry)) i n ⌝ }
 {
     let mut q = i;
-    let mut left: usize = Job::RECORDS;
-    while 0 < left {
-        q = read(w, Col::Owner, q);
-        if q == NONE {
-            return false;
+    let mut h: usize = 0;
+    while h < Job::RECORDS {
+        let d = at(lengths, q);
+        if d != UNKNOWN {
+            return h + d;
         }
-        left -= 1;
+        q = read(w, Col::Owner, q);
+        h += 1;
+        if q == NONE {
+            return h;
+        }
     }
-    true
+    Job::RECORDS + 1
+}
+
+// Writes down the lengths along the chain from record i, whose own is n, up to a record whose length is known.
+fn note(w: &[u32], lengths: &mut [usize], i: usize, n: usize)
+    requires { ⌜ (LENGTH ≤ length (now w)) × Lengths (now w) (now lengths) × Long (now w) i n × (n ≤ RECORDS) ⌝ }
+    ensures { λ _. ⌜ Lengths (now (w .entry)) (now (lengths .exit)) ⌝ }
+{
+    let mut q = i;
+    let mut d = n;
+    while 0 < d {
+        let known = at(lengths, q);
+        if known != UNKNOWN {
+            return;
+        }
+        put(lengths, q, d);
+        q = read(w, Col::Owner, q);
+        d -= 1;
+    }
 }
 
 // Whether an owner chain circles.
@@ -37,34 +63,15 @@ pub fn any_circle(w: &[u32]) -> bool
     ensures { λ r. ⌜ r ≡ anyBelow (recordsOf (now (w .entry))) (circles (now (w .entry))) ⌝ }
 {
     let n = get(w, Col::Records, 0);
+    let mut lengths = [65536usize; 512];
     let mut i: usize = 0;
     while i < n {
-        let found = circles(w, i);
-        if found {
+        let m = follow(w, &lengths, i);
+        if Job::RECORDS < m {
             return true;
         }
+        note(w, &mut lengths, i, m);
         i += 1;
     }
     false
-}
-
-// The first with points among r and its owners, or none.
-pub fn find(w: &[u32], r: usize) -> usize
-    requires { ⌜ LENGTH ≤ length (now w) ⌝ }
-    ensures { λ q. ⌜ q ≡ findIn RECORDS (firstOf (now (w .entry))) (ownerOf (now (w .entry))) r ⌝ }
-{
-    let mut q = r;
-    let mut left: usize = Job::RECORDS;
-    while 0 < left {
-        let f = read(w, Col::First, q);
-        if f != NONE {
-            return q;
-        }
-        q = read(w, Col::Owner, q);
-        if q == NONE {
-            return NONE;
-        }
-        left -= 1;
-    }
-    NONE
 }

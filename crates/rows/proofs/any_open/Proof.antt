@@ -12,10 +12,10 @@ use Rattle.rows.proofs.any_open.Statement.{statement}
 use Rattle.rows.proofs.any_open.Tie as tie
 
 abbrev Inv-loop : tie.InvT-loop
-Inv-loop w list n i₀ i = (i ≤ n) × (anyBelow i (λ j. onOpen w (getD list j 0)) ≡ false)
+Inv-loop w homes list n i₀ i = (i ≤ n) × (anyBelow i (λ j. onOpen w (getD list j 0)) ≡ false)
 
 abbrev μ-loop : tie.MeasureT-loop
-μ-loop w list n i₀ i = n - i
+μ-loop w homes list n i₀ i = n - i
 
 pub any-open-spec : {M : Type 1} → statement M
 any-open-spec =
@@ -28,8 +28,8 @@ any-open-spec =
     (λ c. search needs)
     (λ c κs. search needs)
     (λ c κs. search needs)
-    (λ c. open-hit (c .before .before .before .before .before .before .before .before .pre) _ _ _ (c .before .before .before .before .loop-test .taken) (c .before .before .wide .ensures) (c .before .on-open .ensures) (c .if1 .taken))
+    (λ c. open-hit (c .before .before .before .before .before .before .before .before .before .pre .0) _ _ _ (c .before .before .before .before .loop-test .taken) (c .before .before .wide .ensures) (c .before .on-open .ensures) (c .if1 .taken))
     (λ c. search needs)
     (λ c. search needs)
-    (λ c. (search needs, open-more (c .before .before .before .before .before .before .before .before .pre) _ _ _ (c .before .before .before .before .loop-test .taken) (c .before .before .wide .ensures) (c .before .on-open .ensures) (c .before .before .before .before .before .loop .inv .1) (c .if1 .left)))
-    (λ c. open-over (c .before .before .before .before .args .w .now) (c .before .before .before .before .args .list .now) _ _ (c .loop-test .left) (c .before .loop .inv .0) (c .before .loop .inv .1)))
+    (λ c. (search needs, open-more (c .before .before .before .before .before .before .before .before .before .pre .0) _ _ _ (c .before .before .before .before .loop-test .taken) (c .before .before .wide .ensures) (c .before .on-open .ensures) (c .before .before .before .before .before .loop .inv .1) (c .if1 .left)))
+    (λ c. open-over (c .before .before .before .before .before .args .w .now) (c .before .before .before .before .before .args .list .now) _ _ (c .loop-test .left) (c .before .loop .inv .0) (c .before .loop .inv .1)))

@@ -1,6 +1,7 @@
 -- `rows::muddled` meets its contract: chains, rings, points without a mark.
 use borrow.Author.Needs.{needs}
-use Rattle.rows.proofs.Judging.{circle-found, estranged-found, alone-found}
+use Rattle.rows.proofs.Judging.{circle-found, none-circles, estranged-found, alone-found}
+use Rattle.rows.proofs.Reaching.{homes-blank}
 use Rattle.rows.proofs.muddled.Statement.{statement}
 use Rattle.rows.proofs.muddled.Tie as tie
 
@@ -9,10 +10,13 @@ muddled-spec =
     tie.close
     (tie.spec
     (λ c κs. search needs)
-    (λ c. search (needs, circle-found))
+    (λ c. (search (needs, circle-found), search (needs, homes-blank)))
+    (λ c κs. search (needs, none-circles))
     (λ c. search needs)
     (λ c κs. search needs)
-    (λ c. search (needs, estranged-found))
+    (λ c. search needs)
+    (λ c. (search (needs, estranged-found), search needs))
     (λ c. search needs)
     (λ c κs. search needs)
-    (λ c. search (needs, alone-found)))
+    (λ c. search needs)
+    (λ c. (search (needs, alone-found), search needs)))

@@ -14,10 +14,13 @@ rows-spec =
     (λ c. search (needs, row-5))
     (λ c κs. search needs)
     (λ c. search (needs, row-6))
+    (λ c. search needs)
     (λ c κs. search needs)
     (λ c. search (needs, row-7))
+    (λ c. search needs)
     (λ c κs.
-    let a = c .before .before .before .before in
-    both-named (a .before .before .before .before .before .before .before .pre) _ (a .before .no-such-number .ensures) (a .if2 .left) _ (c .before .muddled .ensures) (c .if4 .left))
+    let a = c .before .before .before .before .before .before .before in
+    let n = both-named (a .before .before .before .before .before .before .before .pre) _ (a .before .no-such-number .ensures) (a .if2 .left) _ (c .before .before .before .muddled .ensures .0) (c .before .if4 .left) in
+    (n .0, n .1, search needs))
     (λ c. search (needs, row-8))
     (λ c. search (needs, passed)))

@@ -13,10 +13,10 @@ use Rattle.rows.proofs.marks.walk_all.Statement.{statement}
 use Rattle.rows.proofs.marks.walk_all.Tie as tie
 
 abbrev Inv-loop : tie.InvT-loop
-Inv-loop w marks₀ n i₀ marks i = (i ≤ recordsOf w) × (anyBelow i (estranged w) ≡ false) × (marks ≡ marksTo w i) × (length marks ≡ length marks₀)
+Inv-loop w homes marks₀ n i₀ marks i = (i ≤ recordsOf w) × (anyBelow i (estranged w) ≡ false) × (marks ≡ marksTo w i) × (length marks ≡ length marks₀)
 
 abbrev μ-loop : tie.MeasureT-loop
-μ-loop w marks₀ n i₀ marks i = recordsOf w - i
+μ-loop w homes marks₀ n i₀ marks i = recordsOf w - i
 
 pub walk-all-spec : {M : Type 1} → statement M
 walk-all-spec =

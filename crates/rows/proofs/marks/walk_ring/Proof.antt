@@ -7,10 +7,10 @@ use Rattle.rows.proofs.marks.walk_ring.Statement.{statement}
 use Rattle.rows.proofs.marks.walk_ring.Tie as tie
 
 abbrev Inv-loop : tie.InvT-loop
-Inv-loop w marks₀ i a p₀ left₀ marks p left = Round w i a marks₀ p left marks × (length marks ≡ length marks₀)
+Inv-loop w homes marks₀ i a p₀ left₀ marks p left = Round w i a marks₀ p left marks × (length marks ≡ length marks₀)
 
 abbrev μ-loop : tie.MeasureT-loop
-μ-loop w marks₀ i a p₀ left₀ marks p left = left
+μ-loop w homes marks₀ i a p₀ left₀ marks p left = left
 
 pub walk-ring-spec : {M : Type 1} → statement M
 walk-ring-spec =

@@ -2,19 +2,22 @@
 use mathlib.Core.Path.{_≡_}
 use mathlib.Core.Bool.{false}
 use Prim.Native.Nat.{_-_, _≤_}
+use lib.ListN.{length}
 use borrow.Author.Needs.{needs}
 use Rattle.store.specs.Named.{recordsOf}
 use Rattle.audit.specs.Tests.{anyBelow}
-use Rattle.audit.proofs.Testing.{none, more, hit, whole}
+use Rattle.audit.proofs.Testing.{none, whole}
 use Rattle.rows.specs.Owners.{circles}
+use Rattle.rows.specs.Tables.{Lengths}
+use Rattle.rows.proofs.Following.{none-known, circle-hit, circle-more, followed-long}
 use Rattle.rows.proofs.owners.any_circle.Statement.{statement}
 use Rattle.rows.proofs.owners.any_circle.Tie as tie
 
 abbrev Inv-loop : tie.InvT-loop
-Inv-loop w n i₀ i = (i ≤ recordsOf w) × (anyBelow i (circles w) ≡ false)
+Inv-loop w n lengths₀ i₀ lengths i = (i ≤ recordsOf w) × (anyBelow i (circles w) ≡ false) × Lengths w lengths × (length lengths ≡ 512)
 
 abbrev μ-loop : tie.MeasureT-loop
-μ-loop w n i₀ i = recordsOf w - i
+μ-loop w n lengths₀ i₀ lengths i = recordsOf w - i
 
 pub any-circle-spec : {M : Type 1} → statement M
 any-circle-spec =
@@ -23,10 +26,13 @@ any-circle-spec =
     Inv-loop
     μ-loop
     (λ c κs. search needs)
-    (λ c. (search needs, none _))
+    (λ c. (search needs, none _, none-known _, search needs))
+    (λ c. search needs)
     (λ c κs. search needs)
-    (λ c. search hit)
+    (λ c. search (needs, circle-hit))
+    (λ c. search needs)
+    (λ c κs. search (needs, followed-long))
     (λ c. search needs)
     (λ c. search needs)
-    (λ c. (search needs, search more))
+    (λ c. (search needs, search (needs, circle-more), search needs, search needs))
     (λ c. search whole))

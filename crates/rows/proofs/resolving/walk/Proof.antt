@@ -1,12 +1,12 @@
--- `rows::owners::find` meets its contract: the walk follows `findIn`, with `left` records to go.
+-- `rows::resolving::walk` meets its contract: the walk follows `findIn`, with `left` records to go.
 use mathlib.Core.Path.{_≡_, refl}
 use borrow.Author.Needs.{needs}
 use Rattle.job.specs.Limits.{RECORDS}
 use Rattle.store.specs.Named.{firstOf, ownerOf}
 use Rattle.rows.specs.Owners.{findIn}
 use Rattle.rows.proofs.Chains.{here, nowhere, hop, spent}
-use Rattle.rows.proofs.owners.find.Statement.{statement}
-use Rattle.rows.proofs.owners.find.Tie as tie
+use Rattle.rows.proofs.resolving.walk.Statement.{statement}
+use Rattle.rows.proofs.resolving.walk.Tie as tie
 
 abbrev Inv-loop : tie.InvT-loop
 Inv-loop w r q₀ left₀ q left = findIn left (firstOf w) (ownerOf w) q ≡ findIn RECORDS (firstOf w) (ownerOf w) r
@@ -14,8 +14,8 @@ Inv-loop w r q₀ left₀ q left = findIn left (firstOf w) (ownerOf w) q ≡ fin
 abbrev μ-loop : tie.MeasureT-loop
 μ-loop w r q₀ left₀ q left = left
 
-pub find-spec : {M : Type 1} → statement M
-find-spec =
+pub walk-spec : {M : Type 1} → statement M
+walk-spec =
     tie.close
     (tie.spec
     Inv-loop

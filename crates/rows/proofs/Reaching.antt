@@ -1,0 +1,81 @@
+-- How the record that a record resolves to is reached, hop by hop, and written down along the chain.
+use mathlib.Core.Path.{_≡_, refl, sym, ap, subst, _∙_}
+use mathlib.Core.Bool.{Bool, true, false, not, cond}
+use mathlib.Core.Logic.{_≢_}
+use mathlib.Core.List.{List}
+use Prim.Native.Nat.{ℕ, zero, suc, _-_, _<_, _≤_}
+use native.Mathlib.Decide.{ℕ-discrete}
+use native.Mathlib.Omega.{arith}
+use lib.Dec.{eqb}
+use lib.ListN.{set, replicate}
+use borrow.Author.Tests.{eq-eqb, ne-eqb, not-false}
+use Rattle.job.specs.Limits.{RECORDS}
+use Rattle.store.specs.Field.{NONE}
+use Rattle.store.specs.Named.{firstOf, ownerOf, recordsOf}
+use Rattle.audit.specs.Tests.{anyBelow}
+use Rattle.audit.proofs.Saying.{none-of}
+use Rattle.rows.specs.Owners.{endsIn, circles, findIn}
+use Rattle.rows.specs.Tables.{UNKNOWN, entry, homeOf, Homes}
+use Rattle.rows.proofs.Chains.{ends-on, ends-over, here, nowhere, hop}
+use Rattle.rows.proofs.Tabling.{blank, known-set}
+
+never : {A : Type 0} {b : Bool} → b ≡ true → b ≡ false → A
+never e f = absurd (let z : _≡_ {A = ℕ} 0 1 = cc in omega arith)
+
+-- along a chain that ends within f owners, g records find what f do
+module _ (first owner : ℕ → ℕ) where
+  still : (f g r : ℕ) → endsIn f owner r ≡ true → f ≤ g → findIn g first owner r ≡ findIn f first owner r
+  unfolding endsIn findIn
+  still zero g r e l = never e refl
+  still (suc f) zero r e l = absurd (omega arith)
+  still (suc f) (suc g) r e l = by (ℕ-discrete (owner r) NONE) (λ a. still f g (owner r) a (omega arith))
+    where
+      by : Dec (owner r ≡ NONE) → (endsIn f owner (owner r) ≡ true → findIn g first owner (owner r) ≡ findIn f first owner (owner r)) → findIn (suc g) first owner r ≡ findIn (suc f) first owner r
+      by (yes n) s = rw (eq-eqb (owner r) NONE n)
+      by (no n) s =
+          let a : endsIn f owner (owner r) ≡ true = rw (ne-eqb (owner r) NONE n) at e in
+          rw (s a)
+
+-- on the way from r to what it resolves to, at q; the chain ends within left owners
+pub record Toward (w : List ℕ) (r q left : ℕ) : Type 0 where
+  pub few : left ≤ RECORDS
+  pub ends : endsIn left (ownerOf w) q ≡ true
+  pub same : homeOf w q ≡ homeOf w r
+
+pub toward : (w : List ℕ) (r : ℕ) → circles w r ≡ false → Toward w r r RECORDS
+toward w r e = record { few = omega arith; ends = not-false (endsIn RECORDS (ownerOf w) r) e; same = refl }
+
+module _ {w : List ℕ} {r q left : ℕ} (g : Toward w r q left) where
+  pub known-home : {hs : List ℕ} → Homes w hs → (h : ℕ) → h ≡ entry hs q → (h ≡ UNKNOWN → ⊥) → h ≡ homeOf w r
+  known-home t h e k = e ∙ t .known q (λ y. k (e ∙ y)) ∙ g .same
+
+  pub spent-home : left ≤ 0 → NONE ≡ homeOf w r
+  spent-home l = never refl (ends-over (ownerOf w) q false left l (ap not (g .ends)))
+
+  module _ (a : ℕ) (d : a ≡ firstOf w q) where
+    pub own-home : (a ≡ NONE → ⊥) → q ≡ homeOf w r
+    own-home k = here (firstOf w) (ownerOf w) q (homeOf w r) RECORDS a (omega arith) d k (g .same)
+
+    module _ (k : a ≡ NONE) (o : ℕ) (e : o ≡ ownerOf w q) where
+      pub no-home : o ≡ NONE → NONE ≡ homeOf w r
+      no-home n = nowhere (firstOf w) (ownerOf w) q (homeOf w r) RECORDS a o (omega arith) d k e n (g .same)
+
+      pub toward-on : 0 < left → (o ≡ NONE → ⊥) → Toward w r o (left - 1)
+      toward-on z n =
+          let s : endsIn (left - 1) (ownerOf w) o ≡ true = not-false (endsIn (left - 1) (ownerOf w) o) (ends-on (ownerOf w) q false left o z e n (ap not (g .ends))) in
+          let x : homeOf w o ≡ findIn (left - 1) (firstOf w) (ownerOf w) o = still (firstOf w) (ownerOf w) (left - 1) RECORDS o s (omega (arith, g .few)) in
+          let y : findIn 511 (firstOf w) (ownerOf w) o ≡ findIn (left - 1) (firstOf w) (ownerOf w) o = still (firstOf w) (ownerOf w) (left - 1) 511 o s (omega (arith, g .few)) in
+          let v : findIn 511 (firstOf w) (ownerOf w) o ≡ homeOf w r = hop (firstOf w) (ownerOf w) q (homeOf w r) RECORDS a o (omega arith) d k e n (g .same) in
+          record { few = omega (arith, g .few); ends = s; same = x ∙ sym y ∙ v }
+
+  pub home-noted : {hs : List ℕ} → Homes w hs → (h : ℕ) → h ≡ homeOf w r → (hs′ : List ℕ) → hs′ ≡ set hs q h → Homes w hs′
+  home-noted {hs} t h e hs′ d = rw d (record { known = known-set (λ x y. y ≡ homeOf w x) hs q h (t .known) (e ∙ sym (g .same)) })
+
+pub homes-blank : (w hs : List ℕ) → hs ≡ replicate 512 UNKNOWN → Homes w hs
+homes-blank w hs e = rw e (record { known = λ r k. absurd (k (blank r)) })
+
+pub by-table : {w hs : List ℕ} → Homes w hs → (r h : ℕ) → h ≡ entry hs r → (h ≡ UNKNOWN → ⊥) → h ≡ homeOf w r
+by-table t r h e k = e ∙ t .known r (λ y. k (e ∙ y))
+
+pub no-circle : (w : List ℕ) (n i : ℕ) → anyBelow (recordsOf w) (circles w) ≡ false → i < n → n ≡ recordsOf w → circles w i ≡ false
+no-circle w n i a l e = none-of (recordsOf w) (circles w) a i (omega arith)

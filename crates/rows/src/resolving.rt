@@ -1,0 +1,116 @@
+// What each record resolves to, found once: each record is passed twice at most.
+use crate::tables::UNKNOWN;
+use crate::tables::at;
+use crate::tables::put;
+use job::Job;
+use store::Col;
+use store::get;
+use store::read;
+ghost use mathlib.Core.Path.{_≡_};
+ghost use mathlib.Core.Bool.{false};
+ghost use Prim.Native.Nat.{ℕ, _≤_};
+ghost use lib.ListN.{length, replicate};
+ghost use Rattle.store.specs.Field.{LENGTH};
+ghost use Rattle.store.specs.Named.{recordsOf};
+ghost use Rattle.audit.specs.Tests.{anyBelow};
+ghost use Rattle.rows.specs.Owners.{circles};
+ghost use Rattle.rows.specs.Tables.{UNKNOWN, homeOf, Homes};
+
+const NONE: usize = 65535;
+
+// The first with points among r and its owners, or none; followed up to a record that is known.
+fn reach(w: &[u32], homes: &[usize], r: usize) -> usize
+    requires { ⌜ (LENGTH ≤ length (now w)) × Homes (now w) (now homes) × (circles (now w) r ≡ false) ⌝ }
+    ensures { λ q. ⌜ q ≡ homeOf (now (w .entry)) r ⌝ }
+{
+    let mut q = r;
+    let mut left: usize = Job::RECORDS;
+    while 0 < left {
+        let h = at(homes, q);
+        if h != UNKNOWN {
+            return h;
+        }
+        let f = read(w, Col::First, q);
+        if f != NONE {
+            return q;
+        }
+        q = read(w, Col::Owner, q);
+        if q == NONE {
+            return NONE;
+        }
+        left -= 1;
+    }
+    NONE
+}
+
+// Writes down h, what record r resolves to, along its chain, up to a record that is known or has points.
+fn note(w: &[u32], homes: &mut [usize], r: usize, h: usize)
+    requires { ⌜ (LENGTH ≤ length (now w)) × Homes (now w) (now homes) × (circles (now w) r ≡ false) × (h ≡ homeOf (now w) r) ⌝ }
+    ensures { λ _. ⌜ Homes (now (w .entry)) (now (homes .exit)) ⌝ }
+{
+    let mut q = r;
+    let mut left: usize = Job::RECORDS;
+    while 0 < left {
+        let known = at(homes, q);
+        if known != UNKNOWN {
+            return;
+        }
+        put(homes, q, h);
+        let f = read(w, Col::First, q);
+        if f != NONE {
+            return;
+        }
+        q = read(w, Col::Owner, q);
+        if q == NONE {
+            return;
+        }
+        left -= 1;
+    }
+}
+
+// The table of a job whose owner chains end.
+pub fn find_all(w: &[u32], homes: &mut [usize])
+    requires { ⌜ (LENGTH ≤ length (now w)) × (now homes ≡ replicate 512 UNKNOWN) × (anyBelow (recordsOf (now w)) (circles (now w)) ≡ false) ⌝ }
+    ensures { λ _. ⌜ Homes (now (w .entry)) (now (homes .exit)) ⌝ }
+{
+    let n = get(w, Col::Records, 0);
+    let mut i: usize = 0;
+    while i < n {
+        let h = reach(w, homes, i);
+        note(w, homes, i, h);
+        i += 1;
+    }
+}
+
+// The first with points among r and its owners, or none.
+fn walk(w: &[u32], r: usize) -> usize
+    requires { ⌜ LENGTH ≤ length (now w) ⌝ }
+    ensures { λ q. ⌜ q ≡ homeOf (now (w .entry)) r ⌝ }
+{
+    let mut q = r;
+    let mut left: usize = Job::RECORDS;
+    while 0 < left {
+        let f = read(w, Col::First, q);
+        if f != NONE {
+            return q;
+        }
+        q = read(w, Col::Owner, q);
+        if q == NONE {
+            return NONE;
+        }
+        left -= 1;
+    }
+    NONE
+}
+
+// The same by the table; only a number that names no record is not in it.
+pub fn find(w: &[u32], homes: &[usize], r: usize) -> usize
+    requires { ⌜ (LENGTH ≤ length (now w)) × Homes (now w) (now homes) ⌝ }
+    ensures { λ q. ⌜ q ≡ homeOf (now (w .entry)) r ⌝ }
+{
+    let h = at(homes, r);
+    if h != UNKNOWN {
+        return h;
+    }
+    walk(w, r)
+}
