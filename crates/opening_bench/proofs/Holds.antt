@@ -20,7 +20,7 @@ use Rattle.joins.specs.Resolve.{realOf, getRealOutrec, homeOf}
 use Rattle.joins.specs.Join.{relinkOf, newOutRec, nameAll, fixOutrecPts, settleOf, cutOf, splitOf, mergeOf, byRecords, joinOf, joinsFrom}
 use Rattle.opening.specs.Start.{startRing, startTo, startRings}
 use Rattle.opening.specs.Open.{stagesOf, openOf}
-use Rattle.opening_bench.specs.Bench.{Row, result, Holds, bench, knotted, itself, overlapping, sameWay, levelFree, levelWalled, equalLeft, oneRing}
+use Rattle.opening_bench.specs.Bench.{Row, result, Holds, bench, knotted, itself, overlapping, sameWay, levelFree, levelWalled, equalLeft, oneRing, nested, otherHeights, threeInLine, bothEnds, uprightSpike, openRing, ownJoinFirst}
 
 knotted-holds : result knotted ≡ knotted .answer
 unfolding result knotted openOf stagesOf acceptOf readOf fillOf run turnOf fieldOf bodyOf rowsOf endsIn findIn anyIn walk.run anyBelow cell put duplicateOp alongOf until atWall atStop atLimit wallRun stopRun limitRun sorted oneOf twoOf walledEnds freeEnds endsOf headed updateHorzSegment claimOf rowOf updateFrom makeJoin apartOf joinPair firstOne secondOne movedPair pairOf innerFrom outerFrom segmentRows pairsOf convertHorzSegsToJoins realOf getRealOutrec homeOf relinkOf newOutRec nameAll fixOutrecPts settleOf cutOf splitOf mergeOf byRecords joinOf joinsFrom startRing startTo startRings
@@ -54,6 +54,34 @@ oneRing-holds : result oneRing ≡ oneRing .answer
 unfolding result oneRing openOf stagesOf acceptOf readOf fillOf run turnOf fieldOf bodyOf rowsOf endsIn findIn anyIn walk.run anyBelow cell put duplicateOp alongOf until atWall atStop atLimit wallRun stopRun limitRun sorted oneOf twoOf walledEnds freeEnds endsOf headed updateHorzSegment claimOf rowOf updateFrom makeJoin apartOf joinPair firstOne secondOne movedPair pairOf innerFrom outerFrom segmentRows pairsOf convertHorzSegsToJoins realOf getRealOutrec homeOf relinkOf newOutRec nameAll fixOutrecPts settleOf cutOf splitOf mergeOf byRecords joinOf joinsFrom startRing startTo startRings
 oneRing-holds = refl
 
+nested-holds : result nested ≡ nested .answer
+unfolding result nested openOf stagesOf acceptOf readOf fillOf run turnOf fieldOf bodyOf rowsOf endsIn findIn anyIn walk.run anyBelow cell put duplicateOp alongOf until atWall atStop atLimit wallRun stopRun limitRun sorted oneOf twoOf walledEnds freeEnds endsOf headed updateHorzSegment claimOf rowOf updateFrom makeJoin apartOf joinPair firstOne secondOne movedPair pairOf innerFrom outerFrom segmentRows pairsOf convertHorzSegsToJoins realOf getRealOutrec homeOf relinkOf newOutRec nameAll fixOutrecPts settleOf cutOf splitOf mergeOf byRecords joinOf joinsFrom startRing startTo startRings
+nested-holds = refl
+
+otherHeights-holds : result otherHeights ≡ otherHeights .answer
+unfolding result otherHeights openOf stagesOf acceptOf readOf fillOf run turnOf fieldOf bodyOf rowsOf endsIn findIn anyIn walk.run anyBelow cell put duplicateOp alongOf until atWall atStop atLimit wallRun stopRun limitRun sorted oneOf twoOf walledEnds freeEnds endsOf headed updateHorzSegment claimOf rowOf updateFrom makeJoin apartOf joinPair firstOne secondOne movedPair pairOf innerFrom outerFrom segmentRows pairsOf convertHorzSegsToJoins realOf getRealOutrec homeOf relinkOf newOutRec nameAll fixOutrecPts settleOf cutOf splitOf mergeOf byRecords joinOf joinsFrom startRing startTo startRings
+otherHeights-holds = refl
+
+threeInLine-holds : result threeInLine ≡ threeInLine .answer
+unfolding result threeInLine openOf stagesOf acceptOf readOf fillOf run turnOf fieldOf bodyOf rowsOf endsIn findIn anyIn walk.run anyBelow cell put duplicateOp alongOf until atWall atStop atLimit wallRun stopRun limitRun sorted oneOf twoOf walledEnds freeEnds endsOf headed updateHorzSegment claimOf rowOf updateFrom makeJoin apartOf joinPair firstOne secondOne movedPair pairOf innerFrom outerFrom segmentRows pairsOf convertHorzSegsToJoins realOf getRealOutrec homeOf relinkOf newOutRec nameAll fixOutrecPts settleOf cutOf splitOf mergeOf byRecords joinOf joinsFrom startRing startTo startRings
+threeInLine-holds = refl
+
+bothEnds-holds : result bothEnds ≡ bothEnds .answer
+unfolding result bothEnds openOf stagesOf acceptOf readOf fillOf run turnOf fieldOf bodyOf rowsOf endsIn findIn anyIn walk.run anyBelow cell put duplicateOp alongOf until atWall atStop atLimit wallRun stopRun limitRun sorted oneOf twoOf walledEnds freeEnds endsOf headed updateHorzSegment claimOf rowOf updateFrom makeJoin apartOf joinPair firstOne secondOne movedPair pairOf innerFrom outerFrom segmentRows pairsOf convertHorzSegsToJoins realOf getRealOutrec homeOf relinkOf newOutRec nameAll fixOutrecPts settleOf cutOf splitOf mergeOf byRecords joinOf joinsFrom startRing startTo startRings
+bothEnds-holds = refl
+
+uprightSpike-holds : result uprightSpike ≡ uprightSpike .answer
+unfolding result uprightSpike openOf stagesOf acceptOf readOf fillOf run turnOf fieldOf bodyOf rowsOf endsIn findIn anyIn walk.run anyBelow cell put duplicateOp alongOf until atWall atStop atLimit wallRun stopRun limitRun sorted oneOf twoOf walledEnds freeEnds endsOf headed updateHorzSegment claimOf rowOf updateFrom makeJoin apartOf joinPair firstOne secondOne movedPair pairOf innerFrom outerFrom segmentRows pairsOf convertHorzSegsToJoins realOf getRealOutrec homeOf relinkOf newOutRec nameAll fixOutrecPts settleOf cutOf splitOf mergeOf byRecords joinOf joinsFrom startRing startTo startRings
+uprightSpike-holds = refl
+
+openRing-holds : result openRing ≡ openRing .answer
+unfolding result openRing openOf stagesOf acceptOf readOf fillOf run turnOf fieldOf bodyOf rowsOf endsIn findIn anyIn walk.run anyBelow cell put duplicateOp alongOf until atWall atStop atLimit wallRun stopRun limitRun sorted oneOf twoOf walledEnds freeEnds endsOf headed updateHorzSegment claimOf rowOf updateFrom makeJoin apartOf joinPair firstOne secondOne movedPair pairOf innerFrom outerFrom segmentRows pairsOf convertHorzSegsToJoins realOf getRealOutrec homeOf relinkOf newOutRec nameAll fixOutrecPts settleOf cutOf splitOf mergeOf byRecords joinOf joinsFrom startRing startTo startRings
+openRing-holds = refl
+
+ownJoinFirst-holds : result ownJoinFirst ≡ ownJoinFirst .answer
+unfolding result ownJoinFirst openOf stagesOf acceptOf readOf fillOf run turnOf fieldOf bodyOf rowsOf endsIn findIn anyIn walk.run anyBelow cell put duplicateOp alongOf until atWall atStop atLimit wallRun stopRun limitRun sorted oneOf twoOf walledEnds freeEnds endsOf headed updateHorzSegment claimOf rowOf updateFrom makeJoin apartOf joinPair firstOne secondOne movedPair pairOf innerFrom outerFrom segmentRows pairsOf convertHorzSegsToJoins realOf getRealOutrec homeOf relinkOf newOutRec nameAll fixOutrecPts settleOf cutOf splitOf mergeOf byRecords joinOf joinsFrom startRing startTo startRings
+ownJoinFirst-holds = refl
+
 -- every row
 pub bench-holds : Holds bench
-bench-holds = (knotted-holds, (itself-holds, (overlapping-holds, (sameWay-holds, (levelFree-holds, (levelWalled-holds, (equalLeft-holds, (oneRing-holds, tt))))))))
+bench-holds = (knotted-holds, (itself-holds, (overlapping-holds, (sameWay-holds, (levelFree-holds, (levelWalled-holds, (equalLeft-holds, (oneRing-holds, (nested-holds, (otherHeights-holds, (threeInLine-holds, (bothEnds-holds, (uprightSpike-holds, (openRing-holds, (ownJoinFirst-holds, tt)))))))))))))))

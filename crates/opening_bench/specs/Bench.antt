@@ -1,4 +1,5 @@
--- Jobs with joins and level segments as rows of one table: a job, and what opening answers. The answers are the real Rust's, by the oracle.
+-- Jobs with joins and level segments as rows of one table: a job, and what opening answers. The answers are the real Rust's, by the oracle;
+-- program `opened` runs the same jobs.
 use Prim.Native.Nat.{ℕ, zero, suc, _+_, _-_, _%_, _/_}
 use mathlib.Core.Path.{_≡_}
 use mathlib.Core.List.{List, [], _∷_, _++_, map}
@@ -158,10 +159,52 @@ oneRing =
     row (loop 0 NONE (at 0 5 ∷ at 10 5 ∷ at 10 15 ∷ at 12 15 ∷ at 12 5 ∷ at 2 5 ∷ at 2 0 ∷ at 0 0 ∷ []) ∷ []) (0 ∷ 4 ∷ []) []
     (opened 10 (left 0 NONE (on 0 0 5 ∷ on 8 0 5 ∷ on 9 2 5 ∷ on 5 2 5 ∷ on 6 2 0 ∷ on 7 0 0 ∷ []) ∷ left 0 0 (on 1 10 5 ∷ on 2 10 15 ∷ on 3 12 15 ∷ on 4 12 5 ∷ []) ∷ []))
 
+-- one within the other, given first
+unfoldable pub nested : Row
+nested =
+    row (loop 0 NONE (at 0 10 ∷ at 20 10 ∷ at 20 20 ∷ at 0 20 ∷ []) ∷ loop 0 NONE (at 12 10 ∷ at 5 10 ∷ at 5 0 ∷ at 12 0 ∷ []) ∷ []) (4 ∷ 0 ∷ []) []
+    (opened 10 (left 0 NONE (on 0 0 10 ∷ on 8 0 10 ∷ on 9 5 10 ∷ on 5 5 10 ∷ on 6 5 0 ∷ on 7 12 0 ∷ on 4 12 10 ∷ on 1 20 10 ∷ on 2 20 20 ∷ on 3 0 20 ∷ []) ∷ left 0 0 [] ∷ []))
+
+-- the same at two heights, which are not compared
+unfoldable pub otherHeights : Row
+otherHeights =
+    row (loop 0 NONE (at 0 10 ∷ at 20 10 ∷ at 20 20 ∷ at 0 20 ∷ []) ∷ loop 0 NONE (at 12 7 ∷ at 5 7 ∷ at 5 0 ∷ at 12 0 ∷ []) ∷ []) (4 ∷ 0 ∷ []) []
+    (opened 10 (left 0 NONE (on 0 0 10 ∷ on 8 0 10 ∷ on 9 5 7 ∷ on 5 5 7 ∷ on 6 5 0 ∷ on 7 12 0 ∷ on 4 12 7 ∷ on 1 20 10 ∷ on 2 20 20 ∷ on 3 0 20 ∷ []) ∷ left 0 0 [] ∷ []))
+
+-- three on one line
+unfoldable pub threeInLine : Row
+threeInLine =
+    row (loop 0 NONE (at 0 10 ∷ at 30 10 ∷ at 30 20 ∷ at 0 20 ∷ []) ∷ loop 0 NONE (at 12 10 ∷ at 5 10 ∷ at 5 0 ∷ at 12 0 ∷ []) ∷ loop 0 NONE (at 25 10 ∷ at 10 10 ∷ at 10 1 ∷ at 25 1 ∷ []) ∷ []) (0 ∷ 4 ∷ 8 ∷ []) []
+    (opened 16 (left 0 NONE (on 0 0 10 ∷ on 12 0 10 ∷ on 13 5 10 ∷ on 5 5 10 ∷ on 6 5 0 ∷ on 7 12 0 ∷ on 4 12 10 ∷ on 14 0 10 ∷ on 15 10 10 ∷ on 9 10 10 ∷ on 10 10 1 ∷ on 11 25 1 ∷ on 8 25 10 ∷ on 1 30 10 ∷ on 2 30 20 ∷ on 3 0 20 ∷ []) ∷ left 0 0 [] ∷ left 0 0 [] ∷ []))
+
+-- one given by both its ends, whose left point is taken once
+unfoldable pub bothEnds : Row
+bothEnds =
+    row (loop 0 NONE (at 0 10 ∷ at 10 10 ∷ at 10 20 ∷ at 0 20 ∷ []) ∷ loop 0 NONE (at 15 10 ∷ at 5 10 ∷ at 5 0 ∷ at 15 0 ∷ []) ∷ []) (0 ∷ 1 ∷ 4 ∷ []) []
+    (opened 10 (left 0 NONE (on 0 0 10 ∷ on 8 0 10 ∷ on 9 5 10 ∷ on 5 5 10 ∷ on 6 5 0 ∷ on 7 15 0 ∷ on 4 15 10 ∷ on 1 10 10 ∷ on 2 10 20 ∷ on 3 0 20 ∷ []) ∷ left 0 0 [] ∷ []))
+
+-- an upright spike has no level run: one valid segment is left, and no join is made
+unfoldable pub uprightSpike : Row
+uprightSpike =
+    row (loop 0 NONE (at 0 0 ∷ at 0 10 ∷ at 0 5 ∷ []) ∷ loop 0 NONE (at 15 10 ∷ at 5 10 ∷ at 5 0 ∷ at 15 0 ∷ []) ∷ []) (0 ∷ 3 ∷ []) []
+    (opened 7 (left 0 NONE (on 0 0 0 ∷ on 1 0 10 ∷ on 2 0 5 ∷ []) ∷ left 0 NONE (on 3 15 10 ∷ on 4 5 10 ∷ on 5 5 0 ∷ on 6 15 0 ∷ []) ∷ []))
+
+-- one on an open ring
+unfoldable pub openRing : Row
+openRing =
+    row (loop 1 NONE (at 0 0 ∷ at 10 0 ∷ at 10 10 ∷ []) ∷ []) (0 ∷ []) []
+    (refused 8)
+
+-- the job's own join is made before that of its segments
+unfoldable pub ownJoinFirst : Row
+ownJoinFirst =
+    row (loop 0 NONE (at 0 10 ∷ at 10 10 ∷ at 10 20 ∷ at 0 20 ∷ []) ∷ loop 0 NONE (at 15 10 ∷ at 5 10 ∷ at 5 0 ∷ at 15 0 ∷ []) ∷ []) (0 ∷ 4 ∷ []) (pair 2 6 ∷ [])
+    (opened 10 (left 0 NONE (on 0 0 10 ∷ on 8 0 10 ∷ on 9 5 10 ∷ on 5 5 10 ∷ on 3 0 20 ∷ []) ∷ left 0 0 [] ∷ left 0 0 (on 1 10 10 ∷ on 2 10 20 ∷ on 6 5 0 ∷ on 7 15 0 ∷ on 4 15 10 ∷ []) ∷ []))
+
 -- a row holds
 abbrev pub Holds : List Row → Type 0
 Holds [] = Unit {0}
 Holds (r ∷ rs) = (result r ≡ r .answer) × Holds rs
 
 abbrev pub bench : List Row
-bench = knotted ∷ itself ∷ overlapping ∷ sameWay ∷ levelFree ∷ levelWalled ∷ equalLeft ∷ oneRing ∷ []
+bench = knotted ∷ itself ∷ overlapping ∷ sameWay ∷ levelFree ∷ levelWalled ∷ equalLeft ∷ oneRing ∷ nested ∷ otherHeights ∷ threeInLine ∷ bothEnds ∷ uprightSpike ∷ openRing ∷ ownJoinFirst ∷ []

@@ -1,4 +1,4 @@
-// Owner chains, before they are known to end: does one circle? Each record is passed twice at most.
+// Owner chains, before they are known to end: does one circle? Each is followed only as far as nothing is known of it, so that all take linear time.
 use crate::tables::UNKNOWN;
 use crate::tables::at;
 use crate::tables::put;

@@ -1,4 +1,4 @@
-// What each record resolves to, found once: each record is passed twice at most.
+// What each record resolves to: each chain is followed only as far as nothing is known of it, so that all take linear time.
 use crate::tables::UNKNOWN;
 use crate::tables::at;
 use crate::tables::put;
