@@ -19,6 +19,7 @@ mod runs;
 mod search;
 mod show;
 mod stats;
+mod stepped;
 mod stored;
 mod text;
 mod vectors;
@@ -58,7 +59,7 @@ fn run(words: &[&str]) -> Result<(), String> {
         ["acts"] => output(show::acts(&input()?).as_bytes()),
         ["alone"] => output(show::alone(&input()?).as_bytes()),
         ["steps", records @ ..] => {
-            let records: Result<Vec<usize>, String> = records.iter().map(|word| number(word)).collect();
+            let records: Result<Vec<u16>, String> = records.iter().map(|word| number(word)).collect();
             output(show::steps(&input()?, &records?).as_bytes())
         }
         ["show"] => output(text::show(&input()?).as_bytes()),
@@ -84,6 +85,8 @@ fn run(words: &[&str]) -> Result<(), String> {
         ["choose", seed, count, each] => stored::choose(number(seed)?, number(count)?, number(each)?),
         ["vectors", "geometry", seed, count] => cases_of(vectors::geometry, number(seed)?, number(count)?),
         ["vectors", "paths", seed, count] => cases_of(vectors::path, number(seed)?, number(count)?),
+        ["stepped", "make", folder] => stepped::make(folder),
+        ["stepped"] => stepped::answer(),
         ["child"] => guard::child(),
         _ => Err(USAGE.into()),
     }

@@ -5,7 +5,7 @@ use crate::oracle::{forest, open};
 use crate::real::{self, State};
 use crate::search;
 
-fn refused(number: u8) -> String {
+pub fn refused(number: u8) -> String {
     format!("refused {number}\n")
 }
 
@@ -42,10 +42,9 @@ fn due_word(due: Due) -> &'static str {
 fn act_words(act: Act) -> String {
     match act {
         Act::Begin => "begin".into(),
-        Act::Discard => "discard".into(),
+        Act::Discard | Act::DropDiscard => "discard".into(),
         Act::Move => "move".into(),
         Act::Drop => "drop".into(),
-        Act::DropDiscard => "drop discard".into(),
         Act::Settle => "settle".into(),
         Act::Double => "double".into(),
         Act::Cut { at: (x, y), point, offcut } => {
@@ -62,7 +61,7 @@ fn line(forest: &Forest, record: usize, due: Due, act: Act) -> String {
 }
 
 /// Both counts and each record's ring by value, from the first in walk order.
-fn rings(forest: &Forest) -> String {
+pub fn rings(forest: &Forest) -> String {
     let mut out = format!("points {} records {}\n", forest.points, forest.records.len());
     for record in 0..forest.records.len() {
         let ring: String = forest.ring(record).iter().map(|(x, y)| format!(" {x},{y}")).collect();
@@ -72,34 +71,51 @@ fn rings(forest: &Forest) -> String {
     out
 }
 
-/// The model's acts from opening to done, records rising; a full store ends them with `refused 10`.
-pub fn acts(bytes: &[u8]) -> String {
-    let mut forest = match open(bytes) {
-        Err(number) => return refused(number),
-        Ok(opened) => forest(&opened),
-    };
+/// The acts that step every ring to done, records rising; ends where a step is refused.
+pub fn rising(forest: &mut Forest) -> String {
     let mut out = String::new();
-    match forest.finish(|forest, record, due, act| out += &line(forest, record, due, act)) {
-        Ok(()) => out + &rings(&forest),
-        Err(number) => out + &refused(number),
+    if let Err(number) = forest.finish(|forest, record, due, act| out += &line(forest, record, due, act)) {
+        let refused = (0..forest.records.len()).find(|&record| forest.due(record) != Due::Done);
+        out += &refused_step(refused.expect("a refused step leaves its ring unfinished"), number);
+    }
+    out
+}
+
+/// The answers to a list of steps.
+pub fn listed(forest: &mut Forest, records: &[u16]) -> String {
+    let mut out = String::new();
+    for record in records.iter().map(|&record| record as usize) {
+        let due = forest.due(record);
+        out += &match forest.step(record) {
+            Ok(act) => line(forest, record, due, act),
+            Err(number) => refused_step(record, number),
+        };
+    }
+    out
+}
+
+fn refused_step(record: usize, number: u8) -> String {
+    format!("{record} refused {number}\n")
+}
+
+fn stepped(bytes: &[u8], by: impl FnOnce(&mut Forest) -> String) -> String {
+    match open(bytes) {
+        Err(number) => refused(number),
+        Ok(opened) => {
+            let mut forest = forest(&opened);
+            by(&mut forest) + &rings(&forest)
+        }
     }
 }
 
+/// The model's acts from opening to done, or up to a step that is full; then the rings.
+pub fn acts(bytes: &[u8]) -> String {
+    stepped(bytes, rising)
+}
+
 /// The model's answers to a list of steps, then the rings they leave.
-pub fn steps(bytes: &[u8], records: &[usize]) -> String {
-    let mut forest = match open(bytes) {
-        Err(number) => return refused(number),
-        Ok(opened) => forest(&opened),
-    };
-    let mut out = String::new();
-    for &record in records {
-        let due = forest.due(record);
-        out += &match forest.step(record) {
-            Ok(act) => line(&forest, record, due, act),
-            Err(number) => format!("{record} refused {number}\n"),
-        };
-    }
-    out + &rings(&forest)
+pub fn steps(bytes: &[u8], records: &[u16]) -> String {
+    stepped(bytes, |forest| listed(forest, records))
 }
 
 /// Whether each ring, stepped alone and without limit, ends.

@@ -44,7 +44,7 @@ pub fn make(folder: &str) -> Result<String, String> {
 }
 
 /// Names and jobs of a file of stored answers.
-fn load(path: &str) -> Result<Vec<(String, Vec<u8>)>, String> {
+pub fn load(path: &str) -> Result<Vec<(String, Vec<u8>)>, String> {
     let content = std::fs::read_to_string(path).map_err(|why| format!("cannot read {path}: {why}"))?;
     let mut out = Vec::new();
     let mut name = None;

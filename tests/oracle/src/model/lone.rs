@@ -5,7 +5,7 @@ use super::geometry::{close, crosses, crossing_point, doubled_area, droppable, P
 #[derive(Clone, Copy, Debug, PartialEq)]
 pub enum Due {
     Validity,
-    Removal { at: usize, start: usize },
+    Removal { at: usize, start: Option<usize> },
     Triangle,
     Split { at: usize, start: Option<usize> },
     Done,
@@ -74,6 +74,19 @@ impl Lone {
         points
     }
 
+    /// Gives the ring any progress: a mark of the work space, and present place and start counted from the first point, the start on the ring or none.
+    pub fn set_progress(&mut self, mark: u16, present: usize, start: Option<usize>) {
+        let at = self.after(self.first, present);
+        let start = start.map(|start| self.after(self.first, start));
+        self.due = match mark {
+            0 => Due::Validity,
+            1 => Due::Removal { at, start },
+            2 => Due::Triangle,
+            3 => Due::Split { at, start },
+            _ => Due::Done,
+        };
+    }
+
     fn after(&self, at: usize, by: usize) -> usize {
         (at + by) % self.circle.len()
     }
@@ -136,13 +149,13 @@ impl Lone {
     /// Does an act that `decide` gave; answers the offcut where one is cut.
     pub fn apply(&mut self, act: Act) -> Option<Lone> {
         match (act, self.due) {
-            (Act::Begin, Due::Validity) => self.due = Due::Removal { at: self.first, start: self.first },
+            (Act::Begin, Due::Validity) => self.due = Due::Removal { at: self.first, start: Some(self.first) },
             (Act::Begin, _) => self.due = Due::Split { at: self.first, start: Some(self.first) },
             (Act::Discard, _) | (Act::DropDiscard, _) => self.discard(),
             (Act::Settle, _) => self.due = Due::Done,
             (Act::Move, Due::Removal { at, start }) => {
                 let at = self.after(at, 1);
-                self.due = if at == start { Due::Triangle } else { Due::Removal { at, start } };
+                self.due = if Some(at) == start { Due::Triangle } else { Due::Removal { at, start } };
             }
             (Act::Drop, Due::Removal { at, .. }) => self.drop_point(at),
             (Act::Move, Due::Split { at, start }) => self.go_on(self.after(at, 1), start),
@@ -165,7 +178,7 @@ impl Lone {
         self.circle.remove(at);
         self.first = if first > at { first - 1 } else { first };
         let next = at % self.circle.len();
-        self.due = Due::Removal { at: next, start: next };
+        self.due = Due::Removal { at: next, start: Some(next) };
     }
 
     /// The split loop's end test.

@@ -1,0 +1,25 @@
+-- `stepped::list`: what writing out answers can be listed, and the text ends within the slice.
+use borrow.Author.Needs.{needs}
+use Rattle.stepped.proofs.Answers.{listable, within}
+use Rattle.stepped.proofs.list.Statement.{statement}
+use Rattle.stepped.proofs.list.Tie as tie
+
+pub list-spec : {M : Type 1} → statement M
+list-spec =
+    tie.close
+    (tie.spec
+    (λ c κs. search needs)
+    (λ c. search needs)
+    (λ c κs. search (listable, needs))
+    (λ c. search needs)
+    (λ c. search needs)
+    (λ c. search needs)
+    (λ c. search needs)
+    (λ c. search needs)
+    (λ c. search needs)
+    (λ c. search needs)
+    (λ c. search (within, needs))
+    (λ c. search needs)
+    (λ c κs. search needs)
+    (λ c. search needs)
+    (λ c. search needs))

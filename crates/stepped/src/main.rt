@@ -1,0 +1,229 @@
+// Steps stored rings with the entry points and prints each step: the step that was due, the act that the proved decision names, the step then due; then the rings,
+// and the paths that writing out gives. Input and the file `stdout` are the oracle's: `oracle stepped make tests/answers`, `oracle stepped`.
+mod input;
+mod print;
+mod progress;
+
+use crate::input::from;
+use crate::input::further;
+use crate::input::number_at;
+use crate::print::print;
+use crate::print::print_act;
+use crate::print::print_due;
+use crate::print::print_refusal;
+use crate::print::print_store;
+use crate::progress::due_of;
+use crate::progress::is_done;
+use crate::progress::set_all;
+use audit::Verdict;
+use audit::tests_of;
+use finishing::Stepped;
+use finishing::step;
+use finishing::write_out;
+use libc::STDIN_FILENO;
+use libc::STDOUT_FILENO;
+use listing::Listed;
+use opening::open::Opened;
+use opening::open::open;
+use paths::Written;
+use store::Col;
+use store::read;
+use turns::Act;
+use turns::decide::decide;
+use turns::step::is_live;
+ghost use Prim.Native.Nat.{_≤_};
+ghost use lib.ListN.{length};
+ghost use Rattle.store.specs.Field.{LENGTH};
+ghost use Rattle.turns.specs.Reads.{SoundWords};
+
+// ---- a step
+
+// What a step on record i of a sound work space would do.
+fn act_on(w: &[u32], i: usize) -> Act
+    requires { ⌜ SoundWords (now w) ⌝ }
+{
+    let live = is_live(w, i);
+    if live {
+        return decide(w, i);
+    }
+    Act::Stay
+}
+
+fn act_of(w: &[u32], i: usize) -> Act
+    requires { ⌜ LENGTH ≤ length (now w) ⌝ }
+{
+    let v = tests_of(w);
+    match v {
+        Verdict::Passed => {
+            return act_on(w, i);
+        }
+        Verdict::Refused(_) => {
+            return Act::Stay;
+        }
+    }
+}
+
+// A step on a record number, and its line; answers whether it was carried out.
+fn tell_step(w: &mut [u32; 13840], i: usize) -> bool {
+    if 65536 <= i {
+        return false;
+    }
+    let d = due_of(w, i);
+    let a = act_of(w, i);
+    let s = step(w, i as u32);
+    print(i);
+    match s {
+        Stepped::Done => {
+            let e = due_of(w, i);
+            print_due(d);
+            print_act(a);
+            io::write_all(STDOUT_FILENO, b" due");
+            print_due(e);
+            io::write_all(STDOUT_FILENO, b"\n");
+            return true;
+        }
+        Stepped::Refused(r) => {
+            io::write_all(STDOUT_FILENO, b" ");
+            print_refusal(r);
+            return false;
+        }
+    }
+}
+
+// ---- lists of steps
+
+// A step on record i, unless it is done; answers the record to look at next, 512 after a refusal.
+fn turn(w: &mut [u32; 13840], i: usize) -> usize {
+    let d = due_of(w, i);
+    let done = is_done(d);
+    if done {
+        return further(i, 1);
+    }
+    let granted = tell_step(w, i);
+    if granted {
+        return i;
+    }
+    512
+}
+
+// Every ring to done, in rising record order.
+fn rising(w: &mut [u32; 13840]) {
+    let mut i: usize = 0;
+    let mut left: u32 = 100000;
+    while 0 < left {
+        let n = read(w, Col::Records, 0);
+        if n <= i {
+            return;
+        }
+        i = turn(w, i);
+        left -= 1;
+    }
+}
+
+// The steps of a list of record numbers, two bytes each.
+fn listed(w: &mut [u32; 13840], steps: &[u8]) {
+    let mut at: usize = 0;
+    let mut left: u32 = 100000;
+    while 0 < left {
+        if steps.len() <= at {
+            return;
+        }
+        let i = number_at(steps, at);
+        tell_step(w, i);
+        at = further(at, 2);
+        left -= 1;
+    }
+}
+
+// ---- writing out
+
+// The listing of what writing out gives, in a lent slice; nothing after a refusal, which is printed.
+fn list(work: &[u32], tray: &mut [u8], out: &mut [u8]) -> usize
+    requires { ⌜ LENGTH ≤ length (now work) ⌝ }
+    ensures { λ r. ⌜ r ≤ length (now (out .exit)) ⌝ }
+{
+    let r = write_out(work, tray);
+    match r {
+        Written::Paths { closed, open } => {
+            let Listed::Bytes(n) = listing::listing(tray, closed, open, out) else {
+                return 0;
+            };
+            return n;
+        }
+        Written::Refused(x) => {
+            print_refusal(x);
+            return 0;
+        }
+    }
+}
+
+fn write(work: &[u32; 13840]) {
+    let mut tray = [0u8; 17920];
+    let mut out = [0u8; 150000];
+    let k = list(work, &mut tray, &mut out);
+    io::write_all(STDOUT_FILENO, &out[..k]);
+}
+
+// ---- cases
+
+// An opened job: some progress, steps, what is left, the paths.
+fn run_opened(w: &mut [u32; 13840], progress: &[u8], steps: &[u8]) {
+    set_all(w, progress);
+    if steps.len() == 0 {
+        rising(w);
+    }
+    listed(w, steps);
+    print_store(w);
+    write(w);
+}
+
+fn run_case(w: &mut [u32; 13840], job: &[u8], progress: &[u8], steps: &[u8]) {
+    let a = open(job, w);
+    match a {
+        Opened::Accepted => {
+            run_opened(w, progress, steps);
+        }
+        Opened::Refused(r) => {
+            print_refusal(r);
+        }
+    }
+}
+
+// The part of the input at a place: its length in four bytes, then its bytes.
+fn part(s: &[u8], at: usize) -> &[u8] {
+    let n = number_at(s, at);
+    let rest = from(s, further(at, 4));
+    let k = io::count(input::signed(n), rest);
+    &rest[..k]
+}
+
+// Where the next part begins.
+fn past(s: &[u8], at: usize) -> usize {
+    let n = number_at(s, at);
+    further(further(at, 4), n)
+}
+
+fn run(s: &[u8], w: &mut [u32; 13840]) {
+    let mut at: usize = 0;
+    let mut k: usize = 0;
+    while k < 1000 {
+        if s.len() <= at {
+            return;
+        }
+        let b = past(s, at);
+        let c = past(s, b);
+        io::write_all(STDOUT_FILENO, b"case ");
+        print(k);
+        io::write_all(STDOUT_FILENO, b"\n");
+        run_case(w, part(s, at), part(s, b), part(s, c));
+        at = past(s, c);
+        k += 1;
+    }
+}
+
+fn main() {
+    let mut input = [0u8; 262144];
+    let mut w = [0u32; 13840];
+    let n = io::read_full(STDIN_FILENO, &mut input);
+    run(&input[..n], &mut w);
+}
