@@ -1,31 +1,8 @@
 // The oracle's commands. Each reads a job on standard input unless README.md says otherwise.
-include!(concat!(env!("OUT_DIR"), "/clipper/modules.rs"));
-
-mod answer;
-mod batch;
-mod cases;
-mod check;
-mod compare;
-mod gen;
-mod guard;
-mod job;
-mod model;
-mod oracle;
-mod raw;
-mod read;
-mod real;
-mod rng;
-mod runs;
-mod search;
-mod show;
-mod stats;
-mod stepped;
-mod stored;
-mod text;
-mod vectors;
-
-use std::io::{Read, Write};
-use text::number;
+use ::oracle::oracle::Oracle;
+use ::oracle::text::number;
+use ::oracle::{answer, batch, cases, gen, guard, output, raw, runs, search, show, stepped, stored, text, vectors};
+use std::io::Read;
 
 const USAGE: &str = "no such command, or not its arguments; tests/oracle/README.md lists the commands";
 
@@ -35,23 +12,18 @@ fn input() -> Result<Vec<u8>, String> {
     Ok(bytes)
 }
 
-/// Writes to standard output; a reader that has gone is an error like any other.
-fn output(bytes: &[u8]) -> Result<(), String> {
-    std::io::stdout().write_all(bytes).map_err(|why| format!("cannot write: {why}"))
-}
-
 fn cases_of(case: fn(u64, u64) -> String, seed: u64, count: u64) -> Result<(), String> {
     (0..count).try_for_each(|index| output(case(seed, index).as_bytes()))
 }
 
 fn run(words: &[&str]) -> Result<(), String> {
     match words {
-        ["list"] => output(oracle::Oracle::default().answer(&input()?).listing().as_bytes()),
+        ["list"] => output(Oracle::default().answer(&input()?).listing().as_bytes()),
         ["list", "--tray", length] => {
             let length = number(length)?;
-            output(oracle::Oracle::default().answer(&input()?).within(length).listing().as_bytes())
+            output(Oracle::default().answer(&input()?).within(length).listing().as_bytes())
         }
-        ["tray"] => match oracle::Oracle::default().answer(&input()?) {
+        ["tray"] => match Oracle::default().answer(&input()?) {
             answer::Answer::Refused(number) => Err(format!("the job is refused with {number}, so it has no tray")),
             answer => output(&answer.tray()),
         },

@@ -1,0 +1,207 @@
+// Alterations of a work space, by kind: counts, links, records, first points, progress marks, present places, coordinates, any word;
+// and some that keep it sound but leave it in a state that our own calls never make.
+use crate::words::*;
+use oracle::rng::Rng;
+
+/// A number that names one of `count`, or nearly, or nothing at all.
+fn number(rng: &mut Rng, count: usize) -> u32 {
+    let count = count as u32;
+    match rng.below(12) {
+        0 => count,
+        1 => NONE,
+        2 => rng.pick(&[count + 1, 2047, 2048, 511, 512, NONE + 1, 65_536 + count, u32::MAX, 1 << 31]),
+        3 => rng.bits() as u32,
+        _ => rng.below(count.max(1) as usize) as u32,
+    }
+}
+
+/// A point of some record's ring; none where there are no rings.
+fn ring_point(rng: &mut Rng, w: &[u32]) -> Option<usize> {
+    let record = some_record(rng, w)?;
+    let mut at = w[FIRST + record];
+    for _ in 0..rng.below(12) {
+        if (at as usize) < MOST_POINTS {
+            at = w[NEXT + at as usize];
+        }
+    }
+    ((at as usize) < points(w).min(MOST_POINTS)).then_some(at as usize)
+}
+
+fn some_record(rng: &mut Rng, w: &[u32]) -> Option<usize> {
+    let held = records(w).min(MOST_RECORDS);
+    let record = rng.below(held.max(1));
+    (held > 0).then_some(record)
+}
+
+/// Alters something and says what.
+pub fn alter(w: &mut [u32], rng: &mut Rng) -> String {
+    match rng.below(30) {
+        0 => count(w, rng),
+        1..=4 => point_word(w, rng),
+        5..=11 => record_word(w, rng),
+        12 => {
+            let at = rng.below(w.len());
+            put(w, at, rng.bits() as u32)
+        }
+        13 => {
+            let at = rng.below(X);
+            put(w, at, rng.bits() as u32)
+        }
+        14..=16 => exchange(w, rng),
+        17..=19 => take_out(w, rng),
+        20 => fill(w, rng),
+        21 => end_all(w, rng),
+        22 => lone_point(w, rng),
+        _ => progress(w, rng),
+    }
+}
+
+fn put(w: &mut [u32], at: usize, word: u32) -> String {
+    w[at] = word;
+    format!("word {at} is {word}")
+}
+
+fn count(w: &mut [u32], rng: &mut Rng) -> String {
+    let (at, most) = rng.pick(&[(POINTS, MOST_POINTS as u32), (RECORDS, MOST_RECORDS as u32)]);
+    let held = w[at];
+    let word = rng.pick(&[0, 1, held.wrapping_sub(1), held.wrapping_add(1), most, most + 1, most - 1, u32::MAX, 65_536]);
+    put(w, at, word)
+}
+
+/// A coordinate, a link or the record of a point on a ring.
+fn point_word(w: &mut [u32], rng: &mut Rng) -> String {
+    let Some(p) = ring_point(rng, w) else {
+        return "nothing".into();
+    };
+    let (points, records) = (points(w), records(w));
+    match rng.below(8) {
+        0 | 1 => {
+            let near = (1 << 20) + rng.below(24) as u32;
+            let word = rng.pick(&[0, 1 << 20, 1 << 21, (1 << 21) + 1, u32::MAX, near, near]);
+            put(w, rng.pick(&[X, Y]) + p, word)
+        }
+        2 | 3 => put(w, NEXT + p, number(rng, points)),
+        4 | 5 => put(w, PREV + p, number(rng, points)),
+        _ => put(w, REC + p, number(rng, records)),
+    }
+}
+
+/// One word of a record.
+fn record_word(w: &mut [u32], rng: &mut Rng) -> String {
+    let Some(r) = some_record(rng, w) else {
+        return "nothing".into();
+    };
+    let (points, records) = (points(w), records(w));
+    let on_ring = ring_point(rng, w).unwrap_or(0) as u32;
+    match rng.below(9) {
+        0 => put(w, FLAGS + r, rng.bits() as u32),
+        1 => put(w, FLAGS + r, w[FLAGS + r] ^ 1),
+        2 => put(w, OWNER + r, number(rng, records)),
+        3 => put(w, FIRST + r, number(rng, points)),
+        4 => put(w, FIRST + r, rng.pick(&[on_ring, NONE])),
+        5 => put(w, MARK + r, rng.pick(&[0, 1, 2, 3, 4, 5, 6, 255, NONE, u32::MAX])),
+        6 => {
+            let any = number(rng, points);
+            put(w, PRESENT + r, rng.pick(&[on_ring, any]))
+        }
+        7 => {
+            let any = number(rng, points);
+            put(w, START + r, rng.pick(&[on_ring, any]))
+        }
+        _ => put(w, CUT + r, number(rng, records)),
+    }
+}
+
+/// Two points exchange their nexts, links kept right: a ring falls in two, or two become one.
+fn exchange(w: &mut [u32], rng: &mut Rng) -> String {
+    let (Some(a), Some(b)) = (ring_point(rng, w), ring_point(rng, w)) else {
+        return "nothing".into();
+    };
+    let (next_a, next_b) = (w[NEXT + a] as usize, w[NEXT + b] as usize);
+    if next_a >= MOST_POINTS || next_b >= MOST_POINTS {
+        return "nothing".into();
+    }
+    (w[NEXT + a], w[NEXT + b]) = (next_b as u32, next_a as u32);
+    (w[PREV + next_b], w[PREV + next_a]) = (a as u32, b as u32);
+    format!("points {a} and {b} exchange their nexts")
+}
+
+/// A point is taken out of its ring, links kept right; rings of one and of two points come of it.
+fn take_out(w: &mut [u32], rng: &mut Rng) -> String {
+    let times = 1 + rng.below(6);
+    let mut said = format!("taken out:");
+    for _ in 0..times {
+        let Some(p) = ring_point(rng, w) else {
+            break;
+        };
+        let (next, prev) = (w[NEXT + p] as usize, w[PREV + p] as usize);
+        if next >= MOST_POINTS || prev >= MOST_POINTS || next == p {
+            continue;
+        }
+        w[NEXT + prev] = next as u32;
+        w[PREV + next] = prev as u32;
+        // The record keeps a first point and a present place, mostly on the ring.
+        for r in 0..records(w).min(MOST_RECORDS) {
+            for column in [FIRST, PRESENT] {
+                if w[column + r] as usize == p && !rng.one_in(8) {
+                    w[column + r] = next as u32;
+                }
+            }
+        }
+        said += &format!(" {p}");
+    }
+    said
+}
+
+/// The store is full, or nearly: all points in use, or all records, the further ones ringless.
+fn fill(w: &mut [u32], rng: &mut Rng) -> String {
+    let left = rng.below(3);
+    if rng.one_in(2) {
+        return put(w, POINTS, (MOST_POINTS - left) as u32);
+    }
+    for r in records(w).min(MOST_RECORDS)..MOST_RECORDS - left {
+        (w[OWNER + r], w[FIRST + r]) = (NONE, NONE);
+    }
+    put(w, RECORDS, (MOST_RECORDS - left) as u32)
+}
+
+/// Every ring is done, or all but one.
+fn end_all(w: &mut [u32], rng: &mut Rng) -> String {
+    let held = records(w).min(MOST_RECORDS);
+    let but = if rng.one_in(3) { rng.below(held + 1) } else { held };
+    (0..held).filter(|r| *r != but).for_each(|r| w[MARK + r] = DONE);
+    format!("all marks are done but record {but}'s")
+}
+
+/// One more record with a ring of one new point.
+fn lone_point(w: &mut [u32], rng: &mut Rng) -> String {
+    let (p, r) = (points(w), records(w));
+    if p >= MOST_POINTS || r >= MOST_RECORDS {
+        return "nothing".into();
+    }
+    (w[POINTS], w[RECORDS]) = (p as u32 + 1, r as u32 + 1);
+    (w[X + p], w[Y + p]) = (1 << 20, 1 << 20);
+    (w[NEXT + p], w[PREV + p], w[REC + p]) = (p as u32, p as u32, r as u32);
+    (w[FLAGS + r], w[OWNER + r], w[FIRST + r]) = (rng.one_in(6) as u32, NONE, p as u32);
+    (w[MARK + r], w[PRESENT + r], w[START + r], w[CUT + r]) = (rng.below(5) as u32, p as u32, number(rng, p), NONE);
+    format!("a record {r} with a ring of one point")
+}
+
+/// A ring is somewhere else in its stepping: any mark, any place on it, any start.
+fn progress(w: &mut [u32], rng: &mut Rng) -> String {
+    let Some(r) = some_record(rng, w) else {
+        return "nothing".into();
+    };
+    let mut at = w[FIRST + r];
+    for _ in 0..rng.below(9) {
+        if (at as usize) < MOST_POINTS {
+            at = w[NEXT + at as usize];
+        }
+    }
+    w[MARK + r] = rng.pick(&[0, 1, 1, 2, 3, 3, 3, 4]);
+    w[PRESENT + r] = at;
+    if rng.one_in(2) {
+        w[START + r] = ring_point(rng, w).unwrap_or(0) as u32;
+    }
+    format!("record {r} has mark {}, present place {at}, start {}", w[MARK + r], w[START + r])
+}

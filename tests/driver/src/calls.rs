@@ -1,0 +1,156 @@
+// The proved entry points as libfinishing_c.a exports them. A slice is a pointer and a length.
+// A fault, which only the check of the driver itself switches on, spoils what a call left.
+use crate::words::*;
+
+extern "C" {
+    fn outline_work_words() -> u64;
+    fn outline_open(job: *const u8, job_length: usize, work: *mut u32, words: usize) -> u32;
+    fn outline_step(work: *mut u32, words: usize, record: u32) -> u32;
+    fn outline_write(work: *const u32, words: usize, tray: *mut u8, tray_length: usize) -> u32;
+    fn outline_finish(
+        job: *const u8,
+        job_length: usize,
+        work: *mut u32,
+        words: usize,
+        tray: *mut u8,
+        tray_length: usize,
+    ) -> u32;
+}
+
+/// What a deliberate fault does; each must be found (command `faults`).
+#[derive(Clone, Copy, Debug, PartialEq)]
+pub enum Fault {
+    None,
+    /// A job refused as full is said to be a knot.
+    FinishAnswer,
+    /// The last byte of the paths has its lowest bit changed.
+    TrayByte,
+    /// The last byte past the paths is 1.
+    PastPaths,
+    /// A refused job leaves a 1 in the last word.
+    RefusedWord,
+    /// A refused job leaves a 1 in the last byte of the tray.
+    RefusedTray,
+    /// The word before the work space is written.
+    Beyond,
+    /// A done ring's record is left with another owner.
+    FinishOwner,
+    /// Opening puts the present place of a ring after its first point.
+    OpenPresent,
+    /// Opening leaves a 1 in the last word that was lent.
+    OpenPast,
+    /// A step on an unknown record is refused with 5.
+    StepAnswer,
+    /// A refused step writes a spare word.
+    StepFound,
+    /// A step carried out writes a spare word.
+    StepStray,
+    /// A step carried out moves the first point on.
+    StepFirst,
+    /// A step carried out loses the loop's start.
+    StepStart,
+    /// A step that makes an offcut names the record 0 as the one it was cut from.
+    StepCut,
+    /// A step refused for its links says numbers.
+    TestsOrder,
+    /// A step on a muddled work space is carried out: answer 0.
+    TestsLeft,
+    /// A refused writing out clears the tray's first byte.
+    WriteFound,
+    /// Writing out while a ring isn't done is carried out: answer 0.
+    WriteEarly,
+}
+
+pub const FAULTS: [Fault; 19] = [
+    Fault::FinishAnswer,
+    Fault::TrayByte,
+    Fault::PastPaths,
+    Fault::RefusedWord,
+    Fault::RefusedTray,
+    Fault::Beyond,
+    Fault::FinishOwner,
+    Fault::OpenPresent,
+    Fault::OpenPast,
+    Fault::StepAnswer,
+    Fault::StepFound,
+    Fault::StepStray,
+    Fault::StepFirst,
+    Fault::StepStart,
+    Fault::StepCut,
+    Fault::TestsOrder,
+    Fault::TestsLeft,
+    Fault::WriteFound,
+    Fault::WriteEarly,
+];
+
+pub fn work_words() -> u64 {
+    unsafe { outline_work_words() }
+}
+
+#[derive(Clone, Copy)]
+pub struct Calls(pub Fault);
+
+impl Calls {
+    pub fn open(self, job: &[u8], work: &mut [u32]) -> u32 {
+        let answer = unsafe { outline_open(job.as_ptr(), job.len(), work.as_mut_ptr(), work.len()) };
+        let n = work.len();
+        match self.0 {
+            Fault::OpenPresent if answer == 0 && is_live(work, 0) => {
+                work[PRESENT] = work[NEXT + work[FIRST] as usize];
+            }
+            Fault::OpenPast if answer == 0 && n > WORDS => work[n - 1] = 1,
+            _ => {}
+        }
+        answer
+    }
+
+    pub fn step(self, work: &mut [u32], record: u32) -> u32 {
+        let known = work.len() >= WORDS && (record as usize) < records(work).min(MOST_RECORDS);
+        let held = if known { records(work) } else { 0 };
+        let answer = unsafe { outline_step(work.as_mut_ptr(), work.len(), record) };
+        let r = record as usize;
+        match (self.0, answer) {
+            (Fault::StepAnswer, 12) if !known => return 5,
+            (Fault::StepFound, 1..) if known => work[9] ^= 1,
+            (Fault::StepStray, 0) => work[15] ^= 1,
+            (Fault::StepFirst, 0) if is_live(work, r) => work[FIRST + r] = work[NEXT + work[FIRST + r] as usize],
+            (Fault::StepStart, 0) if is_live(work, r) => work[START + r] = NONE,
+            (Fault::StepCut, 0) if records(work) > held => work[CUT + held] = 0,
+            (Fault::TestsOrder, 6) => return 5,
+            (Fault::TestsLeft, 7) => return 0,
+            (Fault::Beyond, 0) => unsafe { *work.as_mut_ptr().sub(1) = 1 },
+            _ => {}
+        }
+        answer
+    }
+
+    pub fn write(self, work: &[u32], tray: &mut [u8]) -> u32 {
+        let answer = unsafe { outline_write(work.as_ptr(), work.len(), tray.as_mut_ptr(), tray.len()) };
+        match (self.0, answer) {
+            (Fault::WriteFound, 1..) if !tray.is_empty() => tray[0] = 0,
+            (Fault::WriteEarly, 12) => return 0,
+            _ => {}
+        }
+        answer
+    }
+
+    pub fn finish(self, job: &[u8], work: &mut [u32], tray: &mut [u8]) -> u32 {
+        let (bytes, n) = (tray.len(), work.len());
+        let answer =
+            unsafe { outline_finish(job.as_ptr(), job.len(), work.as_mut_ptr(), n, tray.as_mut_ptr(), bytes) };
+        match (self.0, answer) {
+            (Fault::FinishAnswer, 10) => return 9,
+            (Fault::TrayByte, 0) => {
+                if let Some(last) = tray.iter().rposition(|byte| *byte != 0) {
+                    tray[last] ^= 1;
+                }
+            }
+            (Fault::PastPaths, 0) if bytes == 17_920 && tray[bytes - 1] == 0 => tray[bytes - 1] = 1,
+            (Fault::RefusedWord, 1..) if n > 0 => work[n - 1] = 1,
+            (Fault::RefusedTray, 1..) if bytes > 0 => tray[bytes - 1] = 1,
+            (Fault::FinishOwner, 0) if records(work) > 1 => work[OWNER + 1] = 0,
+            _ => {}
+        }
+        answer
+    }
+}

@@ -1,0 +1,76 @@
+// The differential driver: the proved entry points against the oracle, in one process. docs/DIFFERENTIAL.md says what is compared.
+mod alter;
+mod altered;
+mod calls;
+mod damage;
+mod finish;
+mod lent;
+mod model;
+mod open;
+mod plain;
+mod room;
+mod runs;
+mod steps;
+mod tally;
+mod words;
+
+use calls::{Fault, FAULTS};
+use oracle::text::number;
+use runs::{Kind, Run, KINDS};
+
+const USAGE: &str = "usage: driver finish|steps|bytes|altered SEED COUNT THREADS [FROM]   or: driver faults SEED COUNT";
+
+fn run_of(kind: &str, seed: &str, count: &str, threads: &str, from: u64) -> Result<Run, String> {
+    let kind = Kind::named(kind).ok_or(USAGE)?;
+    let (seed, count, threads): (u64, u64, u64) = (number(seed)?, number(count)?, number(threads)?);
+    if !(1..=64).contains(&threads) {
+        return Err(format!("not a number of threads from 1 to 64: {threads}"));
+    }
+    Ok(Run { kind, seed, from, to: from + count, threads, fault: Fault::None })
+}
+
+/// Each deliberate fault must be found by some kind within so many cases.
+fn faults(seed: u64, count: u64) -> Result<(), String> {
+    let mut missed = Vec::new();
+    for fault in FAULTS {
+        let mut found = Vec::new();
+        for (name, kind) in KINDS {
+            let run = Run { kind, seed, from: 0, to: count, threads: 1, fault };
+            if let Err(difference) = run.all() {
+                found.push(format!("{name} at case {} ({})", difference.index, difference.what));
+            }
+        }
+        match found.is_empty() {
+            true => missed.push(format!("{fault:?}")),
+            false => println!("fault {fault:?}: found by {}", found.join("; ")),
+        }
+    }
+    if missed.is_empty() {
+        return Ok(());
+    }
+    Err(format!("deliberate faults that no case found: {}", missed.join(", ")))
+}
+
+fn run(words: &[&str]) -> Result<(), String> {
+    let stated = calls::work_words();
+    if stated != words::WORDS as u64 {
+        return Err(format!("outline_work_words answers {stated}, not {}", words::WORDS));
+    }
+    match words {
+        ["faults", seed, count] => faults(number(seed)?, number(count)?),
+        [kind, seed, count, threads] => run_of(kind, seed, count, threads, 0)?.report(),
+        [kind, seed, count, threads, from] => run_of(kind, seed, count, threads, number(from)?)?.report(),
+        // The guard starts this program again as the child in which the Rust may grow.
+        ["child"] => oracle::guard::child(),
+        _ => Err(USAGE.into()),
+    }
+}
+
+fn main() {
+    let words: Vec<String> = std::env::args().skip(1).collect();
+    let words: Vec<&str> = words.iter().map(String::as_str).collect();
+    if let Err(line) = run(&words) {
+        eprintln!("driver: {line}");
+        std::process::exit(1);
+    }
+}

@@ -1,0 +1,96 @@
+// A plain reading of document 01: "A step, or writing out after steps, first tests the work space it is handed".
+// Written from that paragraph and docs/WORKSPACE.md alone.
+use crate::words::*;
+
+/// The tests in the paper's order; the refusal's number where one fails. A work space that is too short is 10, before them all.
+pub fn tests(w: &[u32]) -> Result<(), u8> {
+    if w.len() < WORDS {
+        return Err(10);
+    }
+    if points(w) > MOST_POINTS || records(w) > MOST_RECORDS {
+        return Err(3);
+    }
+    let reached = reached(w);
+    if reached.iter().any(|&p| off_the_table(w[X + p]) || off_the_table(w[Y + p])) {
+        return Err(4);
+    }
+    if reached.iter().any(|&p| no_such_link(w, p)) || (0..records(w)).any(|r| no_such_name(w, r)) {
+        return Err(5);
+    }
+    if reached.iter().any(|&p| loose(w, p)) {
+        return Err(6);
+    }
+    if shared(w) || (0..records(w)).any(|r| misplaced(w, r)) {
+        return Err(7);
+    }
+    Ok(())
+}
+
+/// All points reached along next from the first points, as far as a number names a point.
+fn reached(w: &[u32]) -> Vec<usize> {
+    let mut seen = [false; MOST_POINTS];
+    let mut reached = Vec::new();
+    for record in 0..records(w) {
+        let mut at = w[FIRST + record] as usize;
+        while at < points(w) && !seen[at] {
+            seen[at] = true;
+            reached.push(at);
+            at = w[NEXT + at] as usize;
+        }
+    }
+    reached
+}
+
+fn off_the_table(word: u32) -> bool {
+    word as i64 - RAISED > RAISED
+}
+
+/// Next, prev and record of a point.
+fn no_such_link(w: &[u32], p: usize) -> bool {
+    let point = |number: u32| (number as usize) < points(w);
+    !point(w[NEXT + p]) || !point(w[PREV + p]) || w[REC + p] as usize >= records(w)
+}
+
+/// Owner and first point of a record; 65,535 means none in these two.
+fn no_such_name(w: &[u32], r: usize) -> bool {
+    let (owner, first) = (w[OWNER + r], w[FIRST + r]);
+    (owner != NONE && owner as usize >= records(w)) || (first != NONE && first as usize >= points(w))
+}
+
+/// Next of prev, or prev of next, isn't the point.
+fn loose(w: &[u32], p: usize) -> bool {
+    let (next, prev) = (w[NEXT + p] as usize, w[PREV + p] as usize);
+    w[NEXT + prev] as usize != p || w[PREV + next] as usize != p
+}
+
+/// Two records share a ring: a walk from a first point meets a point of an earlier record's ring.
+fn shared(w: &[u32]) -> bool {
+    let mut on = [usize::MAX; MOST_POINTS];
+    for record in (0..records(w)).filter(|&r| w[FIRST + r] != NONE) {
+        let mut at = w[FIRST + record] as usize;
+        while on[at] != record {
+            if on[at] != usize::MAX {
+                return true;
+            }
+            on[at] = record;
+            at = w[NEXT + at] as usize;
+        }
+    }
+    false
+}
+
+/// An unfinished closed ring whose mark has no meaning, or whose present place isn't on it.
+fn misplaced(w: &[u32], r: usize) -> bool {
+    if !is_live(w, r) {
+        return false;
+    }
+    let first = w[FIRST + r];
+    let mut at = first;
+    while at != w[PRESENT + r] {
+        at = w[NEXT + at as usize];
+        if at == first {
+            return true;
+        }
+    }
+    w[MARK + r] > DONE
+}

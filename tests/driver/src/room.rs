@@ -1,0 +1,73 @@
+// What one thread holds from case to case: buffers, the guarded Rust, the tally, and what the present case did so far.
+use crate::altered::Base;
+use crate::calls::{Calls, Fault};
+use crate::lent::Lent;
+use crate::tally::Tally;
+use crate::words::WORDS;
+use oracle::guard::Guard;
+
+/// Document 01's length that always suffices.
+pub const TRAY: usize = 17_920;
+
+pub type Same = Result<(), String>;
+
+pub fn expect(holds: bool, what: impl FnOnce() -> String) -> Same {
+    if holds {
+        Ok(())
+    } else {
+        Err(what())
+    }
+}
+
+pub struct Room {
+    pub guard: Guard,
+    pub calls: Calls,
+    pub work: Lent<u32>,
+    pub tray: Lent<u8>,
+    pub tally: Tally,
+    /// Kind `altered`: the work space that this row of cases starts from.
+    pub base: Base,
+    /// The present case's job, from a place in a longer slice on; and its calls and alterations in order, for the report.
+    pub paper: Vec<u8>,
+    pub at: usize,
+    pub trace: Vec<String>,
+}
+
+impl Room {
+    pub fn new(fault: Fault) -> Room {
+        Room {
+            guard: Guard::default(),
+            calls: Calls(fault),
+            work: Lent::new(WORDS + 64, 0x5a5a_5a5a),
+            tray: Lent::new(TRAY + 64, 0x5a),
+            tally: Tally::default(),
+            base: Base::default(),
+            paper: Vec::new(),
+            at: 0,
+            trace: Vec::new(),
+        }
+    }
+
+    /// Takes a job in, at any alignment.
+    pub fn start(&mut self, job: &[u8], at: usize) {
+        self.paper.clear();
+        self.paper.resize(at, 0xee);
+        self.paper.extend(job);
+        self.at = at;
+        self.trace.clear();
+    }
+
+    pub fn job(&self) -> &[u8] {
+        &self.paper[self.at..]
+    }
+
+    /// Nothing beside the lent slices was written.
+    pub fn margins(&self) -> Same {
+        expect(self.work.kept(), || "a word beside the work space is written".into())?;
+        expect(self.tray.kept(), || "a byte beside the tray is written".into())
+    }
+}
+
+pub fn all_zero<T: Copy + PartialEq + Default>(all: &[T]) -> bool {
+    all.iter().all(|x| *x == T::default())
+}

@@ -1,0 +1,75 @@
+// The work space as docs/WORKSPACE.md lays it out, written from that table and not from the code.
+use oracle::real::Pt;
+
+pub const WORDS: usize = 13_840;
+pub const MOST_POINTS: usize = 2048;
+pub const MOST_RECORDS: usize = 512;
+pub const NONE: u32 = 65_535;
+/// A coordinate's word is raised by this; twice this is the greatest.
+pub const RAISED: i64 = 1_048_576;
+
+pub const SETTINGS: usize = 0;
+pub const POINTS: usize = 1;
+pub const RECORDS: usize = 2;
+pub const X: usize = 16;
+pub const Y: usize = X + MOST_POINTS;
+pub const NEXT: usize = Y + MOST_POINTS;
+pub const PREV: usize = NEXT + MOST_POINTS;
+pub const REC: usize = PREV + MOST_POINTS;
+pub const FLAGS: usize = REC + MOST_POINTS;
+pub const OWNER: usize = FLAGS + MOST_RECORDS;
+pub const FIRST: usize = OWNER + MOST_RECORDS;
+pub const MARK: usize = FIRST + MOST_RECORDS;
+pub const PRESENT: usize = MARK + MOST_RECORDS;
+pub const START: usize = PRESENT + MOST_RECORDS;
+pub const CUT: usize = START + MOST_RECORDS;
+
+/// The marks: the four kinds of step, and done.
+pub const VALIDITY: u32 = 0;
+pub const REMOVAL: u32 = 1;
+pub const TRIANGLE: u32 = 2;
+pub const SPLIT: u32 = 3;
+pub const DONE: u32 = 4;
+
+pub fn points(w: &[u32]) -> usize {
+    w[POINTS] as usize
+}
+
+pub fn records(w: &[u32]) -> usize {
+    w[RECORDS] as usize
+}
+
+pub fn is_open(w: &[u32], record: usize) -> bool {
+    w[FLAGS + record] & 1 != 0
+}
+
+pub fn value(w: &[u32], point: usize) -> Pt {
+    (w[X + point] as i64 - RAISED, w[Y + point] as i64 - RAISED)
+}
+
+/// A record's ring: the points along next from the first; none where the walk does not come back.
+pub fn ring(w: &[u32], record: usize) -> Option<Vec<usize>> {
+    let first = w[FIRST + record];
+    let mut ring = Vec::new();
+    let mut at = first;
+    if first == NONE {
+        return Some(ring);
+    }
+    while ring.len() < MOST_POINTS && (at as usize) < MOST_POINTS {
+        ring.push(at as usize);
+        at = w[NEXT + at as usize];
+        if at == first {
+            return Some(ring);
+        }
+    }
+    None
+}
+
+pub fn values(w: &[u32], ring: &[usize]) -> Vec<Pt> {
+    ring.iter().map(|&point| value(w, point)).collect()
+}
+
+/// Whether a record has a closed ring that isn't done.
+pub fn is_live(w: &[u32], record: usize) -> bool {
+    !is_open(w, record) && w[FIRST + record] != NONE && w[MARK + record] != DONE
+}
