@@ -9,7 +9,7 @@ fn number(rng: &mut Rng, count: usize) -> u32 {
     match rng.below(12) {
         0 => count,
         1 => NONE,
-        2 => rng.pick(&[count + 1, 2047, 2048, 511, 512, NONE + 1, 65_536 + count, u32::MAX, 1 << 31]),
+        2 => rng.pick(&[count.wrapping_add(1), 2047, 2048, 511, 512, NONE + 1, count ^ 65_536, u32::MAX, 1 << 31]),
         3 => rng.bits() as u32,
         _ => rng.below(count.max(1) as usize) as u32,
     }
@@ -64,7 +64,8 @@ fn put(w: &mut [u32], at: usize, word: u32) -> String {
 fn count(w: &mut [u32], rng: &mut Rng) -> String {
     let (at, most) = rng.pick(&[(POINTS, MOST_POINTS as u32), (RECORDS, MOST_RECORDS as u32)]);
     let held = w[at];
-    let word = rng.pick(&[0, 1, held.wrapping_sub(1), held.wrapping_add(1), most, most + 1, most - 1, u32::MAX, 65_536]);
+    let word =
+        rng.pick(&[0, 1, held.wrapping_sub(1), held.wrapping_add(1), most, most + 1, most - 1, u32::MAX, 65_536]);
     put(w, at, word)
 }
 
@@ -129,7 +130,7 @@ fn exchange(w: &mut [u32], rng: &mut Rng) -> String {
 /// A point is taken out of its ring, links kept right; rings of one and of two points come of it.
 fn take_out(w: &mut [u32], rng: &mut Rng) -> String {
     let times = 1 + rng.below(6);
-    let mut said = format!("taken out:");
+    let mut said = "taken out:".to_string();
     for _ in 0..times {
         let Some(p) = ring_point(rng, w) else {
             break;
@@ -188,7 +189,7 @@ fn lone_point(w: &mut [u32], rng: &mut Rng) -> String {
 }
 
 /// A ring is somewhere else in its stepping: any mark, any place on it, any start.
-fn progress(w: &mut [u32], rng: &mut Rng) -> String {
+pub fn progress(w: &mut [u32], rng: &mut Rng) -> String {
     let Some(r) = some_record(rng, w) else {
         return "nothing".into();
     };

@@ -1,16 +1,17 @@
 // Kind `altered`: a work space after opening and some steps, some words altered; then steps and writing out against the plain
 // reading of the tests, then 12, then 10; where a step is carried out, against the model loaded from the words.
-use crate::alter::alter;
+use crate::alter::{alter, progress};
 use crate::calls::{Calls, Fault};
 use crate::finish::tray_length;
 use crate::model::{load, same_forest, stray};
 use crate::plain;
 use crate::room::{all_zero, expect, Room, Same};
+use crate::steps::act_name;
 use crate::words::*;
 use oracle::answer::Answer;
 use oracle::gen;
 use oracle::model::forest::{Entry, Forest};
-use oracle::model::lone::Due;
+use oracle::model::lone::{Act, Due};
 use oracle::rng::Rng;
 
 /// So many cases in a row start from one work space.
@@ -58,8 +59,10 @@ pub fn case(room: &mut Room, seed: u64, index: u64, rng: &mut Rng) -> Same {
     room.trace.extend(room.base.trace.iter().cloned());
     let past = rng.below(2) * rng.below(20);
     room.work.lend(WORDS + past, rng.bits() as u32)[..WORDS].copy_from_slice(&room.base.words);
+    // One case in three has rings elsewhere in their stepping only, so that steps are carried out there.
+    let change = if rng.one_in(3) { progress } else { alter };
     for _ in 0..1 + rng.below(3) {
-        let said = alter(&mut room.work.get_mut()[..WORDS], rng);
+        let said = change(&mut room.work.get_mut()[..WORDS], rng);
         room.trace.push(said);
     }
     if rng.one_in(30) {
@@ -89,17 +92,16 @@ fn which(room: &Room, rng: &mut Rng) -> u32 {
 }
 
 /// What a step comes to on words that passed the tests: the model's answer, and the model after it.
-fn model_step(w: &[u32], number: u32) -> (u32, Forest) {
+fn model_step(w: &[u32], number: u32) -> (Result<Act, u8>, Forest) {
     let mut model = load(w);
     if let Some(Entry::Closed { lone, .. }) = model.records.get_mut(number as usize) {
         // The Rust's triangle test compares prev with the next of next, which holds for one point as for three.
         if lone.due == Due::Triangle && lone.circle.len() == 1 {
             lone.due = Due::Done;
-            return (0, model);
+            return (Ok(Act::Settle), model);
         }
     }
-    let answer = model.step(number as usize).err().map_or(0, u32::from);
-    (answer, model)
+    (model.step(number as usize), model)
 }
 
 fn step(room: &mut Room, number: u32) -> Same {
@@ -107,25 +109,43 @@ fn step(room: &mut Room, number: u32) -> Same {
     let answer = room.calls.step(room.work.get_mut(), number);
     room.trace.push(format!("step {number}: {answer}"));
     room.tally.answer("step", answer);
-    let (theirs, model) = match plain::tests(&before) {
-        Err(refusal) => (refusal as u32, None),
+    let (act, model) = match plain::tests(&before) {
+        Err(refusal) => (Err(refusal), None),
         Ok(()) => {
-            let (answer, model) = model_step(&before, number);
-            (answer, Some(model))
+            let (act, model) = model_step(&before, number);
+            (act, Some(model))
         }
     };
+    let theirs = act.err().map_or(0, u32::from);
     expect(answer == theirs, || format!("the step answers {answer}, the plain reading {theirs}"))?;
     room.margins()?;
     let w = room.work.get();
-    let model = match model {
-        Some(model) if answer == 0 => model,
-        _ => return expect(w == before, || "a refused step leaves another word".into()),
+    let (Ok(act), Some(mut model)) = (act, model) else {
+        return expect(w == before, || "a refused step leaves another word".into());
     };
+    room.tally.event(act_name(act), 1);
     if let Some(at) = stray(&before, w, number as usize) {
         return Err(format!("a step on record {number} writes word {at}"));
     }
     expect(plain::tests(w).is_ok(), || "after a step the work space fails the tests".into())?;
+    meet_new_point(&mut model, &before, w, number as usize);
     same_forest(w, &model)
+}
+
+/// A start is only compared, so one that named no point names a new one as soon as that is made. The model has values, not numbers,
+/// and is told.
+fn meet_new_point(model: &mut Forest, before: &[u32], w: &[u32], r: usize) {
+    let start = w[START + r] as usize;
+    let ring = ring(w, r).unwrap_or_default();
+    let stale = before[START + r] as usize == start && start >= points(before);
+    let place = ring.iter().position(|&p| stale && p == start);
+    if let (Some(place), Entry::Closed { lone, .. }) = (place, &mut model.records[r]) {
+        let place = (place + lone.first) % lone.circle.len();
+        match &mut lone.due {
+            Due::Split { start, .. } if start.is_none() => *start = Some(place),
+            _ => {}
+        }
+    }
 }
 
 fn write(room: &mut Room, rng: &mut Rng) -> Same {
@@ -153,7 +173,9 @@ fn write(room: &mut Room, rng: &mut Rng) -> Same {
     room.margins()?;
     expect(room.work.get() == before, || "writing out changes a word".into())?;
     if number != 0 {
-        return expect(room.tray.get().iter().all(|b| *b == fill), || "a refused writing out leaves another byte".into());
+        return expect(room.tray.get().iter().all(|b| *b == fill), || {
+            "a refused writing out leaves another byte".into()
+        });
     }
     let (paths, rest) = room.tray.get().split_at(bytes.len());
     expect(paths == bytes, || "the paths' bytes written out".into())?;

@@ -136,8 +136,7 @@ impl Calls {
 
     pub fn finish(self, job: &[u8], work: &mut [u32], tray: &mut [u8]) -> u32 {
         let (bytes, n) = (tray.len(), work.len());
-        let answer =
-            unsafe { outline_finish(job.as_ptr(), job.len(), work.as_mut_ptr(), n, tray.as_mut_ptr(), bytes) };
+        let answer = unsafe { outline_finish(job.as_ptr(), job.len(), work.as_mut_ptr(), n, tray.as_mut_ptr(), bytes) };
         match (self.0, answer) {
             (Fault::FinishAnswer, 10) => return 9,
             (Fault::TrayByte, 0) => {

@@ -4,6 +4,7 @@ mod altered;
 mod calls;
 mod damage;
 mod finish;
+mod large;
 mod lent;
 mod model;
 mod open;
@@ -18,7 +19,8 @@ use calls::{Fault, FAULTS};
 use oracle::text::number;
 use runs::{Kind, Run, KINDS};
 
-const USAGE: &str = "usage: driver finish|steps|bytes|altered SEED COUNT THREADS [FROM]   or: driver faults SEED COUNT";
+const USAGE: &str =
+    "usage: driver finish|large|steps|bytes|altered SEED COUNT THREADS [FROM]   or: driver faults SEED COUNT";
 
 fn run_of(kind: &str, seed: &str, count: &str, threads: &str, from: u64) -> Result<Run, String> {
     let kind = Kind::named(kind).ok_or(USAGE)?;

@@ -3,7 +3,7 @@
 use crate::calls::Fault;
 use crate::room::{Room, Same};
 use crate::tally::Tally;
-use crate::{altered, damage, finish, open, steps};
+use crate::{altered, damage, finish, large, open, steps};
 use oracle::gen;
 use oracle::rng::Rng;
 use std::panic::{catch_unwind, AssertUnwindSafe};
@@ -16,13 +16,19 @@ const BLOCK: u64 = 64;
 #[derive(Clone, Copy, Debug, PartialEq)]
 pub enum Kind {
     Finish,
+    Large,
     Steps,
     Bytes,
     Altered,
 }
 
-pub const KINDS: [(&str, Kind); 4] =
-    [("finish", Kind::Finish), ("steps", Kind::Steps), ("bytes", Kind::Bytes), ("altered", Kind::Altered)];
+pub const KINDS: [(&str, Kind); 5] = [
+    ("finish", Kind::Finish),
+    ("large", Kind::Large),
+    ("steps", Kind::Steps),
+    ("bytes", Kind::Bytes),
+    ("altered", Kind::Altered),
+];
 
 impl Kind {
     pub fn named(name: &str) -> Option<Kind> {
@@ -40,6 +46,11 @@ impl Kind {
             Kind::Finish => {
                 room.start(&gen::job(seed, index), at);
                 finish::case(room, &mut rng)
+            }
+            Kind::Large => {
+                room.start(&large::job(&mut rng), at);
+                finish::case(room, &mut rng)?;
+                steps::case(room, &mut rng)
             }
             Kind::Steps => {
                 room.start(&gen::job(seed, index), at);
@@ -61,6 +72,9 @@ impl Kind {
             Kind::Finish => vec![("finish", (0..=11).collect())],
             Kind::Steps => {
                 vec![("open", (0..=10).collect()), ("step", vec![0, 10, 12]), ("write", vec![0, 10, 11, 12])]
+            }
+            Kind::Large => {
+                vec![("finish", vec![0, 9, 10, 11]), ("step", vec![0, 10, 12]), ("write", vec![0, 10, 11, 12])]
             }
             Kind::Bytes => vec![("open", (0..=10).collect()), ("finish", (0..=11).collect())],
             Kind::Altered => {

@@ -123,7 +123,8 @@ fn step(room: &mut Room, rng: &mut Rng, model: &mut Forest, number: u32) -> Resu
     Ok(answer)
 }
 
-fn act_name(act: Act) -> &'static str {
+/// What a step did, for the tally.
+pub fn act_name(act: Act) -> &'static str {
     match act {
         Act::Begin => "act: a test finds nothing",
         Act::Discard => "act: discard",
@@ -168,7 +169,9 @@ pub fn write_out(room: &mut Room, rng: &mut Rng, model: &Forest, words: usize, t
     room.margins()?;
     expect(room.work.get() == before, || "writing out changes a word".into())?;
     if number != 0 {
-        return expect(room.tray.get().iter().all(|b| *b == fill), || "a refused writing out leaves another byte".into());
+        return expect(room.tray.get().iter().all(|b| *b == fill), || {
+            "a refused writing out leaves another byte".into()
+        });
     }
     let (paths, rest) = room.tray.get().split_at(bytes.len());
     expect(paths == bytes, || "the paths' bytes written out".into())?;
