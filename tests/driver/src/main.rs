@@ -20,7 +20,8 @@ use oracle::text::number;
 use runs::{Kind, Run, KINDS};
 
 const USAGE: &str =
-    "usage: driver finish|large|steps|bytes|altered SEED COUNT THREADS [FROM]   or: driver faults SEED COUNT";
+    "usage: driver finish|large|steps|bytes|altered SEED COUNT THREADS [FROM], driver faults SEED COUNT, \
+                     or driver fault NAME KIND SEED COUNT";
 
 fn run_of(kind: &str, seed: &str, count: &str, threads: &str, from: u64) -> Result<Run, String> {
     let kind = Kind::named(kind).ok_or(USAGE)?;
@@ -60,6 +61,10 @@ fn run(words: &[&str]) -> Result<(), String> {
     }
     match words {
         ["faults", seed, count] => faults(number(seed)?, number(count)?),
+        ["fault", name, kind, seed, count] => {
+            let fault = FAULTS.into_iter().find(|fault| format!("{fault:?}") == *name).ok_or(USAGE)?;
+            Run { fault, ..run_of(kind, seed, count, "2", 0)? }.report()
+        }
         [kind, seed, count, threads] => run_of(kind, seed, count, threads, 0)?.report(),
         [kind, seed, count, threads, from] => run_of(kind, seed, count, threads, number(from)?)?.report(),
         // The guard starts this program again as the child in which the Rust may grow.
