@@ -1,5 +1,6 @@
-// Replays the stored jobs on standard input through `list_job`, with no Rust at hand, and prints each case's name, listing and tray. A case is two lines:
-// `case NAME` and `job HEX`. `tests/replay ORACLE` makes both files from what the real Rust answered; the file `stdout` is the oracle's.
+// Replays the stored jobs on standard input through `list_job`, with no Rust at hand, and prints each case's name, listing and tray. A case is two lines,
+// `case NAME` and `job HEX`; in the job a space begins a field, and `+N` after it is N more of it (see `again`). `tests/replay ORACLE crates/replay` makes both
+// files from what the real Rust answers.
 use job_listing::list_job;
 use libc::STDIN_FILENO;
 use libc::STDOUT_FILENO;
@@ -42,12 +43,19 @@ fn from(s: &[u8], at: usize) -> &[u8] {
     s
 }
 
-// The place where the line at a place ends.
-fn line_end(s: &[u8], at: usize) -> usize {
+fn back(at: usize, n: usize) -> usize {
+    if n <= at {
+        return at - n;
+    }
+    0
+}
+
+// The next place of a byte that is at most `stop`.
+fn end_of(s: &[u8], at: usize, stop: u8) -> usize {
     let mut i = at;
     let mut left: u32 = 100000;
     while left > 0 {
-        if byte(s, i) <= b'\n' {
+        if byte(s, i) <= stop {
             return i;
         }
         i = further(i, 1);
@@ -102,18 +110,123 @@ fn pair(s: &[u8], at: usize) -> u8 {
     high * 16 + low
 }
 
-// The job whose digits stand at a place, and how many bytes it has.
+fn more(v: usize, b: u8) -> usize {
+    if v < 1000 {
+        return further(v * 10, wide(value(b)));
+    }
+    v
+}
+
+// The decimal number at a place, of at most four digits.
+fn number(s: &[u8], at: usize) -> usize {
+    let mut i = at;
+    let mut v: usize = 0;
+    let mut left: u32 = 4;
+    while left > 0 {
+        let b = byte(s, i);
+        if b <= b' ' {
+            return v;
+        }
+        v = more(v, b);
+        i = further(i, 1);
+        left -= 1;
+    }
+    v
+}
+
+// The number of two bytes at a place, one higher.
+fn raise(job: &mut [u8], at: usize) {
+    let low = byte(job, at);
+    if low < 255 {
+        put(job, at, low + 1);
+        return;
+    }
+    put(job, at, 0);
+    let high = byte(job, further(at, 1));
+    if high < 255 {
+        put(job, further(at, 1), high + 1);
+    }
+}
+
+// The bytes before a place once more.
+fn double(job: &mut [u8], at: usize, size: usize) {
+    let mut i = at;
+    let mut left = size;
+    while left > 0 {
+        let v = byte(job, back(i, size));
+        put(job, i, v);
+        i = further(i, 1);
+        left -= 1;
+    }
+}
+
+// The field before a place once more; a point's next and prev are one higher.
+fn again(job: &mut [u8], at: usize, size: usize) -> usize {
+    double(job, at, size);
+    if size == 17 {
+        raise(job, further(at, 11));
+        raise(job, further(at, 13));
+        return further(at, size);
+    }
+    further(at, size)
+}
+
+fn repeat(job: &mut [u8], n: usize, size: usize, times: usize) -> usize {
+    let mut at = n;
+    let mut left = times;
+    while left > 0 {
+        at = again(job, at, size);
+        left -= 1;
+    }
+    at
+}
+
+// Where the last field begins, n bytes being there.
+fn begun(b: u8, start: usize, n: usize) -> usize {
+    if b == b' ' {
+        return n;
+    }
+    start
+}
+
+// How many bytes there are after what stands at a place.
+fn taken(s: &[u8], at: usize, start: usize, job: &mut [u8], n: usize) -> usize {
+    let b = byte(s, at);
+    if b == b' ' {
+        return n;
+    }
+    if b == b'+' {
+        return repeat(job, n, back(n, start), number(s, further(at, 1)));
+    }
+    put(job, n, pair(s, at));
+    further(n, 1)
+}
+
+fn past(s: &[u8], at: usize) -> usize {
+    let b = byte(s, at);
+    if b == b' ' {
+        return further(at, 1);
+    }
+    if b == b'+' {
+        return end_of(s, at, b' ');
+    }
+    further(at, 2)
+}
+
+// The job that stands at a place, and how many bytes it has.
 fn decode(s: &[u8], at: usize, job: &mut [u8]) -> usize {
     let mut i = at;
+    let mut start: usize = 0;
     let mut n: usize = 0;
-    let mut left: u32 = 42005;
+    let mut left: u32 = 100000;
     while left > 0 {
-        if byte(s, i) <= b' ' {
+        let b = byte(s, i);
+        if b <= b'\n' {
             return n;
         }
-        put(job, n, pair(s, i));
-        n = further(n, 1);
-        i = further(i, 2);
+        start = begun(b, start, n);
+        n = taken(s, i, start, job, n);
+        i = past(s, i);
         left -= 1;
     }
     n
@@ -188,13 +301,13 @@ fn one(
     tray: &mut [u8],
     text: &mut [u8],
 ) -> usize {
-    let end = line_end(s, at);
+    let end = end_of(s, at, b'\n');
     say_line(s, at, end);
     let from = further(end, 5);
     let n = decode(s, from, job);
     let k = io::count(signed(n), job);
     replay(&job[..k], work, tray, text);
-    further(line_end(s, from), 1)
+    further(end_of(s, from, b'\n'), 1)
 }
 
 // Every case.

@@ -6,10 +6,10 @@ use Rattle.replay.proofs.decode.Statement.{statement}
 use Rattle.replay.proofs.decode.Tie as tie
 
 abbrev Inv-loop : tie.InvT-loop
-Inv-loop s at job₀ i₀ n₀ left₀ job i n left = length job ≡ length job₀
+Inv-loop s at job₀ i₀ start₀ n₀ left₀ job i start n left = length job ≡ length job₀
 
 abbrev μ-loop : tie.MeasureT-loop
-μ-loop s at job₀ i₀ n₀ left₀ job i n left = left
+μ-loop s at job₀ i₀ start₀ n₀ left₀ job i start n left = left
 
 pub decode-spec : {M : Type 1} → statement M
 decode-spec =
@@ -21,7 +21,6 @@ decode-spec =
     (λ c κs. search needs)
     (λ c. search needs)
     (λ c. search needs)
-    (λ c κs. search needs)
     (λ c κs. search needs)
     (λ c κs. search needs)
     (λ c κs. search needs)

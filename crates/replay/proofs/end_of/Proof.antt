@@ -1,16 +1,16 @@
--- `replay::line_end` ends.
+-- `replay::end_of` ends.
 use borrow.Author.Needs.{needs}
-use Rattle.replay.proofs.line_end.Statement.{statement}
-use Rattle.replay.proofs.line_end.Tie as tie
+use Rattle.replay.proofs.end_of.Statement.{statement}
+use Rattle.replay.proofs.end_of.Tie as tie
 
 abbrev Inv-loop : tie.InvT-loop
-Inv-loop s at i₀ left₀ i left = Unit {0}
+Inv-loop s at stop i₀ left₀ i left = Unit {0}
 
 abbrev μ-loop : tie.MeasureT-loop
-μ-loop s at i₀ left₀ i left = left
+μ-loop s at stop i₀ left₀ i left = left
 
-pub line-end-spec : {M : Type 1} → statement M
-line-end-spec =
+pub end-of-spec : {M : Type 1} → statement M
+end-of-spec =
     tie.close
     (tie.spec
     Inv-loop
