@@ -4,3 +4,4 @@ pub mod Sorting
 pub mod Same
 pub mod Elements
 pub mod Lending
+pub mod Calling
