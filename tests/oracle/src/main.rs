@@ -58,6 +58,7 @@ fn run(words: &[&str]) -> Result<(), String> {
         ["vectors", "geometry", seed, count] => cases_of(vectors::geometry, number(seed)?, number(count)?),
         ["vectors", "paths", seed, count] => cases_of(vectors::path, number(seed)?, number(count)?),
         ["stepped", "make", folder] => stepped::make(folder),
+        ["stepped", "draw", seed, from, count] => stepped::draw(number(seed)?, number(from)?, number(count)?),
         ["stepped"] => stepped::answer(),
         ["child"] => guard::child(),
         _ => Err(USAGE.into()),

@@ -1,9 +1,11 @@
 // Cases of the program crate `stepped`: stored jobs and jobs written by hand, stepped in rising order, in reverse, in turn, or by a list. README.md has the formats.
 use crate::answer::Answer;
 use crate::batch::{read_part, write_part};
+use crate::gen;
 use crate::model::forest::{Entry, Forest, OUT_OF_TURN};
 use crate::model::lone::Due;
 use crate::oracle::{self, Oracle};
+use crate::rng::Rng;
 use crate::show;
 use crate::stored;
 use crate::text::{self, number};
@@ -13,6 +15,8 @@ use std::io::{self, BufReader, BufWriter, Write};
 const ACTS: usize = 150;
 /// So many stored jobs that make several rings are also stepped in other orders.
 const ORDERS: usize = 12;
+/// No longer job is drawn, so that a hundred cases fit the program's input.
+const LONGEST: usize = 2000;
 /// A start that is not on the ring.
 const NOWHERE: u16 = 65535;
 
@@ -126,10 +130,40 @@ fn numbers(part: &[u8]) -> Vec<u16> {
     part.chunks_exact(2).map(|pair| u16::from_le_bytes([pair[0], pair[1]])).collect()
 }
 
+/// A case drawn for a job: rising order; or a list of steps, wrong record numbers among them, after any progress of some records.
+fn drawn(job: Vec<u8>, rng: &mut Rng) -> Case {
+    let mut case = Case { job, ..Case::default() };
+    let Ok(forest) = start(&case) else { return case };
+    if rng.one_in(4) {
+        return case;
+    }
+    let altered = rng.one_in(2);
+    for record in busy(&forest) {
+        if altered && rng.one_in(2) {
+            let start = if rng.one_in(3) { NOWHERE } else { rng.below(9) as u16 };
+            case.progress.push([record as u16, rng.below(4) as u16, rng.below(9) as u16, start]);
+        }
+    }
+    let most = forest.records.len() + 3;
+    case.steps = (0..1 + rng.below(60)).map(|_| rng.below(most) as u16).collect();
+    case
+}
+
+/// The program's input for generated jobs of a seed that are not long.
+pub fn draw(seed: u64, from: u64, count: u64) -> Result<(), String> {
+    let jobs = (from..from + count).map(|index| (gen::job(seed, index), Rng::of(seed, !index)));
+    let short = jobs.filter(|(job, _)| job.len() <= LONGEST);
+    write_cases(short.map(|(job, mut rng)| drawn(job, &mut rng)).collect())
+}
+
 /// The program's input for a folder of cases.
 pub fn make(folder: &str) -> Result<(), String> {
     let mut cases = from_stored(&format!("{folder}/stored.txt"))?;
     cases.extend(by_hand(&format!("{folder}/steps.txt"))?);
+    write_cases(cases)
+}
+
+fn write_cases(cases: Vec<Case>) -> Result<(), String> {
     let mut output = BufWriter::new(io::stdout().lock());
     for case in cases {
         write_part(&mut output, &case.job)?;

@@ -105,11 +105,16 @@ impl Lone {
             Due::Validity if valid(&self.circle) => Act::Begin,
             Due::Validity => Act::Discard,
             Due::Removal { at, .. } => self.decide_removal(at, keep),
-            Due::Triangle if self.circle.len() == 3 => Act::Settle,
+            Due::Triangle if self.three() => Act::Settle,
             Due::Triangle => Act::Begin,
             Due::Split { at, .. } => self.decide_split(at),
             Due::Done => return None,
         })
+    }
+
+    /// The point before is the second after: three points, or one, which only others' progress brings to this test.
+    fn three(&self) -> bool {
+        self.before(self.first) == self.after(self.first, 2)
     }
 
     fn decide_removal(&self, at: usize, keep: bool) -> Act {
