@@ -51,6 +51,10 @@ pub enum Fault {
     StepStart,
     /// A step that makes an offcut names the record 0 as the one it was cut from.
     StepCut,
+    /// A step that makes an offcut leaves it without its ring's owner.
+    StepOwner,
+    /// Finishing in one call leaves another loop's start.
+    FinishStart,
     /// A step refused for its links says numbers.
     TestsOrder,
     /// A step on a muddled work space is carried out: answer 0.
@@ -61,7 +65,7 @@ pub enum Fault {
     WriteEarly,
 }
 
-pub const FAULTS: [Fault; 19] = [
+pub const FAULTS: [Fault; 21] = [
     Fault::FinishAnswer,
     Fault::TrayByte,
     Fault::PastPaths,
@@ -77,6 +81,8 @@ pub const FAULTS: [Fault; 19] = [
     Fault::StepFirst,
     Fault::StepStart,
     Fault::StepCut,
+    Fault::StepOwner,
+    Fault::FinishStart,
     Fault::TestsOrder,
     Fault::TestsLeft,
     Fault::WriteFound,
@@ -116,6 +122,7 @@ impl Calls {
             (Fault::StepFirst, 0) if is_live(work, r) => work[FIRST + r] = work[NEXT + work[FIRST + r] as usize],
             (Fault::StepStart, 0) if is_live(work, r) => work[START + r] = NONE,
             (Fault::StepCut, 0) if records(work) > held => work[CUT + held] = 0,
+            (Fault::StepOwner, 0) if records(work) > held => work[OWNER + held] ^= 1,
             (Fault::TestsOrder, 6) => return 5,
             (Fault::TestsLeft, 7) => return 0,
             (Fault::Beyond, 0) => unsafe { *work.as_mut_ptr().sub(1) = 1 },
@@ -147,6 +154,7 @@ impl Calls {
             (Fault::PastPaths, 0) if bytes == 17_920 && tray[bytes - 1] == 0 => tray[bytes - 1] = 1,
             (Fault::RefusedWord, 1..) if n > 0 => work[n - 1] = 1,
             (Fault::RefusedTray, 1..) if bytes > 0 => tray[bytes - 1] = 1,
+            (Fault::FinishStart, 0) if records(work) > 0 => work[START] ^= 1,
             (Fault::FinishOwner, 0) if records(work) > 1 => work[OWNER + 1] = 0,
             _ => {}
         }

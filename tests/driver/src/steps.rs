@@ -27,11 +27,14 @@ pub fn case(room: &mut Room, rng: &mut Rng) -> Same {
     same_forest(room.work.get(), &model)?;
     let whole = rng.one_in(8) || model.points <= FEW;
     let most = if whole { 8 * LONG } else { LONG / 4 };
-    steps(room, rng, &mut model, most)?;
+    let rising = steps(room, rng, &mut model, most)?;
     same_forest(room.work.get(), &model)?;
     expect(plain::tests(room.work.get()).is_ok(), || "the work space fails the tests".into())?;
     let done = (0..model.records.len()).all(|r| model.due(r) == Due::Done);
     room.tally.event(if done { "lists until all are done" } else { "lists that end before" }, 1);
+    if done && rising {
+        as_in_one_call(room)?;
+    }
     write_out(room, rng, &model, WORDS, TRAY)?;
     write_out(room, rng, &model, WORDS, 0)
 }
@@ -46,7 +49,8 @@ fn pick(rng: &mut Rng, busy: &[usize], order: usize) -> (usize, usize) {
     }
 }
 
-fn steps(room: &mut Room, rng: &mut Rng, model: &mut Forest, most: usize) -> Same {
+/// Steps until every ring is done or refuses, or so many were made; whether the rings were stepped in rising order.
+fn steps(room: &mut Room, rng: &mut Rng, model: &mut Forest, most: usize) -> Result<bool, String> {
     let mut busy: Vec<usize> = (0..model.records.len()).collect();
     let order = rng.below(5);
     let mut made = 0;
@@ -55,7 +59,7 @@ fn steps(room: &mut Room, rng: &mut Rng, model: &mut Forest, most: usize) -> Sam
         let (record, held) = (busy[at], model.records.len());
         for _ in 0..times {
             made += 1;
-            aside(room, rng, model)?;
+            aside(room, rng, model, order == 0)?;
             if step(room, rng, model, record as u32)? != 0 {
                 busy.remove(at);
                 break;
@@ -63,11 +67,20 @@ fn steps(room: &mut Room, rng: &mut Rng, model: &mut Forest, most: usize) -> Sam
         }
         busy.extend(held..model.records.len());
     }
+    Ok(order == 0)
+}
+
+/// Finishing in one call is the list that steps the rings in rising order: it leaves the same words.
+fn as_in_one_call(room: &mut Room) -> Same {
+    let mut work = vec![0; WORDS];
+    let answer = room.calls.finish(&room.paper[room.at..], &mut work, room.tray.lend(TRAY, 0));
+    expect(answer == 0 && work == room.work.get()[..WORDS], || "finishing in one call leaves other words".into())?;
+    room.tally.event("lists in rising order, the words as after finishing in one call", 1);
     Ok(())
 }
 
-/// Now and then a call that changes nothing: a step on a number of any size, one in a short work space, a writing out.
-fn aside(room: &mut Room, rng: &mut Rng, model: &mut Forest) -> Same {
+/// Now and then another call: a step on a number of any size, one in a short work space, a writing out.
+fn aside(room: &mut Room, rng: &mut Rng, model: &mut Forest, rising: bool) -> Same {
     let held = model.records.len() as u32;
     match rng.below(48) {
         0 => {
@@ -75,7 +88,7 @@ fn aside(room: &mut Room, rng: &mut Rng, model: &mut Forest) -> Same {
             let number = rng.pick(&[held, held + 1, 511, 512, 513, 65_535, 65_536, u32::MAX, 1 << 31, far]);
             step(room, rng, model, number).map(|_| ())
         }
-        1 => {
+        1 if !rising => {
             let any = rng.below(held.max(1) as usize) as u32;
             step(room, rng, model, any).map(|_| ())
         }
@@ -112,6 +125,9 @@ fn step(room: &mut Room, rng: &mut Rng, model: &mut Forest, number: u32) -> Resu
     if let Some(at) = stray(&before, w, record) {
         return Err(format!("a step on record {record} writes word {at}"));
     }
+    if records(w) > records(&before) {
+        new_offcut(w, record)?;
+    }
     if points(w) <= FEW || rng.one_in(16) {
         same_forest(w, model)?;
     } else {
@@ -121,6 +137,16 @@ fn step(room: &mut Room, rng: &mut Rng, model: &mut Forest, number: u32) -> Resu
     }
     room.tally.event(act_name(act), 1);
     Ok(answer)
+}
+
+/// The offcut that a cut has just made: closed, owned as its ring is, at its start, its points naming it.
+fn new_offcut(w: &[u32], record: usize) -> Same {
+    let r = records(w) - 1;
+    let ring = ring(w, r).ok_or("an offcut's ring that does not close")?;
+    let head = [w[FLAGS + r], w[OWNER + r], w[MARK + r], w[PRESENT + r], w[CUT + r]];
+    let theirs = [0, w[OWNER + record], VALIDITY, w[FIRST + r], record as u32];
+    expect(head == theirs, || format!("the offcut {r} has {head:?}, not {theirs:?}"))?;
+    expect(ring.len() == 3 && ring.iter().all(|p| w[REC + p] == r as u32), || format!("the points of the offcut {r}"))
 }
 
 /// What a step did, for the tally.
