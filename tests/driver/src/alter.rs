@@ -206,3 +206,29 @@ pub fn progress(w: &mut [u32], rng: &mut Rng) -> String {
     }
     format!("record {r} has mark {}, present place {at}, start {}", w[MARK + r], w[START + r])
 }
+
+/// A work space that no job made: a few points in circles, a few records, numbers that mostly name something.
+pub fn made_up(w: &mut [u32], rng: &mut Rng) -> String {
+    let (points, records) = (1 + rng.below(9), 1 + rng.below(4));
+    w.fill(rng.pick(&[0, NONE, u32::MAX]));
+    (w[SETTINGS], w[POINTS], w[RECORDS]) = (rng.below(4) as u32, points as u32, records as u32);
+    let mut next: Vec<usize> = (0..points).collect();
+    (1..points).rev().for_each(|k| next.swap(k, rng.below(k + 1)));
+    for p in 0..points {
+        (w[X + p], w[Y + p]) = ((1 << 20) + rng.below(9) as u32, (1 << 20) + rng.below(9) as u32);
+        w[NEXT + p] = next[p] as u32;
+        w[PREV + next[p]] = p as u32;
+        w[REC + p] = if rng.one_in(80) { number(rng, records) } else { rng.below(records) as u32 };
+    }
+    for r in 0..records {
+        let any = rng.below(points) as u32;
+        w[FLAGS + r] = rng.one_in(6) as u32;
+        w[OWNER + r] = if rng.one_in(20) { number(rng, records) } else { NONE };
+        w[FIRST + r] = if rng.one_in(3) { NONE } else { any };
+        w[MARK + r] = rng.pick(&[0, 1, 1, 2, 3, 3, 3, 4, 4, 5]);
+        w[PRESENT + r] = if rng.one_in(2) { any } else { rng.below(points) as u32 };
+        w[START + r] = if rng.one_in(4) { number(rng, points) } else { rng.below(points) as u32 };
+        w[CUT + r] = NONE;
+    }
+    format!("made up: {points} points, {records} records")
+}

@@ -1,6 +1,6 @@
 // Kind `altered`: a work space after opening and some steps, some words altered; then steps and writing out against the plain
 // reading of the tests, then 12, then 10; where a step is carried out, against the model loaded from the words.
-use crate::alter::{alter, progress};
+use crate::alter::{alter, made_up, progress};
 use crate::calls::{Calls, Fault};
 use crate::finish::tray_length;
 use crate::model::{load, same_forest, stray};
@@ -61,6 +61,10 @@ pub fn case(room: &mut Room, seed: u64, index: u64, rng: &mut Rng) -> Same {
     room.work.lend(WORDS + past, rng.bits() as u32)[..WORDS].copy_from_slice(&room.base.words);
     // One case in three has rings elsewhere in their stepping only, so that steps are carried out there.
     let change = if rng.one_in(3) { progress } else { alter };
+    if rng.one_in(8) {
+        let said = made_up(&mut room.work.get_mut()[..WORDS], rng);
+        room.trace.push(said);
+    }
     for _ in 0..1 + rng.below(3) {
         let said = change(&mut room.work.get_mut()[..WORDS], rng);
         room.trace.push(said);
