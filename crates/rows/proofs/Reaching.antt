@@ -3,11 +3,11 @@ use mathlib.Core.Path.{_≡_, refl, sym, ap, subst, _∙_}
 use mathlib.Core.Bool.{Bool, true, false, not, cond}
 use mathlib.Core.Logic.{_≢_}
 use mathlib.Core.List.{List}
-use Prim.Native.Nat.{ℕ, zero, suc, _-_, _<_, _≤_}
+use Prim.Native.Nat.{ℕ, zero, suc, _+_, _-_, _<_, _≤_}
 use native.Mathlib.Decide.{ℕ-discrete}
 use native.Mathlib.Omega.{arith}
 use lib.Dec.{eqb}
-use lib.ListN.{set, replicate}
+use lib.ListN.{length, set, replicate, length-replicate}
 use borrow.Author.Tests.{eq-eqb, ne-eqb, not-false}
 use Rattle.job.specs.Limits.{RECORDS}
 use Rattle.store.specs.Field.{NONE}
@@ -15,9 +15,9 @@ use Rattle.store.specs.Named.{firstOf, ownerOf, recordsOf}
 use Rattle.audit.specs.Tests.{anyBelow}
 use Rattle.audit.proofs.Saying.{none-of}
 use Rattle.rows.specs.Owners.{endsIn, circles, findIn}
-use Rattle.rows.specs.Tables.{UNKNOWN, entry, homeOf, Homes}
+use Rattle.rows.specs.Tables.{UNKNOWN, entry, homeOf, Homes, Noted, Found}
 use Rattle.rows.proofs.Chains.{ends-on, ends-over, here, nowhere, hop}
-use Rattle.rows.proofs.Tabling.{blank, known-set}
+use Rattle.rows.proofs.Tabling.{blank, known-set, right-set, right-here}
 
 never : {A : Type 0} {b : Bool} → b ≡ true → b ≡ false → A
 never e f = absurd (let z : _≡_ {A = ℕ} 0 1 = cc in omega arith)
@@ -68,11 +68,68 @@ module _ {w : List ℕ} {r q left : ℕ} (g : Toward w r q left) where
           let v : findIn 511 (firstOf w) (ownerOf w) o ≡ homeOf w r = hop (firstOf w) (ownerOf w) q (homeOf w r) RECORDS a o (omega arith) d k e n (g .same) in
           record { few = omega (arith, g .few); ends = s; same = x ∙ sym y ∙ v }
 
-  pub home-noted : {hs : List ℕ} → Homes w hs → (h : ℕ) → h ≡ homeOf w r → (hs′ : List ℕ) → hs′ ≡ set hs q h → Homes w hs′
-  home-noted {hs} t h e hs′ d = rw d (record { known = known-set (λ x y. y ≡ homeOf w x) hs q h (t .known) (e ∙ sym (g .same)) })
+-- the same while r's home is written down: hs₀ is the table before, hs the table now
+pub record Along (w : List ℕ) (r : ℕ) (hs₀ : List ℕ) (q left : ℕ) (hs : List ℕ) : Type 0 where
+  pub way : Toward w r q left
+  pub homes : Homes w hs
+  pub kept : (x : ℕ) → entry hs₀ x ≡ homeOf w x → entry hs x ≡ homeOf w x
+  pub here : (q ≡ r → ⊥) → r < length hs₀ → entry hs r ≡ homeOf w r
+
+pub along : {w hs : List ℕ} → Homes w hs → (r : ℕ) → circles w r ≡ false → Along w r hs r RECORDS hs
+along {w} {hs} t r e = record { way = toward w r e; homes = t; kept = λ x y. y; here = λ n. absurd (n refl) }
+
+module _ {w : List ℕ} {r : ℕ} {hs₀ : List ℕ} {q left : ℕ} {hs : List ℕ} (g : Along w r hs₀ q left hs) where
+  -- a record that is known
+  pub known-along : (k : ℕ) → k ≡ entry hs q → (k ≡ UNKNOWN → ⊥) → Noted w hs₀ r hs
+  known-along k e n = record { homes = g .homes; kept = g .kept; here = λ l. by (ℕ-discrete q r) l }
+    where
+      by : Dec (q ≡ r) → r < length hs₀ → entry hs r ≡ homeOf w r
+      by (yes d) l = rw (← d) (g .homes .known q (λ y. n (e ∙ y)))
+      by (no d) l = g .here d l
+
+  pub spent-along : left ≤ 0 → Noted w hs₀ r hs
+  spent-along l = never refl (ends-over (ownerOf w) q false left l (ap not (g .way .ends)))
+
+  -- a record that is not
+  module _ (h : ℕ) (e : h ≡ homeOf w r) (hs′ : List ℕ) (d : hs′ ≡ set hs q h) (s : length hs ≡ length hs₀) where
+    pub put-along : Noted w hs₀ r hs′
+    put-along =
+        let v : h ≡ homeOf w q = e ∙ sym (g .way .same) in
+        rw d
+        (record {
+          homes = record { known = known-set (λ x y. y ≡ homeOf w x) hs q h (g .homes .known) v };
+          kept = λ x y. right-set (homeOf w) hs q h v x (g .kept x y);
+          here = λ l. by (ℕ-discrete q r) v l;
+        })
+      where
+        by : Dec (q ≡ r) → h ≡ homeOf w q → r < length hs₀ → entry (set hs q h) r ≡ homeOf w r
+        by (yes k) v l = rw (← k) (right-here (homeOf w) hs q h v (rw (k, s) l))
+        by (no k) v l = right-set (homeOf w) hs q h v r (g .here k l)
+
+    pub on-along : (a : ℕ) → a ≡ firstOf w q → a ≡ NONE → (o : ℕ) → o ≡ ownerOf w q → 0 < left → (o ≡ NONE → ⊥) → Along w r hs₀ o (left - 1) hs′
+    on-along a b k o c z n =
+        let t = put-along in
+        record { way = toward-on (g .way) a b k o c z n; homes = t .homes; kept = t .kept; here = λ _ l. t .here l }
 
 pub homes-blank : (w hs : List ℕ) → hs ≡ replicate 512 UNKNOWN → Homes w hs
 homes-blank w hs e = rw e (record { known = λ r k. absurd (k (blank r)) })
+
+pub none-found : (w hs : List ℕ) → hs ≡ replicate 512 UNKNOWN → Found w hs 0
+none-found w hs e = record { homes = homes-blank w hs e; each = λ r h. absurd (omega arith) }
+
+module _ {w hs₀ hs : List ℕ} {i : ℕ} (g : Found w hs i) (b : hs₀ ≡ replicate 512 UNKNOWN) (s : length hs ≡ length hs₀) where
+  pub more-found : {hs′ : List ℕ} → Noted w hs i hs′ → (n : ℕ) → i < n → n ≡ recordsOf w → recordsOf w ≤ RECORDS → Found w hs′ (i + 1)
+  more-found {hs′} t n l e f = record { homes = t .homes; each = λ r h. by r h (ℕ-discrete r i) }
+    where
+      long : length hs ≡ 512
+      long = s ∙ ap length b ∙ length-replicate {A = ℕ} 512 UNKNOWN
+
+      by : (r : ℕ) → r < i + 1 → Dec (r ≡ i) → entry hs′ r ≡ homeOf w r
+      by r h (yes d) = rw d (t .here (omega (arith, long)))
+      by r h (no d) = t .kept r (g .each r (omega (arith, d)))
+
+pub all-found : {w hs : List ℕ} {i : ℕ} → Found w hs i → (n : ℕ) → n ≤ i → n ≡ recordsOf w → Found w hs (recordsOf w)
+all-found g n l e = record { homes = g .homes; each = λ r h. g .each r (omega arith) }
 
 pub by-table : {w hs : List ℕ} → Homes w hs → (r h : ℕ) → h ≡ entry hs r → (h ≡ UNKNOWN → ⊥) → h ≡ homeOf w r
 by-table t r h e k = e ∙ t .known r (λ y. k (e ∙ y))

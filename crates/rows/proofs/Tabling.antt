@@ -45,3 +45,16 @@ module _ (P : ℕ → ℕ → Type 0) (t : List ℕ) (r n : ℕ) (h : (x : ℕ) 
       by true e (no d) =
           let s : entry (set t r n) x ≡ entry t x = getD-set-other t r x n UNKNOWN d in
           subst (P x) (sym s) (h x (λ y. k (s ∙ y)))
+
+-- what is right of a record's number stays so, if r's new one is right
+module _ (v : ℕ → ℕ) (t : List ℕ) (r n : ℕ) (p : n ≡ v r) where
+  pub right-set : (x : ℕ) → entry t x ≡ v x → entry (set t r n) x ≡ v x
+  right-set x e = by (ltb r (length t)) refl (ℕ-discrete x r)
+    where
+      by : (b : Bool) → ltb r (length t) ≡ b → Dec (x ≡ r) → entry (set t r n) x ≡ v x
+      by false f d = rw (set-out t r n (ltb-false r (length t) f)) e
+      by true f (yes d) = rw d (getD-set-same t r n UNKNOWN (ltb-true r (length t) f) ∙ p)
+      by true f (no d) = getD-set-other t r x n UNKNOWN d ∙ e
+
+  pub right-here : r < length t → entry (set t r n) r ≡ v r
+  right-here h = getD-set-same t r n UNKNOWN h ∙ p

@@ -1,11 +1,11 @@
--- Tables of what is known of owner chains, so that each chain is followed once.
-use Prim.Native.Nat.{ℕ, _≤_}
+-- Tables of what is known of owner chains, so that each is followed once.
+use Prim.Native.Nat.{ℕ, _<_, _≤_}
 use mathlib.Core.Path.{_≡_}
 use mathlib.Core.Logic.{_≢_}
 use mathlib.Core.Bool.{not}
 use mathlib.Core.List.{List}
 use lib.Dec.{leb}
-use lib.ListN.{getD}
+use lib.ListN.{length, getD}
 use Rattle.job.specs.Limits.{RECORDS}
 use Rattle.store.specs.Named.{firstOf, ownerOf}
 use Rattle.rows.specs.Owners.{endsIn, circles, findIn}
@@ -39,3 +39,14 @@ homeOf w r = findIn RECORDS (firstOf w) (ownerOf w) r
 -- the table of homes: a record's number is what it resolves to
 pub record Homes (w hs : List ℕ) : Type 0 where
   pub known : (r : ℕ) → entry hs r ≢ UNKNOWN → entry hs r ≡ homeOf w r
+
+-- after record r's home was written down along its chain: r has it, and what was known still is
+pub record Noted (w hs : List ℕ) (r : ℕ) (hs′ : List ℕ) : Type 0 where
+  pub homes : Homes w hs′
+  pub kept : (x : ℕ) → entry hs x ≡ homeOf w x → entry hs′ x ≡ homeOf w x
+  pub here : r < length hs → entry hs′ r ≡ homeOf w r
+
+-- the home of every record below n is in the table
+pub record Found (w hs : List ℕ) (n : ℕ) : Type 0 where
+  pub homes : Homes w hs
+  pub each : (r : ℕ) → r < n → entry hs r ≡ homeOf w r

@@ -10,11 +10,12 @@ ghost use mathlib.Core.Path.{_≡_};
 ghost use mathlib.Core.Bool.{false};
 ghost use Prim.Native.Nat.{ℕ, _≤_};
 ghost use lib.ListN.{length, replicate};
+ghost use Rattle.job.specs.Limits.{RECORDS};
 ghost use Rattle.store.specs.Field.{LENGTH};
 ghost use Rattle.store.specs.Named.{recordsOf};
 ghost use Rattle.audit.specs.Tests.{anyBelow};
 ghost use Rattle.rows.specs.Owners.{circles};
-ghost use Rattle.rows.specs.Tables.{UNKNOWN, homeOf, Homes};
+ghost use Rattle.rows.specs.Tables.{UNKNOWN, homeOf, Homes, Noted, Found};
 
 const NONE: usize = 65535;
 
@@ -46,7 +47,7 @@ fn reach(w: &[u32], homes: &[usize], r: usize) -> usize
 // Writes down h, what record r resolves to, along its chain, up to a record that is known or has points.
 fn note(w: &[u32], homes: &mut [usize], r: usize, h: usize)
     requires { ⌜ (LENGTH ≤ length (now w)) × Homes (now w) (now homes) × (circles (now w) r ≡ false) × (h ≡ homeOf (now w) r) ⌝ }
-    ensures { λ _. ⌜ Homes (now (w .entry)) (now (homes .exit)) ⌝ }
+    ensures { λ _. ⌜ Noted (now (w .entry)) (now (homes .entry)) r (now (homes .exit)) ⌝ }
 {
     let mut q = r;
     let mut left: usize = Job::RECORDS;
@@ -70,8 +71,8 @@ fn note(w: &[u32], homes: &mut [usize], r: usize, h: usize)
 
 // The table of a job whose owner chains end.
 pub fn find_all(w: &[u32], homes: &mut [usize])
-    requires { ⌜ (LENGTH ≤ length (now w)) × (now homes ≡ replicate 512 UNKNOWN) × (anyBelow (recordsOf (now w)) (circles (now w)) ≡ false) ⌝ }
-    ensures { λ _. ⌜ Homes (now (w .entry)) (now (homes .exit)) ⌝ }
+    requires { ⌜ (LENGTH ≤ length (now w)) × (recordsOf (now w) ≤ RECORDS) × (now homes ≡ replicate 512 UNKNOWN) × (anyBelow (recordsOf (now w)) (circles (now w)) ≡ false) ⌝ }
+    ensures { λ _. ⌜ Found (now (w .entry)) (now (homes .exit)) (recordsOf (now (w .entry))) ⌝ }
 {
     let n = get(w, Col::Records, 0);
     let mut i: usize = 0;

@@ -4,13 +4,13 @@ use Prim.Native.Nat.{_-_, _≤_}
 use lib.ListN.{length}
 use borrow.Author.Needs.{needs}
 use Rattle.store.specs.Named.{recordsOf}
-use Rattle.rows.specs.Tables.{Homes}
-use Rattle.rows.proofs.Reaching.{homes-blank, no-circle}
+use Rattle.rows.specs.Tables.{Found}
+use Rattle.rows.proofs.Reaching.{none-found, no-circle, more-found, all-found}
 use Rattle.rows.proofs.resolving.find_all.Statement.{statement}
 use Rattle.rows.proofs.resolving.find_all.Tie as tie
 
 abbrev Inv-loop : tie.InvT-loop
-Inv-loop w homes₀ n i₀ homes i = (i ≤ recordsOf w) × Homes w homes × (length homes ≡ length homes₀)
+Inv-loop w homes₀ n i₀ homes i = (i ≤ recordsOf w) × Found w homes i × (length homes ≡ length homes₀)
 
 abbrev μ-loop : tie.MeasureT-loop
 μ-loop w homes₀ n i₀ homes i = recordsOf w - i
@@ -22,11 +22,11 @@ find-all-spec =
     Inv-loop
     μ-loop
     (λ c κs. search needs)
-    (λ c. (search needs, search (needs, homes-blank), refl))
+    (λ c. (search needs, search (needs, none-found), refl))
     (λ c κs. search (needs, no-circle))
     (λ c κs. search (needs, no-circle))
     (λ c. search needs)
     (λ c. search needs)
-    (λ c. (search needs, search needs, search needs))
+    (λ c. (search needs, search (needs, more-found), search needs))
     (λ c. search needs)
-    (λ c. search needs))
+    (λ c. search (needs, all-found)))

@@ -2,13 +2,12 @@
 use mathlib.Core.Path.{_≡_, refl}
 use lib.ListN.{length}
 use borrow.Author.Needs.{needs}
-use Rattle.rows.specs.Tables.{homeOf, Homes}
-use Rattle.rows.proofs.Reaching.{Toward, toward, toward-on, home-noted}
+use Rattle.rows.proofs.Reaching.{Along, along, known-along, put-along, on-along, spent-along}
 use Rattle.rows.proofs.resolving.note.Statement.{statement}
 use Rattle.rows.proofs.resolving.note.Tie as tie
 
 abbrev Inv-loop : tie.InvT-loop
-Inv-loop w homes₀ r h q₀ left₀ homes q left = Toward w r q left × Homes w homes × (length homes ≡ length homes₀)
+Inv-loop w homes₀ r h q₀ left₀ homes q left = Along w r homes₀ q left homes × (length homes ≡ length homes₀)
 
 abbrev μ-loop : tie.MeasureT-loop
 μ-loop w homes₀ r h q₀ left₀ homes q left = left
@@ -19,19 +18,19 @@ note-spec =
     (tie.spec
     Inv-loop
     μ-loop
-    (λ c. (search (needs, toward), search needs, refl))
+    (λ c. (search (needs, along), refl))
     (λ c κs. search needs)
     (λ c. search needs)
-    (λ c. search needs)
+    (λ c. search (needs, known-along))
     (λ c κs. search needs)
     (λ c κs. search needs)
     (λ c. search needs)
-    (λ c. search (needs, home-noted))
+    (λ c. search (needs, put-along))
     (λ c κs. search needs)
     (λ c. search needs)
-    (λ c. search (needs, home-noted))
+    (λ c. search (needs, put-along))
     (λ c. search needs)
     (λ c. search needs)
-    (λ c. (search (needs, toward-on), search (needs, home-noted), search needs))
+    (λ c. (search (needs, on-along), search needs))
     (λ c. search needs)
-    (λ c. search needs))
+    (λ c. search (needs, spent-along)))
