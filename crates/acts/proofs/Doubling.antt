@@ -111,8 +111,8 @@ module _ (W : Type 0) (v : W) (s : Store) (o : Sound s) (i : ℕ) (c : Closed s 
         low k p (yes q) = omega arith
         low k p (no n) = omega (arith, whole₀ .below k (split-in k p n))
 
-    aside : (t : ℕ) → t < pts s → place t (s (rc PRESENT) i ∷ y ∷ r ++ (pts s ∷ [])) ≡ place t (s (rc PRESENT) i ∷ b .others)
-    aside t l = place-before t (s (rc PRESENT) i ∷ y ∷ r) (pts s ∷ []) (omega (arith, one-else t (pts s) (λ q. omega arith))) ∙ ap (λ (n : List ℕ). place t (s (rc PRESENT) i ∷ n)) (sym e)
+    aside : (t : ℕ) → t ≢ pts s → place t (s (rc PRESENT) i ∷ y ∷ r ++ (pts s ∷ [])) ≡ place t (s (rc PRESENT) i ∷ b .others)
+    aside t n = place-before t (s (rc PRESENT) i ∷ y ∷ r) (pts s ∷ []) (omega (arith, one-else t (pts s) (λ q. n (sym q)))) ∙ ap (λ (m : List ℕ). place t (s (rc PRESENT) i ∷ m)) (sym e)
 
     first-low : s (rc FIRST) i < pts s
     first-low = b .whole .below (s (rc FIRST) i) (place-on (s (rc FIRST) i) (b .far) (s (rc PRESENT) i ∷ b .others) (b .first-at))
@@ -124,7 +124,7 @@ module _ (W : Type 0) (v : W) (s : Store) (o : Sound s) (i : ℕ) (c : Closed s 
           present-is = refl;
           mark-is = hit i _ _;
           whole = whole′;
-          first-at = aside (s (rc FIRST) i) first-low ∙ b .first-at;
+          first-at = aside (s (rc FIRST) i) (λ q. omega (arith, first-low)) ∙ b .first-at;
           start-at = refl;
         }
 
@@ -156,7 +156,7 @@ module _ (W : Type 0) (v : W) (s : Store) (o : Sound s) (i : ℕ) (c : Closed s 
           cut-from = refl;
           start-in = λ l. omega arith;
           ring = λ started. lone-is (onStore s (doubleWrites s i vx vy d)) i _ _ _ _ d positioned
-              ∙ ap (λ (st : Option ℕ). tidyAt (s (rc PRESENT) i ∷ y ∷ r ++ (pts s ∷ [])) (b .far) st d) (aside (s (rc START) i) started)
+              ∙ ap (λ (st : Option ℕ). tidyAt (s (rc PRESENT) i ∷ y ∷ r ++ (pts s ∷ [])) (b .far) st d) (aside (s (rc START) i) (started v refl))
               ∙ ap (λ (l : List ℕ). tidy (apply (λ (v : W). pts s) (double v d) (record { circle = s (rc PRESENT) i ∷ l; first = b .far; start = place (s (rc START) i) (s (rc PRESENT) i ∷ b .others); due = d₀ }))) (sym e)
               ∙ ap (λ (R : Ring ℕ). tidy (apply (λ (v : W). pts s) (double v d) R)) (sym (b .lone-is));
           made = refl;

@@ -187,6 +187,10 @@ module _ (W : Type 0) (v : W) (s s₁ : Store) (o : Sound s) (i : ℕ) (c : Clos
   takes-is true = refl
   takes-is false = refl
 
+  new-same : (put : Bool) → ringsNew (cut v put false d) ≡ ringsNew (cut v put true d)
+  new-same true = refl
+  new-same false = refl
+
   pub offcut-steps : Stepped {W = W} s (onStore s₁ (offcutWrites s₁ i (s (rc PRESENT) i) y vx vy)) i (cut v put true d)
   offcut-steps =
       record {
@@ -196,7 +200,7 @@ module _ (W : Type 0) (v : W) (s s₁ : Store) (o : Sound s) (i : ℕ) (c : Clos
         flags = N .records FLAGS i h₁ not-new ∙ t .flags;
         cut-from = N .records CUT i h₁ not-new ∙ t .cut-from;
         start-in = λ l. rw (N .records START i h₁ not-new) (omega (arith, t .start-in l));
-        ring = λ started. lone-other s₁ (onStore s₁ (offcutWrites s₁ i (s (rc PRESENT) i) y vx vy)) (t .sound) (recs s₁) N i h₁ not-new (rw (t .flags) (c .closed)) ∙ t .ring started;
+        ring = λ started. lone-other s₁ (onStore s₁ (offcutWrites s₁ i (s (rc PRESENT) i) y vx vy)) (t .sound) (recs s₁) N i h₁ not-new (rw (t .flags) (c .closed)) ∙ t .ring (λ w h. started w (sym (new-same put) ∙ h));
         made = (
           ap suc (t .made),
           ap (λ (n : ℕ). loneAt (onStore s₁ (offcutWrites s₁ i (s (rc PRESENT) i) y vx vy)) n) (sym (t .made)) ∙ offcut-lone s₁ (t .sound) i (s (rc PRESENT) i) y vx vy h₁ q hx hy room more₁ ∙ ap (λ (n : ℕ). atStart (n ∷ s (rc PRESENT) i ∷ y ∷ [])) (t .points ∙ ap (λ (n : ℕ). pts s + n) (count-is put)) ∙ ap (λ (l : List ℕ). atStart ((pts s + count (ringsNew (cut v put true d))) ∷ take 2 l)) (sym circle-is),

@@ -25,11 +25,11 @@ use Rattle.acts.specs.Opened.{table, Fresh, openedAt, records}
 use Rattle.acts.specs.Rep.{value, Shows, as-ringless, as-open, as-closed, Rep, RepW}
 use Rattle.acts.specs.Step.{runW}
 
-length-table : {A : Type 0} (g : ℕ → A) (k n : ℕ) → length (table g k n) ≡ n
+pub length-table : {A : Type 0} (g : ℕ → A) (k n : ℕ) → length (table g k n) ≡ n
 length-table g k zero = refl
 length-table g k (suc n) = ap suc (length-table g (suc k) n)
 
-at-table : {A : Type 0} (g : ℕ → A) (d : A) (k n i : ℕ) → i < n → getD (table g k n) i d ≡ g (k + i)
+pub at-table : {A : Type 0} (g : ℕ → A) (d : A) (k n i : ℕ) → i < n → getD (table g k n) i d ≡ g (k + i)
 at-table g d k zero i h = absurd (omega arith)
 at-table g d k (suc n) zero h = ap g (omega arith)
 at-table g d k (suc n) (suc i) h = at-table g d (suc k) n i (le-of-suc-le-suc h) ∙ ap g (omega arith)

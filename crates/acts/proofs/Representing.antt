@@ -42,10 +42,11 @@ pub record Stepped {W : Type 0} (s s′ : Store) (i : ℕ) (act : Act W) : Type 
   pub flags : s′ (rc FLAGS) i ≡ s (rc FLAGS) i
   pub cut-from : s′ (rc CUT) i ≡ s (rc CUT) i
   pub start-in : s (rc START) i < pts s → s′ (rc START) i < pts s′
-  pub ring : s (rc START) i < pts s → loneAt s′ i ≡ tidy (apply (λ (v : W). pts s) act (loneAt s i))
+  -- where the act puts a point into the ring, the start was not its number
+  pub ring : ((v : W) → ringsNew act ≡ some v → s (rc START) i ≢ pts s) → loneAt s′ i ≡ tidy (apply (λ (v : W). pts s) act (loneAt s i))
   pub made : Makes s s′ i (offcut (λ (v : W). pts s + count (ringsNew act)) act (loneAt s i))
 
-map-agree : {P : Type 0} (value val′ : ℕ → P) (c : List ℕ) → ((k : ℕ) → 0 < occ k c → val′ k ≡ value k) → map val′ c ≡ map value c
+pub map-agree : {P : Type 0} (value val′ : ℕ → P) (c : List ℕ) → ((k : ℕ) → 0 < occ k c → val′ k ≡ value k) → map val′ c ≡ map value c
 map-agree value val′ [] h = refl
 map-agree value val′ (x ∷ xs) h = cc (h x (occ-first x xs), map-agree value val′ xs (λ k l. h k (omega arith)))
   where
@@ -75,7 +76,7 @@ module _ {P : Type 0} (of : ℕ → ℕ → P) (s s′ : Store) (o : Sound s) (i
   val-kept : (k : ℕ) → k < pts s → value of s′ k ≡ value of s k
   val-kept k l = cc (K .xs k l, K .ys k l)
 
-  on-ring : (j : ℕ) → j < recs s → (k : ℕ) → 0 < occ k (ringAt s j) → value of s′ k ≡ value of s k
+  pub on-ring : (j : ℕ) → j < recs s → (k : ℕ) → 0 < occ k (ringAt s j) → value of s′ k ≡ value of s k
   on-ring j l k p = val-kept k (o .good j l .points-in k p .below)
 
   pub lone-kept : (j : ℕ) → j < recs s → isOpen s j ≡ false → mapRing (value of s′) (loneAt s j) ≡ mapRing (value of s) (loneAt s j)
@@ -125,7 +126,7 @@ module _ {P : Type 0} (of : ℕ → ℕ → P) (G : Geo P) (s s′ : Store) (F :
     samePoint = lone-kept of s s′ (r .sound) i (t .kept) i (own .known) (own .closed)
 
     next-is : stepRing G (L .now) ≡ mapRing (value of s′) (loneAt s′ i)
-    next-is = ap (stepRing G) (own .now-is) ∙ sym (step-values G (value of s) (value of s′) (loneAt s i) samePoint (pts s) ha) ∙ ap (mapRing (value of s′)) (sym (t .ring (own .started)))
+    next-is = ap (stepRing G) (own .now-is) ∙ sym (step-values G (value of s) (value of s′) (loneAt s i) samePoint (pts s) ha) ∙ ap (mapRing (value of s′)) (sym (t .ring (λ v h z. omega (arith, own .started))))
 
     offcut-is : offcutRing G (L .now) ≡ omap (mapRing (value of s′)) (offcut (λ (v : P). pts s + count (ringsNew act)) act (loneAt s i))
     unfolding act

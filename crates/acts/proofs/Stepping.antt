@@ -44,7 +44,7 @@ no-ok e f = let y : _≡_ {A = ℕ} 0 1 = cc in omega arith
 
 module _ {P : Type 0} (G : Geo P) (f : Coding P) where
   -- an act cuts off as many rings as it takes records
-  cut-count : (act : Act P) (R : Ring P) → length (toList (offcut (λ (v : P). v) act R)) ≡ takesRecord act
+  pub cut-count : (act : Act P) (R : Ring P) → length (toList (offcut (λ (v : P). v) act R)) ≡ takesRecord act
   cut-count stay R = refl
   cut-count discard R = refl
   cut-count dropPoint R = refl
