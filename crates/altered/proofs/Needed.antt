@@ -1,0 +1,48 @@
+-- Why a start may not be the number of the point that a step puts in: a ring of five points whose start word is 5. The tests pass. The first step cuts the ring and
+-- puts point 5 in, so the start is now a point of the ring, and the second step ends the loop there, as the Rust's comparison of numbers would. The ring by value
+-- had no start, has none now, and goes on.
+use Prim.Native.Nat.{ℕ}
+use mathlib.Core.Path.{_≡_, refl}
+use mathlib.Core.List.{List, [], _∷_, _++_}
+use lib.Ieee.{toSigned, add, ofInt, mul}
+use lib.ListN.{replicate}
+use Rattle.rings.specs.Progress.{mapRing, split, done}
+use Rattle.rings.specs.Walk as walk
+use Rattle.geometry.specs.Plane.{samePoint, isCollinear, dotProductThreePoints, areaTriangle, areaOutpt, ptsReallyClose, isVerySmallTriangle, removable, strictlyWithin, segmentsIntersect}
+use Rattle.geometry.specs.Crossing.{fractionOf, crossing, coordinateAt, getSegmentIntersectPt}
+use Rattle.lone.specs.Lone.{removalTurn, doSplitOp, splitTurn, decide, actOf, stepRing}
+use Rattle.store.specs.Field.{pt, rc, ct, X, Y, NEXT, PREV, OWNER, MARK, PRESENT, START, CUT, POINTS, RECORDS, NONE, LENGTH}
+use Rattle.store.specs.Words.{Write, write, cell, put, view, onWords}
+use Rattle.store.specs.Sound.{loneAt}
+use Rattle.store.specs.Value.{wordOf}
+use Rattle.audit.specs.declared.Verdict.the-variants.{Passed}
+use Rattle.audit.specs.Tests.{anyBelow, reach, reachedBy, testsOf}
+use Rattle.acts.specs.Rep.{value}
+use Rattle.acts.specs.Step.{answerS, stepW}
+use Rattle.turns.specs.Form.{raised, geometryOf}
+use Rattle.finishing.specs.Step.{stepOf}
+use Rattle.finishing.specs.Run.{runOf}
+
+abbrev point : ℕ → ℕ → ℕ → ℕ → ℕ → List Write
+point k x y n p = write (pt X) k x ∷ write (pt Y) k y ∷ write (pt NEXT) k n ∷ write (pt PREV) k p ∷ []
+
+-- (0,0) (10,10) (10,0) (0,12) (-5,6), in a split turn at the second point
+abbrev pub example : List ℕ
+example =
+    onWords (replicate LENGTH 0)
+    (point 0 1048576 1048576 1 4 ++ point 1 1048586 1048586 2 0 ++ point 2 1048586 1048576 3 1 ++ point 3 1048576 1048588 4 2 ++ point 4 1048571 1048582 0 3
+    ++ write (ct POINTS) 0 5 ∷ write (ct RECORDS) 0 1 ∷ write (rc OWNER) 0 NONE ∷ write (rc MARK) 0 3 ∷ write (rc PRESENT) 0 1 ∷ write (rc START) 0 5 ∷ write (rc CUT) 0 NONE ∷ [])
+
+pub passes : testsOf example ≡ Passed
+unfolding testsOf anyBelow reach reachedBy walk.run cell put
+passes = refl
+
+-- the words, after two steps
+pub ends : loneAt (view (runOf example (0 ∷ 0 ∷ []))) 0 .due ≡ done
+unfolding stepOf testsOf anyBelow reach reachedBy walk.run cell put answerS stepW wordOf samePoint isCollinear dotProductThreePoints areaTriangle areaOutpt ptsReallyClose isVerySmallTriangle removable strictlyWithin segmentsIntersect fractionOf crossing coordinateAt getSegmentIntersectPt removalTurn doSplitOp splitTurn decide actOf toSigned add ofInt mul
+ends = refl
+
+-- the ring by value, after two steps
+pub goes-on : stepRing (geometryOf (view example)) (stepRing (geometryOf (view example)) (mapRing (value (raised .of) (view example)) (loneAt (view example) 0))) .due ≡ split
+unfolding stepRing walk.run cell put samePoint isCollinear dotProductThreePoints areaTriangle areaOutpt ptsReallyClose isVerySmallTriangle removable strictlyWithin segmentsIntersect fractionOf crossing coordinateAt getSegmentIntersectPt removalTurn doSplitOp splitTurn decide actOf toSigned add ofInt mul
+goes-on = refl
