@@ -1,8 +1,8 @@
 -- Starts that are points in use, or numbers that no point will have, stay so under every step; so the store stays in step with the forest under every list.
 use Prim.Native.Nat.{ℕ, suc, _+_, _≤_, _<_}
-use mathlib.Core.Path.{_≡_, refl, ap, _∙_, sym, subst}
-use mathlib.Core.Logic.{_≢_, _⊎_, inl, inr}
-use mathlib.Core.Bool.{Bool, true, false}
+use mathlib.Core.Path.{_≡_, refl, ap, sym, subst}
+use mathlib.Core.Logic.{_⊎_, inl, inr}
+use mathlib.Core.Bool.{true, false}
 use mathlib.Core.List.{List, [], _∷_}
 use mathlib.Core.Option.{Option, none, some}
 use native.Mathlib.Omega.{arith}
@@ -14,13 +14,13 @@ use Rattle.lone.proofs.Acting.{count, takes-is}
 use Rattle.lone.specs.Forest.{Answer, ok, full, outOfTurn, Forest, runForest, stepForest}
 use Rattle.lone.specs.Lone.{Geo}
 use Rattle.lone.specs.Order.{machine}
-use Rattle.lone.specs.Ring.{Act, stay, discard, dropPoint, moveOn, toFirst, double, cut, offcut, ringsNew, offcutsNew, takesPoints}
+use Rattle.lone.specs.Ring.{Act, offcut, ringsNew, takesPoints}
 use Rattle.store.proofs.Soundness.{first-on}
 use Rattle.store.proofs.Storing.{hit, miss}
 use Rattle.store.specs.Field.{pt, rc, NEXT, PREV, FIRST, PRESENT, START}
-use Rattle.store.specs.Sound.{pts, recs, ringAt, loneAt, Closed, Sound}
+use Rattle.store.specs.Sound.{pts, recs, loneAt, Closed, Sound}
 use Rattle.store.specs.Words.{Store}
-use Rattle.acts.proofs.Acting.{Acted, Ready, to-discard, to-move, to-go-first, to-drop, to-double, to-cut}
+use Rattle.acts.proofs.Acting.{Ready, to-discard, to-move, to-go-first, to-drop, to-double, to-cut}
 use Rattle.acts.proofs.Readiness.{ready}
 use Rattle.acts.proofs.Representing.{Makes, Stepped}
 use Rattle.acts.proofs.Stepping.{Able, able, step-acts}

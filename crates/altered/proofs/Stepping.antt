@@ -1,6 +1,6 @@
 -- On every sound store the answer of a step is the forest's, and so is the step, unless it gives the ring's start to a point that it puts in.
-use Prim.Native.Nat.{ℕ, _+_, _≤_, _<_}
-use mathlib.Core.Path.{_≡_, refl, ap, _∙_, sym}
+use Prim.Native.Nat.{ℕ, _+_, _<_}
+use mathlib.Core.Path.{_≡_, refl, ap, _∙_}
 use mathlib.Core.Logic.{_⊎_, inl, inr}
 use mathlib.Core.Bool.{Bool, true, false, cond, not, _&&_}
 use mathlib.Core.List.{List}
@@ -23,7 +23,7 @@ use Rattle.acts.proofs.Stepping.{cut-count, able, step-acts}
 use Rattle.acts.specs.Apply.{Coding, after}
 use Rattle.acts.specs.Laws.{Laws}
 use Rattle.acts.specs.Rep.{value}
-use Rattle.acts.specs.Step.{actAt, live, roomFor, answerS, stepBy, stepS}
+use Rattle.acts.specs.Step.{actAt, roomFor, answerS, stepBy, stepS}
 use Rattle.altered.proofs.Holding.{carried}
 use Rattle.altered.specs.InStep.{Holds, no-ring, an-open, a-closed, InStep, Elsewhere}
 

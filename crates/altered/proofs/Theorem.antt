@@ -25,7 +25,7 @@ use Rattle.finishing.specs.Run.{runOf}
 use Rattle.finishing.proofs.Entering.{long-step}
 use Rattle.order.proofs.Settings.{step-settings}
 use Rattle.altered.specs.InStep.{InStep, Settled}
-use Rattle.altered.specs.Altered.{HoldsForest, StepIs, After, Altered}
+use Rattle.altered.specs.Altered.{HoldsForest, StepIs, Altered}
 use Rattle.altered.proofs.Holding.{own-forest}
 use Rattle.altered.proofs.Stepping.{answer-is, step-is}
 use Rattle.altered.proofs.Starts.{elsewhere, settled-step}

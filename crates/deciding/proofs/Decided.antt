@@ -17,7 +17,7 @@ use Rattle.reading.specs.Read.{withCounts, readOf}
 use Rattle.accepting.specs.Accept.{judged, acceptOf}
 use Rattle.opening.specs.declared.open.Opened.the-variants.{Accepted, Refused}
 use Rattle.opening.specs.Open.{End, end, afterRows, stagesOf, settled, openOf}
-use Rattle.finishing.specs.InOneCall.{Finished, afterOpening, finishOf}
+use Rattle.finishing.specs.InOneCall.{afterOpening, finishOf}
 use Rattle.deciding.specs.Decides.{LONGEST, DECIDES}
 use Rattle.deciding.proofs.Alike.{fill-same, fill-longest}
 

@@ -3,7 +3,6 @@ use Prim.Native.Nat.{ℕ}
 use mathlib.Core.Path.{_≡_, refl, sym, ap, _∙_, subst}
 use mathlib.Core.List.{List}
 use native.Mathlib.Omega.{arith}
-use lib.ListN.{length}
 use Rattle.job.specs.Refusal.{numberOf}
 use Rattle.job.specs.declared.refusal.Refusal.{Refusal}
 use Rattle.store.specs.Words.{view}
@@ -21,10 +20,10 @@ use Rattle.opening.specs.declared.open.Opened.the-variants as opened
 use Rattle.opening.specs.Open.{End, end, openOf}
 use Rattle.finishing.specs.Opened.{OpeningLeft}
 use Rattle.finishing.specs.Finish.{finishRings}
-use Rattle.finishing.specs.InOneCall.{Finished, finished, refused, afterWriting, afterSteps, afterOpening, finishOf}
+use Rattle.finishing.specs.InOneCall.{Finished, finished, afterWriting, afterSteps, afterOpening, finishOf}
 use Rattle.finishing.proofs.Starting.{start-rep}
 use Rattle.finishing.proofs.InOneCall.{opening-left}
-use Rattle.listing.specs.Told.{Listable, Told, told, tell}
+use Rattle.listing.specs.Told.{Listable, told, tell}
 use Rattle.listing.specs.Lines.{listingOf, refusedLine}
 use Rattle.listing.specs.declared.Listed.{Listed}
 use Rattle.listing.proofs.Answers.{answer-listable}

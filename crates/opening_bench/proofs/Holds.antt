@@ -20,7 +20,7 @@ use Rattle.joins.specs.Resolve.{realOf, getRealOutrec, homeOf}
 use Rattle.joins.specs.Join.{relinkOf, newOutRec, nameAll, fixOutrecPts, settleOf, cutOf, splitOf, mergeOf, byRecords, joinOf, joinsFrom}
 use Rattle.opening.specs.Start.{startRing, startTo, startRings}
 use Rattle.opening.specs.Open.{stagesOf, openOf}
-use Rattle.opening_bench.specs.Bench.{Row, result, Holds, bench, knotted, itself, overlapping, sameWay, levelFree, levelWalled, equalLeft, oneRing, nested, otherHeights, threeInLine, bothEnds, uprightSpike, openRing, ownJoinFirst}
+use Rattle.opening_bench.specs.Bench.{result, Holds, bench, knotted, itself, overlapping, sameWay, levelFree, levelWalled, equalLeft, oneRing, nested, otherHeights, threeInLine, bothEnds, uprightSpike, openRing, ownJoinFirst}
 
 knotted-holds : result knotted ≡ knotted .answer
 unfolding result knotted openOf stagesOf acceptOf readOf fillOf run turnOf fieldOf bodyOf rowsOf endsIn findIn anyIn walk.run anyBelow cell put duplicateOp alongOf until atWall atStop atLimit wallRun stopRun limitRun sorted oneOf twoOf walledEnds freeEnds endsOf headed updateHorzSegment claimOf rowOf updateFrom makeJoin apartOf joinPair firstOne secondOne movedPair pairOf innerFrom outerFrom segmentRows pairsOf convertHorzSegsToJoins realOf getRealOutrec homeOf relinkOf newOutRec nameAll fixOutrecPts settleOf cutOf splitOf mergeOf byRecords joinOf joinsFrom startRing startTo startRings

@@ -7,7 +7,7 @@ use store::Col;
 use store::get;
 use store::read;
 ghost use mathlib.Core.Path.{_≡_};
-ghost use Prim.Native.Nat.{ℕ, _≤_};
+ghost use Prim.Native.Nat.{_≤_};
 ghost use lib.ListN.{length};
 ghost use Rattle.job.specs.Limits.{RECORDS};
 ghost use Rattle.store.specs.Field.{LENGTH};
