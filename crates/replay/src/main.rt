@@ -1,6 +1,6 @@
-// Replays the stored jobs on standard input through `list_job`, with no Rust at hand, and prints each case's name, listing and tray. A case is two lines,
-// `case NAME` and `job HEX`; in the job a space begins a field, and `+N` after it is N more of it (see `again`). `tests/replay ORACLE crates/replay` makes both
-// files from what the real Rust answers.
+// Replays the stored jobs on standard input through `list_job`, with no Rust at hand, and prints each case's name, listing and tray: first document 01's bench
+// examples, then the other stored answers, then the jobs at the limits. A case is two lines, `case NAME` and `job HEX`; in the job a space begins a field, and
+// `+N` after it is N more of it (see `again`). `tests/replay ORACLE crates/replay` makes both files from what the real Rust answers.
 use job_listing::list_job;
 use libc::STDIN_FILENO;
 use libc::STDOUT_FILENO;
