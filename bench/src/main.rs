@@ -3,24 +3,9 @@ mod jobs;
 
 use oracle::answer::Answer;
 use oracle::{check, read, real};
+use outline::{Refused, TRAY_BYTES, WORK_WORDS};
 use std::hint::black_box;
 use std::time::{Duration, Instant};
-
-extern "C" {
-    fn outline_work_words() -> u64;
-    fn outline_open(job: *const u8, job_length: usize, work: *mut u32, words: usize) -> u32;
-    fn outline_step(work: *mut u32, words: usize, record: u32) -> u32;
-    fn outline_finish(
-        job: *const u8,
-        job_length: usize,
-        work: *mut u32,
-        words: usize,
-        tray: *mut u8,
-        tray_length: usize,
-    ) -> u32;
-}
-
-const TRAY: usize = 17_920;
 
 /// A lent work space and tray.
 struct Lent {
@@ -30,21 +15,11 @@ struct Lent {
 
 impl Lent {
     fn new() -> Lent {
-        Lent { work: vec![0; unsafe { outline_work_words() } as usize], tray: vec![0; TRAY] }
+        Lent { work: vec![0; WORK_WORDS], tray: vec![0; TRAY_BYTES] }
     }
 
-    fn finish(&mut self, job: &[u8]) -> u32 {
-        let (work, tray) = (&mut self.work, &mut self.tray);
-        let (w, t) = (work.as_mut_ptr(), tray.as_mut_ptr());
-        unsafe { outline_finish(job.as_ptr(), job.len(), w, work.len(), t, tray.len()) }
-    }
-
-    fn open(&mut self, job: &[u8]) -> u32 {
-        unsafe { outline_open(job.as_ptr(), job.len(), self.work.as_mut_ptr(), self.work.len()) }
-    }
-
-    fn step(&mut self, record: u32) -> u32 {
-        unsafe { outline_step(self.work.as_mut_ptr(), self.work.len(), record) }
+    fn finish(&mut self, job: &[u8]) -> Result<(), Refused> {
+        outline::finish(job, &mut self.work, &mut self.tray)
     }
 }
 
@@ -56,11 +31,11 @@ fn once(call: &mut dyn FnMut(), times: u32) -> Duration {
     began.elapsed() / times
 }
 
-/// The shortest of twenty turns of each call, in microseconds; the calls take turns, so that what else the machine does
+/// The shortest of two hundred turns of each call, in microseconds; the calls take turns, so that what else the machine does
 /// meets all of them.
 fn side_by_side(calls: &mut [&mut dyn FnMut()], times: u32) -> Vec<f64> {
     let mut best = vec![Duration::MAX; calls.len()];
-    for _ in 0..20 {
+    for _ in 0..200 {
         for (call, best) in calls.iter_mut().zip(&mut best) {
             *best = once(*call, times).min(*best);
         }
@@ -75,10 +50,13 @@ fn row(name: &str, bytes: &[u8]) {
     let job = read::read(bytes).expect("the job is read");
     let (closed, open) = real::paths(real::open_untested(&job));
     let paths = Answer::Paths { closed, open }.tray();
-    assert_eq!(lent.finish(bytes), 0, "{name} is refused");
-    assert!(lent.tray.starts_with(&paths) && lent.tray[paths.len()..].iter().all(|b| *b == 0), "{name}: the trays differ");
+    assert_eq!(lent.finish(bytes), Ok(()), "{name} is refused");
+    assert!(
+        lent.tray.starts_with(&paths) && lent.tray[paths.len()..].iter().all(|b| *b == 0),
+        "{name}: the trays differ"
+    );
     let mut ours = || {
-        black_box(lent.finish(black_box(bytes)));
+        let _ = black_box(lent.finish(black_box(bytes)));
     };
     let mut whole = || {
         let job = read::read(black_box(bytes)).unwrap();
@@ -88,7 +66,7 @@ fn row(name: &str, bytes: &[u8]) {
     let mut stage = || {
         black_box(real::paths(real::open_untested(black_box(&job))));
     };
-    let times = if bytes.len() < 1_500 { 1_000 } else { 50 };
+    let times = if bytes.len() < 1_500 { 100 } else { 5 };
     let t = side_by_side(&mut [&mut ours, &mut whole, &mut stage], times);
     println!("| {name} | {:.1} | {:.1} | {:.2} | {:.1} | {:.2} |", t[0], t[1], t[0] / t[1], t[2], t[0] / t[2]);
 }
@@ -98,12 +76,12 @@ fn steps(name: &str, bytes: &[u8]) {
     let mut lent = Lent::new();
     let (mut taken, mut best) = (0, f64::MAX);
     for _ in 0..5 {
-        assert_eq!(lent.open(bytes), 0, "{name} is refused");
+        assert_eq!(outline::open(bytes, &mut lent.work), Ok(()), "{name} is refused");
         let began = Instant::now();
         taken = 0;
         let mut record = 0;
         while record < lent.work[2] {
-            while lent.step(record) == 0 {
+            while outline::step(&mut lent.work, record).is_ok() {
                 taken += 1;
             }
             record += 1;
