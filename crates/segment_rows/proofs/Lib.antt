@@ -2,6 +2,7 @@
 pub mod Swapping
 pub mod Sorting
 pub mod Same
+pub mod Spreading
 pub mod Elements
 pub mod Lending
 pub mod Calling
