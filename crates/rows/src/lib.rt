@@ -4,6 +4,7 @@ pub mod owners;
 pub mod resolving;
 pub mod tables;
 
+use crate::tables::UNKNOWN;
 use audit::PointTest;
 use audit::RecordTest;
 use audit::Verdict;
@@ -151,7 +152,7 @@ pub fn rows(w: &[u32], segments: &[u32], m: usize, joins: &[u32], n: usize) -> V
     if any_point(w, PointTest::Links) {
         return Verdict::Refused(Refusal::Loose);
     }
-    let mut homes = [65536usize; 512];
+    let mut homes = [UNKNOWN; 512];
     if muddled(w, &mut homes) {
         return Verdict::Refused(Refusal::Muddled);
     }

@@ -63,7 +63,7 @@ pub fn any_circle(w: &[u32]) -> bool
     ensures { λ r. ⌜ r ≡ anyBelow (recordsOf (now (w .entry))) (circles (now (w .entry))) ⌝ }
 {
     let n = get(w, Col::Records, 0);
-    let mut lengths = [65536usize; 512];
+    let mut lengths = [UNKNOWN; 512];
     let mut i: usize = 0;
     while i < n {
         let m = follow(w, &lengths, i);
