@@ -1,6 +1,7 @@
 // Level segments and joins: document 01, "Segment and join".
 use job::Job;
 use store::Col;
+use store::NONE;
 use store::get;
 use store::set;
 ghost use mathlib.Core.Path.{_≡_};
@@ -11,8 +12,6 @@ ghost use Rattle.store.specs.Named.{recordsOf, firstOf};
 ghost use Rattle.joins.specs.Resolve.{getRealOutrec, homeOf};
 ghost use Rattle.joins.specs.Needs.{Resolving, Point, Points, Four, Ringed, Pair, Joins};
 ghost use Rattle.joins.specs.Join.{end, relinkOf, newOutRec, fixOutrecPts, settleOf, cutOf, splitOf, mergeOf, byRecords, joinOf, processHorzJoins};
-
-const NONE: usize = 65535;
 
 // How a join, or the list of them, ends: done, or refused as a knot (9) or full (10).
 pub enum Joined {

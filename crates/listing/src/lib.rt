@@ -1,5 +1,6 @@
 // The listing of a tray, as text in a lent slice.
 use geometry::Point;
+use job::Job;
 ghost use mathlib.Core.Path.{_≡_};
 ghost use mathlib.Core.List.{[], _∷_, _++_};
 ghost use Prim.Native.Nat.{_+_, _<_, _≤_, _^_};
@@ -94,14 +95,14 @@ fn put_word(out: &mut [u8], at: usize, a: i64) -> usize
 
 // ---- points of a tray
 
-const RAISE: u32 = 1048576;
+const RAISE: i32 = Job::COORDINATE as i32;
 
 // The coordinate that a raised word stands for.
 fn lowered(v: u32) -> i32
     requires { ⌜ v ≤ 2097152 ⌝ }
     ensures { λ r. ⌜ r ≡ coordinate 1048576 v ⌝ }
 {
-    v as i32 - 1048576
+    v as i32 - RAISE
 }
 
 // The point whose bytes begin at `at`.
@@ -109,8 +110,8 @@ fn point_in(t: &[u8], at: usize) -> Point
     requires { ⌜ Held (now t) at ⌝ }
     ensures { λ r. ⌜ r ≡ pointIn (now (t .entry)) at ⌝ }
 {
-    let x = numbers::read_raised(t, at, RAISE);
-    let y = numbers::read_raised(t, at + 4, RAISE);
+    let x = numbers::read_raised(t, at, Job::COORDINATE);
+    let y = numbers::read_raised(t, at + 4, Job::COORDINATE);
     Point {
         x: lowered(x),
         y: lowered(y),

@@ -3,6 +3,7 @@ use geometry::Point;
 use job::Job;
 use job::refusal::Refusal;
 use store::Col;
+use store::NONE;
 ghost use mathlib.Core.Path.{_≡_};
 ghost use Prim.Native.Nat.{_+_, _*_, _<_, _≤_};
 ghost use mathlib.Core.Bool.{false, cond, not, _&&_, Bool·beq};
@@ -30,9 +31,7 @@ pub enum Written {
     Refused(Refusal),
 }
 
-const NONE: usize = 65535;
-
-const RAISE: i32 = 1048576;
+const RAISE: i32 = Job::COORDINATE as i32;
 
 // The coordinate that a raised word stands for.
 fn coordinate(v: usize) -> i32

@@ -2,6 +2,7 @@
 use crate::resolving;
 use job::Job;
 use store::Col;
+use store::NONE;
 use store::get;
 use store::read;
 ghost use mathlib.Core.Path.{_≡_};
@@ -14,8 +15,6 @@ ghost use Rattle.store.specs.Sound.{ringAt};
 ghost use Rattle.audit.specs.Tests.{anyBelow};
 ghost use Rattle.rows.specs.Rings.{elsewhere, bare, Walked, AllWalked};
 ghost use Rattle.rows.specs.Tables.{Homes};
-
-const NONE: usize = 65535;
 
 // Sets a point's mark.
 fn mark(marks: &mut [u8], k: usize)

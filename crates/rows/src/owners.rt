@@ -4,6 +4,7 @@ use crate::tables::at;
 use crate::tables::put;
 use job::Job;
 use store::Col;
+use store::NONE;
 use store::get;
 use store::read;
 ghost use mathlib.Core.Path.{_≡_};
@@ -15,8 +16,6 @@ ghost use Rattle.store.specs.Named.{recordsOf};
 ghost use Rattle.audit.specs.Tests.{anyBelow};
 ghost use Rattle.rows.specs.Owners.{circles};
 ghost use Rattle.rows.specs.Tables.{Long, Lengths, Followed};
-
-const NONE: usize = 65535;
 
 // How long the owner chain from record i is, followed up to a record whose length is known; more than 512, if it circles.
 fn follow(w: &[u32], lengths: &[usize], i: usize) -> usize

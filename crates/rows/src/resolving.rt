@@ -4,6 +4,7 @@ use crate::tables::at;
 use crate::tables::put;
 use job::Job;
 use store::Col;
+use store::NONE;
 use store::get;
 use store::read;
 ghost use mathlib.Core.Path.{_≡_};
@@ -16,8 +17,6 @@ ghost use Rattle.store.specs.Named.{recordsOf};
 ghost use Rattle.audit.specs.Tests.{anyBelow};
 ghost use Rattle.rows.specs.Owners.{circles};
 ghost use Rattle.rows.specs.Tables.{UNKNOWN, homeOf, Homes, Noted, Found};
-
-const NONE: usize = 65535;
 
 // The first with points among r and its owners, or none; followed up to a record that is known.
 fn reach(w: &[u32], homes: &[usize], r: usize) -> usize

@@ -3,10 +3,9 @@ use crate::pairs;
 use crate::pairs::Converted;
 use crate::sorting;
 use crate::update;
+use store::NONE;
 ghost use mathlib.Core.Path.{_≡_};
 ghost use Rattle.segments.specs.Make.{made, convertHorzSegsToJoins, Converting};
-
-const NONE: usize = 65535;
 
 const LAST: usize = 4294967295;
 

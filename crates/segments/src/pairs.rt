@@ -3,7 +3,9 @@ use crate::level;
 use crate::level::Two;
 use crate::sorting::load;
 use crate::sorting::save;
+use job::Job;
 use store::Col;
+use store::NONE;
 use store::get;
 use store::points::Room;
 use store::points::duplicate_op;
@@ -18,8 +20,6 @@ ghost use Rattle.store.specs.Primitive.{duplicateOp};
 ghost use Rattle.joins.specs.Needs.{Point};
 ghost use Rattle.segments.specs.Level.{xOf};
 ghost use Rattle.segments.specs.Make.{made, secondAt, makeJoin, out, apartOf, movedPair, pairOf, firstOne, secondOne, innerFrom, outerFrom, Making, Pairing, Valid, Overlapping, PairAt};
-
-const NONE: usize = 65535;
 
 // How many joins there are now, or that there is no room for a point.
 pub enum Converted {
@@ -175,7 +175,7 @@ fn inner(
 {
     let mut m = before;
     let mut j = i + 1;
-    while j < 256 {
+    while j < Job::SEGMENTS {
         let r = load(rights, j);
         if r == NONE {
             return Converted::Joins(m);

@@ -5,6 +5,7 @@ use crate::sorting::save;
 use joins::home;
 use joins::point_at;
 use store::Col;
+use store::NONE;
 use store::get;
 ghost use mathlib.Core.Path.{_≡_};
 ghost use Prim.Native.Nat.{_+_, _<_, _≤_};
@@ -14,8 +15,6 @@ ghost use Rattle.joins.specs.Needs.{Point};
 ghost use Rattle.segments.specs.Level.{Home};
 ghost use Rattle.segments.specs.Row.{columns, columnsOf, rowsOf, Even};
 ghost use Rattle.segments.specs.Update.{hasFront, endsOf, headed, updateHorzSegment, claim, claimOf, rowOf, updateFrom, Listed};
-
-const NONE: usize = 65535;
 
 // Above every x.
 const LAST: usize = 4294967295;

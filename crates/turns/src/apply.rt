@@ -3,6 +3,7 @@ use crate::Act;
 use crate::Due;
 use geometry::Point;
 use store::Col;
+use store::NONE;
 use store::get;
 use store::points::link_between;
 use store::points::raise;
@@ -77,7 +78,7 @@ fn discard_ring(w: &mut [u32], i: usize)
     requires { ⌜ Reach (now w) i ⌝ }
     ensures { λ _. ⌜ now (w .exit) ≡ onWords (now (w .entry)) (discardWrites i) ⌝ }
 {
-    set(w, Col::First, i, 65535);
+    set(w, Col::First, i, NONE);
     set(w, Col::Mark, i, 4);
 }
 

@@ -1,6 +1,7 @@
 // Finishing: one record, or all in rising order, stepped until done; it ends where a step is full.
 use crate::Answer;
 use crate::step::step_record;
+use job::Job;
 use store::Col;
 use store::get;
 ghost use mathlib.Core.Path.{_≡_};
@@ -53,7 +54,7 @@ pub fn finish_records(w: &mut [u32]) -> Answer
     ensures { λ r. ⌜ outcome (answerIs r) (now (w .exit)) ≡ finishW (geometryOf (view (now (w .entry)))) raised (now (w .entry)) ⌝ }
 {
     let mut i = 0;
-    while i < 512 {
+    while i < Job::RECORDS {
         let n = get(w, Col::Records, 0);
         if n <= i {
             return Answer::Ok;

@@ -3,7 +3,9 @@ use crate::Act;
 use crate::Answer;
 use crate::apply::apply;
 use crate::decide::decide;
+use job::Job;
 use store::Col;
+use store::NONE;
 use store::get;
 ghost use mathlib.Core.Path.{_≡_};
 ghost use Prim.Native.Nat.{_+_, _<_, _≤_};
@@ -78,7 +80,7 @@ fn has_room(w: &[u32], act: Act) -> bool
     let r = get(w, Col::Records, 0);
     let a = takes_points(act);
     let b = takes_record(act);
-    (p + a <= 2048) & (r + b <= 512)
+    (p + a <= Job::POINTS) & (r + b <= Job::RECORDS)
 }
 
 // A step on an unfinished closed ring.
@@ -109,7 +111,7 @@ pub fn is_live(w: &[u32], i: usize) -> bool
         return false;
     }
     let p = get(w, Col::First, i);
-    if p == 65535 {
+    if p == NONE {
         return false;
     }
     let m = get(w, Col::Mark, i);
