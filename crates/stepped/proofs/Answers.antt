@@ -1,12 +1,10 @@
--- A work space that passes its tests is sound; what writing out answers can be listed, and the text ends within its slice.
+-- What writing out answers can be listed.
 use Prim.Native.Nat.{ℕ, _≤_}
 use mathlib.Core.Path.{_≡_, refl, sym, ap, _∙_}
 use mathlib.Core.Bool.{Bool, true, false, cond}
 use mathlib.Core.List.{List}
 use native.Mathlib.Omega.{arith}
-use lib.Dec.{leb}
-use lib.ListN.{length, take, drop, length-append, length-drop, length-take}
-use borrow.Author.Tests.{leb-true}
+use lib.ListN.{length}
 use Rattle.job.specs.declared.refusal.Refusal.{Refusal}
 use Rattle.job.specs.declared.refusal.Refusal.the-variants.{OutOfTurn}
 use Rattle.store.specs.Field.{LENGTH}
@@ -18,16 +16,10 @@ use Rattle.audit.proofs.Agreeing.{passed-sound}
 use Rattle.paths.specs.declared.Written.{Written}
 use Rattle.paths.specs.declared.Written.the-variants.{Paths, Refused}
 use Rattle.paths.specs.Wrote.{Wrote, wrote, buildPaths64}
-use Rattle.turns.specs.Reads.{SoundWords}
 use Rattle.finishing.specs.Write.{anyLive, writeBy, writeOf}
 use Rattle.finishing.proofs.Entering.{long-write}
-use Rattle.listing.specs.declared.Listed.{Listed}
-use Rattle.listing.specs.declared.Listed.the-variants.{Bytes, NoRoom}
-use Rattle.listing.specs.Told.{Told, told, tell, Listable}
+use Rattle.listing.specs.Told.{Listable}
 use Rattle.listing.proofs.Answers.{answer-listable}
-
-pub sound-words : (w : List ℕ) (v : Verdict) → LENGTH ≤ length w → v ≡ testsOf w → v ≡ verdict.Passed → SoundWords w
-sound-words w v l e f = record { long = l; sound = passed-sound w (sym e ∙ f) }
 
 never : {A : Type 0} (c o : ℕ) (x : Refusal) (t u : List ℕ) → wrote (Paths c o) u ≡ wrote (Refused x) t → A
 never c o x t u e =
@@ -46,25 +38,3 @@ listable w t u r c o l e f = go (testsOf w) refl (ap (λ (x : Written). wrote x 
         by : (b : Bool) → wrote (Paths c o) u ≡ cond b (wrote (Refused OutOfTurn) t) (buildPaths64 (view w) t) → Listable c o u
         by true k = never c o OutOfTurn t u k
         by false k = answer-listable (view w) c o t u (passed-sound w g) k
-
--- the text ends within the slice
-pub within : (text t u : List ℕ) (r : Listed) (n : ℕ) → r ≡ Bytes n → told r u ≡ tell text t → n ≤ length u
-unfolding tell
-within text t u r n e f = go (leb (length text) (length t)) refl
-  where
-    go : (b : Bool) → leb (length text) (length t) ≡ b → n ≤ length u
-    go true g =
-        let h : length text ≤ length t = leb-true (length text) (length t) g in
-        let a : Bytes n ≡ Bytes (length text) = sym e ∙ ap (λ (x : Told). x .answer) f ∙ rw g in
-        let z : n ≡ length text = cc in
-        omega (
-          arith,
-          ap (λ (x : Told). length (x .out)) f,
-          length-append (take (length t) text) (drop (length text) t),
-          length-take (length t) text,
-          length-drop (length text) t,
-        )
-    go false g =
-        let a : Bytes n ≡ NoRoom = sym e ∙ ap (λ (x : Told). x .answer) f ∙ rw g in
-        let z : _≡_ {A = ℕ} 0 1 = cc in
-        absurd (omega arith)

@@ -1,6 +1,6 @@
--- `stepped::list`: what writing out answers can be listed, and the text ends within the slice.
+-- `stepped::list`: what writing out answers can be listed.
 use borrow.Author.Needs.{needs}
-use Rattle.stepped.proofs.Answers.{listable, within}
+use Rattle.stepped.proofs.Answers.{listable}
 use Rattle.stepped.proofs.list.Statement.{statement}
 use Rattle.stepped.proofs.list.Tie as tie
 
@@ -18,7 +18,7 @@ list-spec =
     (λ c. search needs)
     (λ c. search needs)
     (λ c. search needs)
-    (λ c. search (within, needs))
+    (λ c. search needs)
     (λ c. search needs)
     (λ c κs. search needs)
     (λ c. search needs)
