@@ -2,26 +2,31 @@
 -- puts point 5 in, so the start is now a point of the ring, and the second step ends the loop there, as the Rust's comparison of numbers would. The ring by value
 -- had no start, has none now, and goes on.
 use Prim.Native.Nat.{ℕ}
-use mathlib.Core.Path.{_≡_, refl}
+use mathlib.Core.Path.{_≡_, refl, ap, _∙_}
 use mathlib.Core.List.{List, [], _∷_, _++_}
+use native.Mathlib.Omega.{arith}
 use lib.Ieee.{toSigned, add, ofInt, mul}
 use lib.ListN.{replicate}
-use Rattle.rings.specs.Progress.{mapRing, split, done}
+use Rattle.rings.specs.Progress.{Ring, Due, split, done}
 use Rattle.rings.specs.Walk as walk
+use Rattle.geometry.specs.declared.Point.{Point}
 use Rattle.geometry.specs.Plane.{samePoint, isCollinear, dotProductThreePoints, areaTriangle, areaOutpt, ptsReallyClose, isVerySmallTriangle, removable, strictlyWithin, segmentsIntersect}
 use Rattle.geometry.specs.Crossing.{fractionOf, crossing, coordinateAt, getSegmentIntersectPt}
-use Rattle.lone.specs.Lone.{removalTurn, doSplitOp, splitTurn, decide, actOf, stepRing}
+use Rattle.lone.specs.Lone.{removalTurn, doSplitOp, splitTurn, decide, actOf, stepRing, offcutRing, takesRing}
+use Rattle.lone.specs.Forest.{Entry, ringless, openRing, closedRing, Forest, at, answer, stepForest, runForest}
+use Rattle.lone.specs.Order.{machine}
 use Rattle.store.specs.Field.{pt, rc, ct, X, Y, NEXT, PREV, OWNER, MARK, PRESENT, START, CUT, POINTS, RECORDS, NONE, LENGTH}
 use Rattle.store.specs.Words.{Write, write, cell, put, view, onWords}
-use Rattle.store.specs.Sound.{loneAt}
+use Rattle.store.specs.Sound.{recs, loneAt}
 use Rattle.store.specs.Value.{wordOf}
 use Rattle.audit.specs.declared.Verdict.the-variants.{Passed}
 use Rattle.audit.specs.Tests.{anyBelow, reach, reachedBy, testsOf}
-use Rattle.acts.specs.Rep.{value}
 use Rattle.acts.specs.Step.{answerS, stepW}
-use Rattle.turns.specs.Form.{raised, geometryOf}
+use Rattle.turns.specs.Form.{raised}
 use Rattle.finishing.specs.Step.{stepOf}
 use Rattle.finishing.specs.Run.{runOf}
+use Rattle.altered.specs.InStep.{Holds, no-ring, an-open, a-closed, forestOf}
+use Rattle.altered.specs.Altered.{HoldsForest, ringsOf}
 
 abbrev point : ℕ → ℕ → ℕ → ℕ → ℕ → List Write
 point k x y n p = write (pt X) k x ∷ write (pt Y) k y ∷ write (pt NEXT) k n ∷ write (pt PREV) k p ∷ []
@@ -37,12 +42,37 @@ pub passes : testsOf example ≡ Passed
 unfolding testsOf anyBelow reach reachedBy walk.run cell put
 passes = refl
 
--- the words, after two steps
+-- the words' ring, after two steps
 pub ends : loneAt (view (runOf example (0 ∷ 0 ∷ []))) 0 .due ≡ done
-unfolding stepOf testsOf anyBelow reach reachedBy walk.run cell put answerS stepW wordOf samePoint isCollinear dotProductThreePoints areaTriangle areaOutpt ptsReallyClose isVerySmallTriangle removable strictlyWithin segmentsIntersect fractionOf crossing coordinateAt getSegmentIntersectPt removalTurn doSplitOp splitTurn decide actOf toSigned add ofInt mul
+unfolding stepOf testsOf anyBelow reach reachedBy answerS stepW wordOf walk.run cell put samePoint isCollinear dotProductThreePoints areaTriangle areaOutpt ptsReallyClose isVerySmallTriangle removable strictlyWithin segmentsIntersect fractionOf crossing coordinateAt getSegmentIntersectPt removalTurn doSplitOp splitTurn decide actOf toSigned add ofInt mul
 ends = refl
 
--- the ring by value, after two steps
-pub goes-on : stepRing (geometryOf (view example)) (stepRing (geometryOf (view example)) (mapRing (value (raised .of) (view example)) (loneAt (view example) 0))) .due ≡ split
-unfolding stepRing walk.run cell put samePoint isCollinear dotProductThreePoints areaTriangle areaOutpt ptsReallyClose isVerySmallTriangle removable strictlyWithin segmentsIntersect fractionOf crossing coordinateAt getSegmentIntersectPt removalTurn doSplitOp splitTurn decide actOf toSigned add ofInt mul
+counts : recs (view (runOf example (0 ∷ 0 ∷ []))) ≡ 2
+unfolding stepOf testsOf anyBelow reach reachedBy answerS stepW wordOf walk.run cell put samePoint isCollinear dotProductThreePoints areaTriangle areaOutpt ptsReallyClose isVerySmallTriangle removable strictlyWithin segmentsIntersect fractionOf crossing coordinateAt getSegmentIntersectPt removalTurn doSplitOp splitTurn decide actOf toSigned add ofInt mul
+counts = refl
+
+-- the step due of a record's ring
+abbrev dueIn : Entry (Ring Point) (List Point) → Due
+dueIn ringless = done
+dueIn (openRing c) = done
+dueIn (closedRing q L) = L .now .due
+
+-- the forest that the words hold, after the same two steps: its ring goes on
+abbrev later : Forest (Ring Point) (List Point)
+later = runForest (ringsOf example) 2048 512 (forestOf (raised .of) (view example)) (0 ∷ 0 ∷ [])
+
+pub goes-on : dueIn (at (later .entries) 0) ≡ split
+unfolding stepForest answer machine stepRing takesRing offcutRing walk.run cell put samePoint isCollinear dotProductThreePoints areaTriangle areaOutpt ptsReallyClose isVerySmallTriangle removable strictlyWithin segmentsIntersect fractionOf crossing coordinateAt getSegmentIntersectPt removalTurn doSplitOp splitTurn decide actOf toSigned add ofInt mul
 goes-on = refl
+
+-- so the words do not hold that forest
+pub apart : HoldsForest (runOf example (0 ∷ 0 ∷ [])) later → ⊥
+apart h = go (at (later .entries) 0) goes-on (h .holds 0 (omega (arith, counts)))
+  where
+    other : (d : Due) → d ≡ done → d ≡ split → ⊥
+    other d e g = let z : _≡_ {A = ℕ} 0 1 = cc in omega arith
+
+    go : (e : Entry (Ring Point) (List Point)) → dueIn e ≡ split → Holds (raised .of) (view (runOf example (0 ∷ 0 ∷ []))) 0 e → ⊥
+    go e d (no-ring r) = other done refl d
+    go e d (an-open c r m) = other done refl d
+    go e d (a-closed q L r c m) = other (L .now .due) (ap (λ (R : Ring Point). R .due) m ∙ ends) d
