@@ -4,7 +4,7 @@ use crate::model::{same_counts, same_forest, same_record, stray};
 use crate::open::open_job;
 use crate::plain;
 use crate::room::{all_zero, expect, Room, Same, TRAY};
-use crate::words::{WORDS, *};
+use crate::words::*;
 use oracle::answer::Answer;
 use oracle::model::forest::Forest;
 use oracle::model::lone::{Act, Due};
