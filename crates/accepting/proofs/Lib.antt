@@ -1,2 +1,3 @@
+-- Laws of accepting a job.
 pub mod Accepting
 pub mod Examples

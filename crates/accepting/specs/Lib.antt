@@ -1,1 +1,2 @@
+-- Definitions of accepting a job.
 pub mod Accept

@@ -1,3 +1,4 @@
+-- Laws of a job's fields.
 pub mod Fields
 pub mod Accepted
 pub mod Coordinates

@@ -1,3 +1,4 @@
+-- Definitions of a job: its limits, fields and refusals.
 pub mod Limits
 pub mod Refusal
 pub mod Coordinate

@@ -1,2 +1,3 @@
+-- Definitions of numbers in bytes.
 pub mod Bytes
 pub mod Raised

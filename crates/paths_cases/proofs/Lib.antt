@@ -1,1 +1,2 @@
+-- Laws of the stored rings' program.
 pub mod Answers

@@ -1,2 +1,3 @@
+-- Definitions of reading a job.
 pub mod Fill
 pub mod Read

@@ -1,3 +1,4 @@
+-- Laws of rows 4 to 8.
 pub mod Chains
 pub mod Tabling
 pub mod Following

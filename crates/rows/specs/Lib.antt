@@ -1,3 +1,4 @@
+-- Definitions of rows 4 to 8.
 pub mod Owners
 pub mod Rings
 pub mod Rows

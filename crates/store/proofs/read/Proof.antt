@@ -1,3 +1,4 @@
+-- `read` meets its contract.
 use borrow.Author.Needs.{needs}
 use Rattle.store.proofs.Storing.{past-end}
 use Rattle.store.proofs.read.Statement.{statement}
