@@ -98,13 +98,6 @@ fn which(room: &Room, rng: &mut Rng) -> u32 {
 /// What a step comes to on words that passed the tests: the model's answer, and the model after it.
 fn model_step(w: &[u32], number: u32) -> (Result<Act, u8>, Forest) {
     let mut model = load(w);
-    if let Some(Entry::Closed { lone, .. }) = model.records.get_mut(number as usize) {
-        // The Rust's triangle test compares prev with the next of next, which holds for one point as for three.
-        if lone.due == Due::Triangle && lone.circle.len() == 1 {
-            lone.due = Due::Done;
-            return (Ok(Act::Settle), model);
-        }
-    }
     (model.step(number as usize), model)
 }
 

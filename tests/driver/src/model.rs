@@ -40,8 +40,7 @@ fn same_progress(w: &[u32], r: usize, ring: &[usize], lone: &Lone) -> Same {
     let place = |word: u32| ring.iter().position(|&p| p == word as usize);
     let (mark, present, start) = match lone.due {
         Due::Validity => (VALIDITY, None, None),
-        Due::Removal { at, start } if start >= n => (REMOVAL, Some(from_first(at)), Some(None)),
-        Due::Removal { at, start } => (REMOVAL, Some(from_first(at)), Some(Some(from_first(start)))),
+        Due::Removal { at, start } => (REMOVAL, Some(from_first(at)), Some(start.map(from_first))),
         Due::Triangle => (TRIANGLE, None, None),
         Due::Split { at, start } => (SPLIT, Some(from_first(at)), Some(start.map(from_first))),
         Due::Done => (DONE, None, None),
@@ -56,7 +55,7 @@ fn same_progress(w: &[u32], r: usize, ring: &[usize], lone: &Lone) -> Same {
     }
 }
 
-/// The model of any work space that passes the tests. A removal loop whose start isn't on the ring never meets it.
+/// The model of any work space that passes the tests. A loop whose start isn't on the ring has none.
 pub fn load(w: &[u32]) -> Forest {
     let entry = |r: usize| {
         let ring = words::ring(w, r).expect("a ring of a tested work space closes");
@@ -69,7 +68,7 @@ pub fn load(w: &[u32]) -> Forest {
             (false, false) => {
                 let due = match w[MARK + r] {
                     VALIDITY => Due::Validity,
-                    REMOVAL => Due::Removal { at: here(), start: place(w[START + r]).unwrap_or(usize::MAX) },
+                    REMOVAL => Due::Removal { at: here(), start: place(w[START + r]) },
                     TRIANGLE => Due::Triangle,
                     SPLIT => Due::Split { at: here(), start: place(w[START + r]) },
                     _ => Due::Done,
