@@ -5,7 +5,7 @@ use crate::calls::{Calls, Fault};
 use crate::finish::tray_length;
 use crate::model::{load, same_forest, stray};
 use crate::plain;
-use crate::room::{all_zero, expect, Room, Same};
+use crate::room::{expect, Room, Same};
 use crate::steps::act_name;
 use crate::words::*;
 use oracle::answer::Answer;
@@ -167,16 +167,7 @@ fn write(room: &mut Room, rng: &mut Rng) -> Same {
         Ok(()) => 0,
     };
     expect(answer == number, || format!("writing out answers {answer}, the plain reading {number}"))?;
-    room.margins()?;
-    expect(room.work.get() == before, || "writing out changes a word".into())?;
-    if number != 0 {
-        return expect(room.tray.get().iter().all(|b| *b == fill), || {
-            "a refused writing out leaves another byte".into()
-        });
-    }
-    let (paths, rest) = room.tray.get().split_at(bytes.len());
-    expect(paths == bytes, || "the paths' bytes written out".into())?;
-    expect(all_zero(rest), || "a byte past the paths".into())
+    room.wrote(&before, number, fill, &bytes)
 }
 
 /// Both calls in a work space that is too short: 10 before every test.

@@ -61,6 +61,20 @@ impl Room {
         &self.paper[self.at..]
     }
 
+    /// What writing out leaves: every word; refused, every byte of a tray that was filled; else the paths' bytes and zeros.
+    pub fn wrote(&self, before: &[u32], number: u32, fill: u8, bytes: &[u8]) -> Same {
+        self.margins()?;
+        expect(self.work.get() == before, || "writing out changes a word".into())?;
+        if number != 0 {
+            return expect(self.tray.get().iter().all(|b| *b == fill), || {
+                "a refused writing out leaves another byte".into()
+            });
+        }
+        let (paths, rest) = self.tray.get().split_at(bytes.len());
+        expect(paths == bytes, || "the paths' bytes written out".into())?;
+        expect(all_zero(rest), || "a byte past the paths".into())
+    }
+
     /// Nothing beside the lent slices was written.
     pub fn margins(&self) -> Same {
         expect(self.work.kept(), || "a word beside the work space is written".into())?;

@@ -3,7 +3,7 @@ use crate::finish::tray_length;
 use crate::model::{same_counts, same_forest, same_record, stray};
 use crate::open::open_job;
 use crate::plain;
-use crate::room::{all_zero, expect, Room, Same, TRAY};
+use crate::room::{expect, Room, Same, TRAY};
 use crate::words::*;
 use oracle::answer::Answer;
 use oracle::model::forest::Forest;
@@ -192,14 +192,5 @@ pub fn write_out(room: &mut Room, rng: &mut Rng, model: &Forest, words: usize, t
         _ => 0,
     };
     expect(answer == number, || format!("writing out answers {answer}, the model {number}"))?;
-    room.margins()?;
-    expect(room.work.get() == before, || "writing out changes a word".into())?;
-    if number != 0 {
-        return expect(room.tray.get().iter().all(|b| *b == fill), || {
-            "a refused writing out leaves another byte".into()
-        });
-    }
-    let (paths, rest) = room.tray.get().split_at(bytes.len());
-    expect(paths == bytes, || "the paths' bytes written out".into())?;
-    expect(all_zero(rest), || "a byte past the paths".into())
+    room.wrote(&before, number, fill, &bytes)
 }
