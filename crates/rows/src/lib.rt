@@ -1,8 +1,8 @@
 // Rows 4 to 8 of document 01's table, each over the whole job as it was read.
-pub mod marks;
-pub mod owners;
-pub mod resolving;
-pub mod tables;
+mod marks;
+mod owners;
+mod resolving;
+mod tables;
 
 use crate::tables::UNKNOWN;
 use audit::PointTest;
