@@ -7,17 +7,16 @@ use native.Mathlib.Omega.{arith}
 use lib.Dec.{ltb, eqb}
 use borrow.Author.Tests.{ltb-false}
 use Rattle.job.specs.declared.Job.{Job}
-use Rattle.job.specs.declared.refusal.Refusal.{Refusal}
 use Rattle.job.specs.declared.refusal.Refusal.the-variants.{Torn, Strange, Crowded}
 use Rattle.job.specs.declared.field.Kind.{Kind}
 use Rattle.job.specs.declared.field.Kind.the-variants as kind
 use Rattle.job.specs.declared.field.Field.{Field}
 use Rattle.job.specs.declared.field.Field.the-variants.{Settings}
-use Rattle.job.specs.declared.field.Reading.{Reading}
 use Rattle.job.specs.declared.field.Reading.the-variants.{Read, Refused}
 use Rattle.job.specs.Field.{tagOf, valueOf, kindOf, sizeOf, fieldIn, tornHeader, strangeTag, tornValue, strangeBits, crowded, bodyOf, fieldOf}
 use Rattle.job.specs.Job.{fresh, past, Within}
 use Rattle.job.proofs.Fields.{or-right}
+use Rattle.job.proofs.Accepted.{passed}
 use Rattle.deciding.specs.Decides.{wholeOf, LONGEST}
 
 -- the settings' bytes, once a tag was seen
@@ -57,11 +56,6 @@ settings-first last tag h k =
     let c = or-right (eqb tag 0 || ltb 5 tag || ltb tag last || (eqb last 0 && not (eqb tag 1))) (ltb 0 last && eqb tag 1) h in
     let d = ltb-false 0 last (both (ltb 0 last) (eqb tag 1) c (tag-one (eqb tag 1) (eqb tag 2) (eqb tag 3) (eqb tag 4) k)) in
     omega arith
-
--- a test that refuses was passed by whatever is read
-passed : (b : Bool) (x : Refusal) (r : Reading) (f : Field) (n : ℕ) → cond b (Refused x) r ≡ Read f n → (b ≡ false) × (r ≡ Read f n)
-passed true x r f n e = absurd (let z : _≡_ {A = ℕ} 0 1 = cc in omega arith)
-passed false x r f n e = (refl, e)
 
 -- a field of its kind's size
 body-read : (k : Kind) (j : Job) (s : List ℕ) (f : Field) (n : ℕ) → bodyOf k j s ≡ Read f n → Read (fieldIn k (valueOf s)) (wholeOf k) ≡ Read f n

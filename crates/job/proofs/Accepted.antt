@@ -40,7 +40,7 @@ sized kind.Segment = omega arith
 sized kind.Join = omega arith
 
 -- a test that refuses was passed by whatever is read
-passed : (b : Bool) (x : Refusal) (r : Reading) (f : Field) (n : ℕ) → cond b (Refused x) r ≡ Read f n → (b ≡ false) × (r ≡ Read f n)
+pub passed : (b : Bool) (x : Refusal) (r : Reading) (f : Field) (n : ℕ) → cond b (Refused x) r ≡ Read f n → (b ≡ false) × (r ≡ Read f n)
 passed true x r f n e = absurd (let z : _≡_ {A = ℕ} 0 1 = cc in omega arith)
 passed false x r f n e = (refl, e)
 
