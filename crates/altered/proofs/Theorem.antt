@@ -12,13 +12,14 @@ use Rattle.lone.specs.Plane.{loneRing}
 use Rattle.store.specs.Field.{ct, SETTINGS, LENGTH}
 use Rattle.store.specs.Words.{Store, view}
 use Rattle.store.specs.Sound.{Sound}
+use Rattle.store.specs.Value.{preserveCollinear}
 use Rattle.audit.specs.declared.Verdict.{Verdict}
 use Rattle.audit.specs.declared.Verdict.the-variants as verdict
 use Rattle.audit.specs.Tests.{testsOf}
 use Rattle.audit.proofs.Agreeing.{passed-sound, sound-passed}
 use Rattle.acts.specs.Step.{answerS, stepS, stepW}
 use Rattle.acts.proofs.Stepping.{length-step, view-step}
-use Rattle.turns.specs.Form.{raised, preserves, geometryOf}
+use Rattle.turns.specs.Form.{raised, geometryOf}
 use Rattle.turns.proofs.Ready.{laws}
 use Rattle.finishing.specs.Step.{Left, left, steppedAs, stepBy, stepOf}
 use Rattle.finishing.specs.Run.{runOf}
@@ -35,22 +36,22 @@ module _ (w : List ℕ) (l : LENGTH ≤ length w) (o : Sound (view w)) (i : ℕ)
   step-of = long-step w i l ∙ ap (λ (v : Verdict). stepBy v w i) (sound-passed w o)
 
   view-of : view (stepOf w i .words) ≡ stepS (geometryOf (view w)) raised (view w) i
-  view-of = ap (λ (x : Left). view (x .words)) step-of ∙ view-step (geometryOf (view w)) raised (laws (preserves (view w))) w i l o
+  view-of = ap (λ (x : Left). view (x .words)) step-of ∙ view-step (geometryOf (view w)) raised (laws (preserveCollinear (view w))) w i l o
 
   still-long : LENGTH ≤ length (stepOf w i .words)
   still-long = subst (λ (n : ℕ). LENGTH ≤ n) (sym (ap (λ (x : Left). length (x .words)) step-of ∙ length-step (geometryOf (view w)) raised w i)) l
 
-  same-settings : preserves (view (stepOf w i .words)) ≡ preserves (view w)
-  same-settings = ap (λ (n : ℕ). eqb (n % 2) 1) (ap (λ (x : Left). view (x .words) (ct SETTINGS) 0) step-of ∙ step-settings raised (geometryOf (view w)) (laws (preserves (view w))) w i l o)
+  same-settings : preserveCollinear (view (stepOf w i .words)) ≡ preserveCollinear (view w)
+  same-settings = ap (λ (n : ℕ). eqb (n % 2) 1) (ap (λ (x : Left). view (x .words) (ct SETTINGS) 0) step-of ∙ step-settings raised (geometryOf (view w)) (laws (preserveCollinear (view w))) w i l o)
 
   still-settled : Settled (view w) → Settled (view (stepOf w i .words))
-  still-settled h = subst (λ (s : Store). Settled s) (sym view-of) (settled-step (geometryOf (view w)) raised (laws (preserves (view w))) (view w) o h i)
+  still-settled h = subst (λ (s : Store). Settled s) (sym view-of) (settled-step (geometryOf (view w)) raised (laws (preserveCollinear (view w))) (view w) o h i)
 
   one-step : (F : Forest (Ring Point) (List Point)) → HoldsForest w F → StepIs w F i
   one-step F r =
       record {
         answers = ap (λ (x : Left). x .answer) step-of ∙ ap steppedAs (answer-is (geometryOf (view w)) raised (view w) F r i);
-        stays = λ h. subst (λ (s : Store). InStep (raised .of) s (stepForest (loneRing (preserves (view w))) 2048 512 F i)) (sym view-of) (step-is (geometryOf (view w)) raised (view w) F r i (laws (preserves (view w))) h);
+        stays = λ h. subst (λ (s : Store). InStep (raised .of) s (stepForest (loneRing (preserveCollinear (view w))) 2048 512 F i)) (sym view-of) (step-is (geometryOf (view w)) raised (view w) F r i (laws (preserveCollinear (view w))) h);
       }
 
 -- b: the setting
@@ -58,7 +59,7 @@ module _ (b : Bool) where
   -- a work space on the way
   record Going (w : List ℕ) (F : Forest (Ring Point) (List Point)) : Type 0 where
     pub long : LENGTH ≤ length w
-    pub setting : preserves (view w) ≡ b
+    pub setting : preserveCollinear (view w) ≡ b
     pub holds : HoldsForest w F
     pub settled : Settled (view w)
 
@@ -69,7 +70,7 @@ module _ (b : Bool) where
         long = still-long w (g .long) o i;
         setting = same-settings w (g .long) o i ∙ g .setting;
         holds = subst (λ (k : Bool). HoldsForest (stepOf w i .words) (stepForest (loneRing k) 2048 512 F i)) (g .setting)
-            (one-step w (g .long) o i F (g .holds) .stays (elsewhere (geometryOf (view w)) raised (laws (preserves (view w))) (view w) (g .settled) i));
+            (one-step w (g .long) o i F (g .holds) .stays (elsewhere (geometryOf (view w)) raised (laws (preserveCollinear (view w))) (view w) (g .settled) i));
         settled = still-settled w (g .long) o i (g .settled);
       }
 
@@ -87,6 +88,6 @@ altered w l e =
       has-one = own-forest (raised .of) (view w) o;
       one-step = λ F r i. one-step w l o i F r;
       every-list = λ h F r is.
-          let g : Going (preserves (view w)) (runOf w is) (runForest (loneRing (preserves (view w))) 2048 512 F is) = run (preserves (view w)) is w F (record { long = l; setting = refl; holds = r; settled = h }) in
-          record { holds = g .holds; answers = λ i. answered (preserves (view w)) (runOf w is) _ g i };
+          let g : Going (preserveCollinear (view w)) (runOf w is) (runForest (loneRing (preserveCollinear (view w))) 2048 512 F is) = run (preserveCollinear (view w)) is w F (record { long = l; setting = refl; holds = r; settled = h }) in
+          record { holds = g .holds; answers = λ i. answered (preserveCollinear (view w)) (runOf w is) _ g i };
     }

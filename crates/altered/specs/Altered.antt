@@ -7,7 +7,8 @@ use Rattle.geometry.specs.declared.Point.{Point}
 use Rattle.lone.specs.Forest.{Machine, Forest, answer, stepForest, runForest}
 use Rattle.lone.specs.Plane.{loneRing}
 use Rattle.store.specs.Words.{view}
-use Rattle.turns.specs.Form.{raised, preserves, geometryOf}
+use Rattle.store.specs.Value.{preserveCollinear}
+use Rattle.turns.specs.Form.{raised, geometryOf}
 use Rattle.finishing.specs.Step.{steppedAs, stepOf}
 use Rattle.finishing.specs.Run.{runOf}
 use Rattle.altered.specs.InStep.{InStep, forestOf, Elsewhere, Settled}
@@ -18,7 +19,7 @@ HoldsForest w F = InStep (raised .of) (view w) F
 
 -- the lone ring by the work space's settings
 abbrev pub ringsOf : List ℕ → Machine (Ring Point)
-ringsOf w = loneRing (preserves (view w))
+ringsOf w = loneRing (preserveCollinear (view w))
 
 -- the step on record number i
 pub record StepIs (w : List ℕ) (F : Forest (Ring Point) (List Point)) (i : ℕ) : Type 0 where

@@ -6,9 +6,10 @@ use lib.ListN.{length, replicate}
 use Rattle.job.specs.declared.refusal.Refusal.{Refusal}
 use Rattle.job.specs.declared.refusal.Refusal.the-variants as refusal
 use Rattle.store.specs.Words.{view}
+use Rattle.store.specs.Value.{preserveCollinear}
 use Rattle.acts.specs.Step.{Outcome, outcome}
 use Rattle.acts.proofs.Finished.{finish-done}
-use Rattle.turns.specs.Form.{raised, preserves, geometryOf}
+use Rattle.turns.specs.Form.{raised, geometryOf}
 use Rattle.turns.specs.declared.Answer as code
 use Rattle.turns.specs.declared.Answer.the-variants.{Ok, Full, OutOfTurn}
 use Rattle.turns.specs.Code.{answerIs}
@@ -52,7 +53,7 @@ module _ (w w₁ t : List ℕ) (a : code.Answer) (e : outcome (answerIs a) w₁ 
 
   pub may-write : OpeningLeft w → a ≡ Ok → Ready w₁
   may-write o h =
-      let r = finish-done (geometryOf (view w)) raised (laws (preserves (view w))) w _ w₁ (start-rep w o) (sym e ∙ ap (λ (b : code.Answer). outcome (answerIs b) w₁) h) in
+      let r = finish-done (geometryOf (view w)) raised (laws (preserveCollinear (view w))) w _ w₁ (start-rep w o) (sym e ∙ ap (λ (b : code.Answer). outcome (answerIs b) w₁) h) in
       record { long = r .long; sound = r .rep .sound }
 
   pub rings-done : (b : Written) (w′ t′ : List ℕ) → a ≡ Ok → finished b w′ t′ ≡ afterWriting w₁ (buildPaths64 (view w₁) t .answer) (buildPaths64 (view w₁) t .tray) → finished b w′ t′ ≡ afterSteps (finishRings w) t

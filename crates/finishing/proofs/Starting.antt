@@ -18,12 +18,13 @@ use Rattle.store.specs.Field.{rc, pt, NEXT, FIRST}
 use Rattle.store.specs.Words.{view}
 use Rattle.store.specs.Sound.{pts, recs, ringAt, dueAt, loneDue, loneAt}
 use Rattle.store.specs.Sound as store
+use Rattle.store.specs.Value.{preserveCollinear}
 use Rattle.store.proofs.Soundness.{whole, from-first}
 use Rattle.acts.specs.Opened.{records}
 use Rattle.acts.specs.Rep.{value, Shows, as-ringless, as-open, as-closed, RepW}
 use Rattle.acts.specs.Finish.{Finishes}
 use Rattle.acts.proofs.Opening.{opening-rep}
-use Rattle.turns.specs.Form.{raised, preserves, geometryOf}
+use Rattle.turns.specs.Form.{raised, geometryOf}
 use Rattle.finishing.specs.Opened.{OpeningLeft}
 
 module _ (w : List ℕ) (o : OpeningLeft w) where
@@ -55,7 +56,7 @@ module _ (w : List ℕ) (o : OpeningLeft w) where
     held-shown e (as-open c a b d) = tt
     held-shown e (as-closed q L a b t m) = subst (Held (pts (view w))) (sym m) held-lone
 
-  pub held : HeldIn (plane (preserves (view w))) 2048 512 F₀
+  pub held : HeldIn (plane (preserveCollinear (view w))) 2048 512 F₀
   held = record { within = o .sound .few-points; every = λ i. each i (decLt i (recs (view w))) }
     where
       each : (i : ℕ) → Dec (i < recs (view w)) → OfClosed (Held (pts (view w))) (at (F₀ .entries) i)

@@ -7,10 +7,11 @@ use Rattle.job.specs.Refusal.{numberOf}
 use Rattle.job.specs.declared.refusal.Refusal.{Refusal}
 use Rattle.store.specs.Words.{view}
 use Rattle.store.specs.Sound.{Sound}
+use Rattle.store.specs.Value.{preserveCollinear}
 use Rattle.lone.specs.Forest.{ok, full, outOfTurn}
 use Rattle.acts.specs.Step.{Outcome, outcome}
 use Rattle.acts.proofs.Finished.{finish-done}
-use Rattle.turns.specs.Form.{raised, preserves, geometryOf}
+use Rattle.turns.specs.Form.{raised, geometryOf}
 use Rattle.turns.proofs.Ready.{laws}
 use Rattle.paths.specs.declared.Written.{Written}
 use Rattle.paths.specs.declared.Written.the-variants.{Paths, Refused}
@@ -50,7 +51,7 @@ module _ (c o : ℕ) (w′ t′ t : List ℕ) where
   after-steps : (w : List ℕ) → OpeningLeft w → (r : Outcome) → finishRings w ≡ r → finished (Paths c o) w′ t′ ≡ afterSteps r t → Listable c o t′
   unfolding finishRings
   after-steps w l (outcome ok w₁) h e =
-      after-writing w₁ (finish-done (geometryOf (view w)) raised (laws (preserves (view w))) w _ w₁ (start-rep w l) h .rep .sound) (buildPaths64 (view w₁) t) refl e
+      after-writing w₁ (finish-done (geometryOf (view w)) raised (laws (preserveCollinear (view w))) w _ w₁ (start-rep w l) h .rep .sound) (buildPaths64 (view w₁) t) refl e
   after-steps w l (outcome full w₁) h e = never c o _ _ _ _ _ e
   after-steps w l (outcome outOfTurn w₁) h e = never c o _ _ _ _ _ e
 

@@ -1,6 +1,7 @@
 // The listing of a tray, as text in a lent slice.
 use geometry::Point;
 use job::Job;
+use store::points::lower;
 ghost use mathlib.Core.Path.{_≡_};
 ghost use mathlib.Core.List.{[], _∷_, _++_};
 ghost use Prim.Native.Nat.{_+_, _<_, _≤_, _^_};
@@ -8,7 +9,6 @@ ghost use lib.IntN.{natAbs};
 ghost use lib.ListN.{length};
 ghost use Rattle.geometry.specs.Plane.{edgeArea, areaOutpt};
 ghost use Rattle.exact.specs.Num.{Within};
-ghost use Rattle.numbers.specs.Raised.{coordinate};
 ghost use Rattle.listing.specs.Pour.{poured, pour};
 ghost use Rattle.listing.specs.Text.{SPACE, decimal, signedText};
 ghost use Rattle.listing.specs.Fields.{pointIn, Held, pointsIn, Run, Sized, valueLength, pathIn, FieldIn, pathsIn, fieldAfter, FieldsIn};
@@ -95,16 +95,6 @@ fn put_word(out: &mut [u8], at: usize, a: i64) -> usize
 
 // ---- points of a tray
 
-const RAISE: i32 = Job::COORDINATE as i32;
-
-// The coordinate that a raised word stands for.
-fn lowered(v: u32) -> i32
-    requires { ⌜ v ≤ 2097152 ⌝ }
-    ensures { λ r. ⌜ r ≡ coordinate 1048576 v ⌝ }
-{
-    v as i32 - RAISE
-}
-
 // The point whose bytes begin at `at`.
 fn point_in(t: &[u8], at: usize) -> Point
     requires { ⌜ Held (now t) at ⌝ }
@@ -113,8 +103,8 @@ fn point_in(t: &[u8], at: usize) -> Point
     let x = numbers::read_raised(t, at, Job::COORDINATE);
     let y = numbers::read_raised(t, at + 4, Job::COORDINATE);
     Point {
-        x: lowered(x),
-        y: lowered(y),
+        x: lower(x as usize),
+        y: lower(y as usize),
     }
 }
 

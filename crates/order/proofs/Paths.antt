@@ -18,9 +18,9 @@ use Rattle.store.specs.Field.{pt, rc, NEXT, FIRST}
 use Rattle.store.specs.Words.{Store}
 use Rattle.store.specs.Sound.{recs, isOpen}
 use Rattle.store.specs.Sound as store
-use Rattle.store.specs.Value.{ringPoints}
+use Rattle.store.specs.Value.{ringPoints, preserveCollinear, reverseSolution}
 use Rattle.store.specs.Value as value
-use Rattle.paths.specs.Path.{pointAt, pointsAt, preserveCollinear, reverseSolution, pathBy, pathAt, pathIf, listed, pathsBelow}
+use Rattle.paths.specs.Path.{pointAt, pointsAt, pathBy, pathAt, pathIf, listed, pathsBelow}
 use Rattle.order.specs.Demand3.{Has}
 
 module _ {A : Type 0} where

@@ -22,14 +22,14 @@ use Rattle.lone.proofs.FinishingRings.{rings-finish}
 use Rattle.store.specs.Field.{ct, SETTINGS}
 use Rattle.store.specs.Words.{view}
 use Rattle.store.specs.Sound.{pts, recs}
+use Rattle.store.specs.Value.{preserveCollinear, reverseSolution}
 use Rattle.acts.specs.Opened.{records}
 use Rattle.acts.specs.Finish.{finishW}
 use Rattle.paths.specs.Path as paths
-use Rattle.paths.specs.Path.{reverseSolution}
 use Rattle.paths.specs.declared.Written.the-variants as written
 use Rattle.paths.specs.Wrote.{wrote, buildPaths64}
 use Rattle.job.specs.declared.refusal.Refusal.the-variants.{OutOfTurn}
-use Rattle.turns.specs.Form.{raised, preserves}
+use Rattle.turns.specs.Form.{raised}
 use Rattle.finishing.specs.declared.Stepped.{Stepped}
 use Rattle.finishing.specs.Step.{stepOf}
 use Rattle.finishing.specs.Write.{anyLive, writeOf}
@@ -81,7 +81,7 @@ module _ (w : List ℕ) (o : OpeningLeft w) where
     written-is t d =
         builds k (runOf w is) (F is) (follows is) t d
         ∙ ap (λ (l : List (List Point)). inTray l (paths.openPaths (view (runOf w is))) t) (closed-are (view (runOf w is)) (F is .entries) (follows is .rep .rep .records-are) rings-are)
-        ∙ ap (λ (l : List (List Point)). inTray (closedPaths (plane (paths.preserveCollinear (view (runOf w is)))) (reverseSolution (view (runOf w is))) (F is .entries)) l t) (open-are (view (runOf w is)) (F is .entries) (follows is .rep .rep .records-are) rings-are)
+        ∙ ap (λ (l : List (List Point)). inTray (closedPaths (plane (preserveCollinear (view (runOf w is)))) (reverseSolution (view (runOf w is))) (F is .entries)) l t) (open-are (view (runOf w is)) (F is .entries) (follows is .rep .rep .records-are) rings-are)
         ∙ ap (λ (n : ℕ). inTray (closedPaths (plane (eqb (n % 2) 1)) (eqb (n / 2 % 2) 1) (F is .entries)) (openPaths (plane (eqb (n % 2) 1)) (eqb (n / 2 % 2) 1) (F is .entries)) t) (follows is .settings)
 
     answers-at : (i : ℕ) → Answers (M k) (stepOf (runOf w is) i .answer) (at (F is .entries) i) (pts (view w) + allTaken (F is .entries)) (recs (view w) + allCut (F is .entries))
@@ -123,7 +123,7 @@ module _ (w : List ℕ) (o : OpeningLeft w) where
       }
 
   two-ways : Fits w ⊎ NeverEnds w
-  two-ways = go (rings-finish (plane (preserves (view w))) 2048 512 F₀ (held w o) (omega (arith, start .rep .rep .records-are, o .sound .few-records)))
+  two-ways = go (rings-finish (plane (preserveCollinear (view w))) 2048 512 F₀ (held w o) (omega (arith, start .rep .rep .records-are, o .sound .few-records)))
     where
       go : (AllDone (M k) (finishForest (M k) 2048 512 F₀ .entries) × lone.Fits (M k) 2048 512 F₀) ⊎ lone.NeverEnds (M k) 2048 512 F₀ → Fits w ⊎ NeverEnds w
       go (inl h) = inl (fits (h .1))

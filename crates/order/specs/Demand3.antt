@@ -24,17 +24,16 @@ use Rattle.lone.specs.Finish.{enough}
 use Rattle.store.specs.Field.{rc, CUT}
 use Rattle.store.specs.Words.{Store, view}
 use Rattle.store.specs.Sound.{pts, recs, ringless, isOpen, dueAt}
-use Rattle.store.specs.Value.{ringPoints}
+use Rattle.store.specs.Value.{ringPoints, preserveCollinear, reverseSolution}
 use Rattle.audit.specs.declared.Verdict.the-variants as verdict
 use Rattle.audit.specs.Tests.{testsOf}
 use Rattle.acts.specs.Opened.{records}
 use Rattle.acts.specs.Rep.{numberOf}
 use Rattle.acts.specs.Step.{outcome}
 use Rattle.paths.specs.declared.Written.the-variants as written
-use Rattle.paths.specs.Path.{reverseSolution}
 use Rattle.paths.specs.Tray.{tagOf, fields, padded}
 use Rattle.paths.specs.Wrote.{Wrote, wrote}
-use Rattle.turns.specs.Form.{raised, preserves}
+use Rattle.turns.specs.Form.{raised}
 use Rattle.finishing.specs.declared.Stepped.{Stepped}
 use Rattle.finishing.specs.declared.Stepped.the-variants.{Done, Refused}
 use Rattle.finishing.specs.Step.{stepOf}
@@ -90,12 +89,12 @@ inTray cs os t =
 module _ (w : List ℕ) where
   -- the settings
   abbrev pub M : Machine (Ring Point)
-  M = loneRing (preserves (view w))
+  M = loneRing (preserveCollinear (view w))
 
   -- the lone rings' outlines, and the open rings' paths
   abbrev pub outlines : List Lone → List ℕ → Wrote
   outlines es t =
-      inTray (closedPaths (plane (preserves (view w))) (reverseSolution (view w)) es) (openPaths (plane (preserves (view w))) (reverseSolution (view w)) es) t
+      inTray (closedPaths (plane (preserveCollinear (view w))) (reverseSolution (view w)) es) (openPaths (plane (preserveCollinear (view w))) (reverseSolution (view w)) es) t
 
   -- after a list of steps, "with each lone ring stepped once for each step on its record that wasn't refused"
   pub record After (is : List ℕ) : Type 0 where

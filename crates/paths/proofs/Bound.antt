@@ -13,9 +13,10 @@ use Rattle.rings.proofs.Counting.{pigeon}
 use Rattle.rings.proofs.Members.{occ-append}
 use Rattle.store.specs.Words.{Store, view}
 use Rattle.store.specs.Sound.{pts, recs, ringAt, isOpen, Sound}
+use Rattle.store.specs.Value.{reverseSolution}
 use Rattle.paths.specs.declared.Need.{Need}
 use Rattle.paths.specs.declared.Written.the-variants.{Paths, Refused}
-use Rattle.paths.specs.Path.{reverseSolution, pathIf, closedPaths, openPaths, sizeOf}
+use Rattle.paths.specs.Path.{pathIf, closedPaths, openPaths, sizeOf}
 use Rattle.paths.specs.Tray.{tagOf, fields, fieldsOf, padded}
 use Rattle.paths.specs.Walking.{Ready}
 use Rattle.paths.specs.Count.{needOf}

@@ -17,9 +17,10 @@ use Rattle.lone.specs.Plane.{plane}
 use Rattle.lone.specs.Path.{inOrder, withoutEquals, isSmallRing, buildPath64FromOutpt}
 use Rattle.store.specs.Words.{Store, view}
 use Rattle.store.specs.Sound.{pts, recs, ringAt, isOpen}
+use Rattle.store.specs.Value.{preserveCollinear, reverseSolution}
 use Rattle.store.proofs.Soundness.{whole}
 use Rattle.paths.specs.declared.Need.{Need}
-use Rattle.paths.specs.Path.{pointAt, pointsAt, preserveCollinear, reverseSolution, pathBy, pathAt, pathIf, listed, pathsBelow, sizeOf}
+use Rattle.paths.specs.Path.{pointAt, pointsAt, pathBy, pathAt, pathIf, listed, pathsBelow, sizeOf}
 use Rattle.paths.specs.Tray.{lowBytes, pathBytes, pathField, tagOf, fields}
 use Rattle.paths.specs.Walking.{Known, Directed, Asked}
 use Rattle.paths.specs.Count.{pathCount, fieldSize, needOf, Tally}

@@ -16,9 +16,10 @@ use Rattle.lone.specs.Path.{inOrder, withoutEquals}
 use Rattle.store.specs.Field.{pt, rc, NEXT, PREV, FIRST}
 use Rattle.store.specs.Words.{view}
 use Rattle.store.specs.Sound.{pts, recs, ringless, ringAt}
+use Rattle.store.specs.Value.{preserveCollinear}
 use Rattle.store.proofs.Soundness.{whole, from-first}
 use Rattle.lone.specs.Plane.{plane}
-use Rattle.paths.specs.Path.{pointAt, pointsAt, preserveCollinear}
+use Rattle.paths.specs.Path.{pointAt, pointsAt}
 use Rattle.paths.specs.Walking.{linkOf, startFrom, roundFrom, Round, Ready, pathRound}
 use Rattle.paths.proofs.Walks.{othersOf, walk-is}
 

@@ -19,7 +19,8 @@ use Rattle.lone.specs.Path.{inOrder, withoutEquals, isSmallRing, buildPath64Fro
 use Rattle.store.specs.Field.{rc, FIRST}
 use Rattle.store.specs.Words.{Store, view}
 use Rattle.store.specs.Sound.{ringless, isOpen}
-use Rattle.paths.specs.Path.{pointsAt, preserveCollinear, reverseSolution, pathBy, pathAt, pathIf, listed, sizeOf}
+use Rattle.store.specs.Value.{preserveCollinear, reverseSolution}
+use Rattle.paths.specs.Path.{pointsAt, pathBy, pathAt, pathIf, listed, sizeOf}
 use Rattle.paths.specs.Tray.{lowBytes, pathBytes, pathField, tagOf, fields, over}
 use Rattle.paths.specs.Walking.{startFrom, Round, Room, laid, pathRound}
 use Rattle.paths.specs.Count.{fieldSize}

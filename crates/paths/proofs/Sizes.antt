@@ -25,7 +25,8 @@ use Rattle.lone.specs.Path.{inOrder, dropEquals, withoutEquals, isSmallRing, bu
 use Rattle.store.specs.Field.{pt, rc, NEXT, PREV, FIRST}
 use Rattle.store.specs.Words.{view}
 use Rattle.store.specs.Sound.{pts, ringAt, PointIn}
-use Rattle.paths.specs.Path.{pointAt, pointsAt, preserveCollinear, pathBy, sizeOf}
+use Rattle.store.specs.Value.{preserveCollinear}
+use Rattle.paths.specs.Path.{pointAt, pointsAt, pathBy, sizeOf}
 use Rattle.paths.specs.Walking.{startFrom, roundFrom, Readable, Round, Known, Three, Sized, pathRound}
 use Rattle.paths.proofs.Walks.{othersOf, walk-is, round-here}
 use Rattle.paths.proofs.Directions.{Ringed, ringed, path-of}

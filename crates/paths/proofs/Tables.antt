@@ -16,9 +16,10 @@ use Rattle.lone.specs.Plane.{plane}
 use Rattle.lone.specs.Path.{inOrder, dropEquals, withoutEquals, isSmallRing, buildPath64FromOutpt}
 use Rattle.store.specs.Words.{Store}
 use Rattle.store.specs.Sound.{pts, recs, ringAt, isOpen, PointIn, Sound}
+use Rattle.store.specs.Value.{preserveCollinear, reverseSolution}
 use Rattle.store.proofs.Coordinates.{in-table}
 use Rattle.store.proofs.Soundness.{whole}
-use Rattle.paths.specs.Path.{pointAt, pointsAt, preserveCollinear, reverseSolution, pathBy, pathAt, pathIf, listed, pathsBelow, sizeOf}
+use Rattle.paths.specs.Path.{pointAt, pointsAt, pathBy, pathAt, pathIf, listed, pathsBelow, sizeOf}
 use Rattle.paths.proofs.Counts.{size-le}
 
 all-append : (a b : List Point) → AllInTable a → AllInTable b → AllInTable (a ++ b)

@@ -9,7 +9,8 @@ use Rattle.lone.specs.Plane.{plane}
 use Rattle.lone.specs.Path.{inOrder, withoutEquals}
 use Rattle.store.specs.Words.{Store, view}
 use Rattle.store.specs.Sound.{recs, ringless}
-use Rattle.paths.specs.Path.{pointsAt, preserveCollinear, pathIf, listed, pathsBelow}
+use Rattle.store.specs.Value.{preserveCollinear}
+use Rattle.paths.specs.Path.{pointsAt, pathIf, listed, pathsBelow}
 use Rattle.paths.specs.Tray.{tagOf, fields, fieldsOf, over}
 use Rattle.paths.specs.Walking.{Known, Directed, Asked, Laid, laid}
 

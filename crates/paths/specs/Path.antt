@@ -1,16 +1,15 @@
 -- The paths of a store: of every record's ring by value, closed and open ones, records ascending. Document 01, "Path and tray"; `build_paths64`.
-use Prim.Native.Nat.{ℕ, zero, suc, _/_, _%_}
+use Prim.Native.Nat.{ℕ, zero, suc}
 use mathlib.Core.Bool.{Bool, true, false, cond, Bool·beq}
 use mathlib.Core.List.{List, [], _∷_, _++_, map}
 use mathlib.Core.Option.{Option, none, some}
-use lib.Dec.{eqb}
 use lib.ListN.{length}
 use Rattle.geometry.specs.declared.Point.{Point}
 use Rattle.lone.specs.Path.{buildPath64FromOutpt}
-use Rattle.store.specs.Field.{ct, SETTINGS}
 use Rattle.store.specs.Words.{Store}
 use Rattle.store.specs.Value as value
 use Rattle.store.specs.Sound.{recs, ringAt, isOpen}
+use Rattle.store.specs.Value.{preserveCollinear, reverseSolution}
 use Rattle.lone.specs.Plane.{plane}
 
 -- the point of number k, by value: the store's own, which stays folded here until a proof asks for its coordinates
@@ -20,13 +19,6 @@ pointAt s k = value.pointAt s k
 -- the points of record i's ring by value, from the first in walk order
 abbrev pub pointsAt : Store → ℕ → List Point
 pointsAt s i = map (pointAt s) (ringAt s i)
-
--- the settings' bits
-abbrev pub preserveCollinear : Store → Bool
-preserveCollinear s = eqb (s (ct SETTINGS) 0 % 2) 1
-
-abbrev pub reverseSolution : Store → Bool
-reverseSolution s = eqb (s (ct SETTINGS) 0 / 2 % 2) 1
 
 -- the path, or none, of record i's ring, reversed or not, as an open or a closed one
 abbrev pub pathBy : Store → Bool → Bool → ℕ → Option (List Point)

@@ -15,11 +15,12 @@ use Rattle.rings.specs.Walk.{walk, Whole}
 use Rattle.store.specs.Field.{pt, X, Y, NEXT, PREV, LENGTH}
 use Rattle.store.specs.Words.{Store, view}
 use Rattle.store.specs.Sound.{pts, recs, PointIn, Sound}
+use Rattle.store.specs.Value.{preserveCollinear, reverseSolution}
 use Rattle.geometry.specs.declared.Point.{Point}
 use Rattle.geometry.specs.Plane.{samePoint}
 use Rattle.lone.specs.Path.{dropEquals, withoutEquals}
 use Rattle.lone.specs.Plane.{plane}
-use Rattle.paths.specs.Path.{pointAt, preserveCollinear, reverseSolution}
+use Rattle.paths.specs.Path.{pointAt}
 use Rattle.paths.specs.Tray.{pathBytes, over}
 
 -- prev in a reversed path, next in a forward one

@@ -1,6 +1,9 @@
-// One ring's path, and the tray's fields.
-use geometry::Point;
-use job::Job;
+// One record's path, how many bytes all paths take, and the tray's fields.
+mod round;
+
+use crate::round::point_at;
+use crate::round::round_size;
+use crate::round::write_round;
 use job::refusal::Refusal;
 use store::Col;
 use store::NONE;
@@ -11,129 +14,23 @@ ghost use mathlib.Core.List.{map};
 ghost use lib.Dec.{eqb, leb};
 ghost use lib.ListN.{length, set, replicate};
 ghost use Rattle.numbers.specs.Bytes.{putLe};
-ghost use Rattle.numbers.specs.Raised.{coordinate};
-ghost use Rattle.job.specs.Limits.{COORDINATE};
 ghost use Rattle.lone.specs.Plane.{plane};
 ghost use Rattle.lone.specs.Path.{isSmallRing};
 ghost use Rattle.store.specs.Field.{LENGTH};
 ghost use Rattle.store.specs.Words.{view};
 ghost use Rattle.store.specs.Sound.{recs, isOpen};
-ghost use Rattle.paths.specs.Path.{pointAt, preserveCollinear, reverseSolution, pathBy, pathIf, sizeOf};
+ghost use Rattle.store.specs.Value.{preserveCollinear, reverseSolution};
+ghost use Rattle.paths.specs.Path.{pointAt, pathBy, pathIf, sizeOf};
 ghost use Rattle.paths.specs.Count.{pathCount, fieldSize, needOf};
 ghost use Rattle.paths.specs.Tray.{pathBytes, tagOf, fieldsOf, padded, over};
 ghost use Rattle.paths.specs.Filling.{pathPoints, fieldAt, fieldsBelow, layOver, PointsFit, FieldFits, FieldsFit, AllFit};
 ghost use Rattle.paths.specs.Wrote.{wrote, buildPaths64};
-ghost use Rattle.paths.specs.Walking.{linkOf, startFrom, roundFrom, Ready, Known, Directed, Asked, Three, Sized, Readable, Round, Room, pathRound, more, putPoint, laid, putMore};
+ghost use Rattle.paths.specs.Walking.{startFrom, roundFrom, Ready, Known, Directed, Asked, Three, Sized, Round, laid};
 
 // What writing out answers: how many closed and open paths the tray holds, or a refusal.
 pub enum Written {
     Paths { closed: usize, open: usize },
     Refused(Refusal),
-}
-
-const RAISE: i32 = Job::COORDINATE as i32;
-
-// The coordinate that a raised word stands for.
-fn coordinate(v: usize) -> i32
-    requires { ⌜ v ≤ 2097152 ⌝ }
-    ensures { λ r. ⌜ r ≡ coordinate COORDINATE v ⌝ }
-{
-    v as i32 - RAISE
-}
-
-// The point of number k, by value.
-fn point_at(w: &[u32], k: usize) -> Point
-    requires { ⌜ Readable (now w) k ⌝ }
-    ensures { λ r. ⌜ r ≡ pointAt (view (now (w .entry))) k ⌝ }
-{
-    let x = store::get(w, Col::X, k);
-    let y = store::get(w, Col::Y, k);
-    Point {
-        x: coordinate(x),
-        y: coordinate(y),
-    }
-}
-
-// The point after k in a path: prev in a reversed one.
-fn link(w: &[u32], rev: bool, k: usize) -> usize
-    requires { ⌜ (LENGTH ≤ length (now w)) × (k < 2048) ⌝ }
-    ensures { λ r. ⌜ r ≡ linkOf (view (now (w .entry))) rev k ⌝ }
-{
-    if rev {
-        return store::get(w, Col::Prev, k);
-    }
-    store::get(w, Col::Next, k)
-}
-
-// How many points q adds to a path after b: none if the two are equal.
-fn adds(w: &[u32], b: usize, q: usize) -> usize
-    requires { ⌜ Readable (now w) b × Readable (now w) q ⌝ }
-    ensures { λ r. ⌜ r ≡ more (view (now (w .entry))) b q ⌝ }
-{
-    let p = point_at(w, q);
-    let last = point_at(w, b);
-    let same = geometry::same_point(p, last);
-    if same {
-        return 0;
-    }
-    1
-}
-
-// How many points the path has that goes round from a.
-fn round_size(w: &[u32], rev: bool, a: usize) -> usize
-    requires { ⌜ Round (now w) rev a ⌝ }
-    ensures { λ r. ⌜ r ≡ length (pathRound (view (now (w .entry))) rev a) ⌝ }
-{
-    let mut n: usize = 1;
-    let mut b = a;
-    let mut q = link(w, rev, a);
-    while q != a {
-        let d = adds(w, b, q);
-        n += d;
-        b = q;
-        q = link(w, rev, q);
-    }
-    n
-}
-
-// The bytes of point q, from `at` on: the only place where a point's bytes are written.
-fn put_point(w: &[u32], q: usize, t: &mut [u8], at: usize)
-    requires { ⌜ Readable (now w) q × (at + 8 ≤ length (now t)) ⌝ }
-    ensures { λ _. ⌜ now (t .exit) ≡ putPoint (view (now (w .entry))) q at (now (t .entry)) ⌝ }
-{
-    let x = store::get(w, Col::X, q);
-    let y = store::get(w, Col::Y, q);
-    numbers::write_lowered(t, at, x as u32, Job::COORDINATE);
-    numbers::write_lowered(t, at + 4, y as u32, Job::COORDINATE);
-}
-
-// The same, unless q and b are equal; answers how far the tray is filled.
-fn put_more(w: &[u32], b: usize, q: usize, t: &mut [u8], at: usize) -> usize
-    requires { ⌜ Readable (now w) b × Readable (now w) q × (at + 8 * more (view (now w)) b q ≤ length (now t)) ⌝ }
-    ensures { λ r. ⌜ laid r (now (t .exit)) ≡ putMore (view (now (w .entry))) b q at (now (t .entry)) ⌝ }
-{
-    let d = adds(w, b, q);
-    if d == 0 {
-        return at;
-    }
-    put_point(w, q, t, at);
-    at + 8
-}
-
-// The path that goes round from a, laid over the beginning of t.
-fn write_round(w: &[u32], rev: bool, a: usize, t: &mut [u8])
-    requires { ⌜ Room (now w) rev a (now t) ⌝ }
-    ensures { λ _. ⌜ now (t .exit) ≡ over (pathBytes (pathRound (view (now (w .entry))) rev a)) (now (t .entry)) ⌝ }
-{
-    put_point(w, a, t, 0);
-    let mut at: usize = 8;
-    let mut b = a;
-    let mut q = link(w, rev, a);
-    while q != a {
-        at = put_more(w, b, q, t, at);
-        b = q;
-        q = link(w, rev, q);
-    }
 }
 
 // ---- one record's path

@@ -1,5 +1,6 @@
--- Points and records by value, and a ring's points by value, as functions of the words.
+-- The settings, points and records by value, and a ring's points by value, as functions of the words.
 use Prim.Native.Nat.{ℕ, _%_, _/_}
+use mathlib.Core.Bool.{Bool}
 use mathlib.Core.List.{List, map}
 use lib.Dec.{eqb}
 use lib.IntN.{ℤ, pos, natAbs, _+ℤ_}
@@ -7,9 +8,16 @@ use Rattle.numbers.specs.Raised.{coordinate}
 use Rattle.job.specs.Limits as limit
 use Rattle.geometry.specs.declared.Point.{Point}
 use Rattle.store.specs.declared.points.OutRec.{OutRec}
-use Rattle.store.specs.Field.{pt, rc, X, Y, FLAGS, OWNER, FIRST, MARK, PRESENT, START, CUT}
+use Rattle.store.specs.Field.{pt, rc, ct, X, Y, FLAGS, OWNER, FIRST, MARK, PRESENT, START, CUT, SETTINGS}
 use Rattle.store.specs.Words.{Store, view}
 use Rattle.store.specs.Sound.{ringAt}
+
+-- the settings' bits: 0 `preserve_collinear`, 1 `reverse_solution`
+abbrev pub preserveCollinear : Store → Bool
+preserveCollinear s = eqb (s (ct SETTINGS) 0 % 2) 1
+
+abbrev pub reverseSolution : Store → Bool
+reverseSolution s = eqb (s (ct SETTINGS) 0 / 2 % 2) 1
 
 -- a point by value: its words are its coordinates, raised by the largest one
 abbrev pub pointAt : Store → ℕ → Point

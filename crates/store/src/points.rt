@@ -42,7 +42,7 @@ const RAISE: i32 = Job::COORDINATE as i32;
 // ---- by value
 
 // The coordinate that a word stands for.
-fn lower(v: usize) -> i32
+pub fn lower(v: usize) -> i32
     requires { ⌜ v ≤ 2 * limit.COORDINATE ⌝ }
     ensures { λ r. ⌜ r ≡ coordinate limit.COORDINATE v ⌝ }
 {

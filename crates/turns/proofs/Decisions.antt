@@ -31,11 +31,12 @@ use Rattle.store.specs.Field.{pt, rc, ct, NEXT, PREV, FIRST, PRESENT, START, SE
 use Rattle.store.specs.Words.{view, cell}
 use Rattle.store.specs.Sound.{dueAt}
 use Rattle.store.specs.Value as value
+use Rattle.store.specs.Value.{preserveCollinear}
 use Rattle.walks.specs.Ring.{OnRing, MaybeOnRing, valuesFrom, valuesOf}
 use Rattle.turns.specs.declared.Due.{Due}
 use Rattle.turns.specs.declared.Due.the-variants.{Validity, Removal, Triangle, Split, Done}
 use Rattle.turns.specs.Code.{dueIs}
-use Rattle.turns.specs.Form.{raised, preserves, geometryOf}
+use Rattle.turns.specs.Form.{raised, geometryOf}
 use Rattle.turns.specs.Reads.{Found, Valued, Going, Three, Four, Cornered, CornerOf}
 use Rattle.turns.specs.Decide.{keepsBy, smallAt, removeAt, validWithout, removalAt, validityAt, triangleAt, threeFrom, threeLeft, dueOn, ringFrom, cutAt, splitOpAt, crossedAt, splitAt, decideDue, decideAt}
 use Rattle.turns.proofs.Reading.{low, found}
@@ -70,7 +71,7 @@ module _ (w : List ℕ) (i f : ℕ) (b : Bool) (F : Found w (cell (rc FIRST) w i
   valid-at =
       let n : eqb f 65535 ≡ false = ne-eqb f 65535 (λ z. omega (arith, F .low)) in
       let v : valuesOf w f ≡ map (value.pointOf w) (walk (view w (pt NEXT)) (cell (rc FIRST) w i)) = rw n (ap (λ (k : ℕ). map (value.pointOf w) (walk (view w (pt NEXT)) k)) (F .is)) in
-      sym (e ∙ ap (isValidClosedPath (plane true)) v ∙ valid-any (preserves (view w)) (map (value.pointOf w) (walk (view w (pt NEXT)) (cell (rc FIRST) w i))))
+      sym (e ∙ ap (isValidClosedPath (plane true)) v ∙ valid-any (preserveCollinear (view w)) (map (value.pointOf w) (walk (view w (pt NEXT)) (cell (rc FIRST) w i))))
 
   pub is-valid : b ≡ true → _≡_ {A = Act Point} (toFirst removal) (validityAt (raised .of) (geometryOf (view w)) (view w) i)
   unfolding validityAt
@@ -81,7 +82,7 @@ module _ (w : List ℕ) (i f : ℕ) (b : Bool) (F : Found w (cell (rc FIRST) w i
   not-valid h = rw (valid-at ∙ h)
 
 -- ---- a removal turn
-pub removable-at : (w : List ℕ) (p x n : ℕ) (keep r : Bool) (a b c : Point) → keep ≡ preserves (view w) → Valued w p a → Valued w x b → Valued w n c → r ≡ removable keep a b c
+pub removable-at : (w : List ℕ) (p x n : ℕ) (keep r : Bool) (a b c : Point) → keep ≡ preserveCollinear (view w) → Valued w p a → Valued w x b → Valued w n c → r ≡ removable keep a b c
     → r ≡ removeAt (raised .of) (geometryOf (view w)) (view w) p x n
 removable-at w p x n keep r a b c k A B C e = rw (e, k, A .is, B .is, C .is)
 
@@ -294,5 +295,5 @@ module _ (w : List ℕ) (i : ℕ) (t : Due) (e : dueIs t ≡ dueAt (view w) i) (
 pub at-done : (w : List ℕ) (i : ℕ) (t : Due) → dueIs t ≡ dueAt (view w) i → t ≡ Done → stay ≡ decideAt (raised .of) (geometryOf (view w)) (view w) i
 at-done w i t e h = by-due w i done stay (sym (ap dueIs h) ∙ e) refl
 
-pub preserve-is : (w : List ℕ) (s : ℕ) → s ≡ cell (ct SETTINGS) w 0 → eqb (s % 2) 1 ≡ preserves (view w)
+pub preserve-is : (w : List ℕ) (s : ℕ) → s ≡ cell (ct SETTINGS) w 0 → eqb (s % 2) 1 ≡ preserveCollinear (view w)
 preserve-is w s e = rw e

@@ -17,11 +17,12 @@ use Rattle.lone.specs.Finish.{enough}
 use Rattle.store.specs.Field.{ct, SETTINGS, LENGTH}
 use Rattle.store.specs.Words.{view}
 use Rattle.store.specs.Sound.{recs, isOpen, loneAt}
+use Rattle.store.specs.Value.{preserveCollinear}
 use Rattle.acts.specs.Step.{Outcome, outcome, actAt, roomFor, answerS, stepByW, stepW, stepOf}
 use Rattle.acts.specs.Finish.{Finishes, wordsLeft, andThen, stepsByW, finishRecord, finishFromW, finishW}
 use Rattle.acts.proofs.Stepping.{length-step}
 use Rattle.acts.proofs.Finishing.{settings-kept, finishes-step, words-fall, words-bound, finishes-record, settings-record, length-record}
-use Rattle.turns.specs.Form.{raised, preserves, geometryOf}
+use Rattle.turns.specs.Form.{raised, geometryOf}
 use Rattle.turns.specs.Reads.{SoundWords}
 use Rattle.turns.specs.Takes.{isFull}
 use Rattle.turns.proofs.Ready.{laws}
@@ -38,7 +39,7 @@ pub record Running (w₀ : List ℕ) (i : ℕ) (w : List ℕ) : Type 0 where
 
 pub begun : (w : List ℕ) (i : ℕ) → Finishes (geometryOf (view w)) raised w → Running w i w
 unfolding finishRecord
-begun w i v = record { finishes = v; same = refl; size = refl; fuel = enough 2048; some = omega arith; more = words-bound (geometryOf (view w)) raised (laws (preserves (view w))) w i v; is = refl }
+begun w i v = record { finishes = v; same = refl; size = refl; fuel = enough 2048; some = omega arith; more = words-bound (geometryOf (view w)) raised (laws (preserveCollinear (view w))) w i v; is = refl }
 
 module _ (w₀ : List ℕ) (i : ℕ) (w : List ℕ) (R : Running w₀ i w) where
   pub sound-words : SoundWords w
@@ -66,7 +67,7 @@ module _ (w₀ : List ℕ) (i : ℕ) (w : List ℕ) (R : Running w₀ i w) where
             by outOfTurn h = let y : _≡_ {A = ℕ} 0 1 = cc in absurd (omega arith)
 
         fell : wordsLeft (geometryOf (view w₀)) raised (stepW (geometryOf (view w₀)) raised w i) i < wordsLeft (geometryOf (view w₀)) raised w i
-        fell = words-fall (geometryOf (view w₀)) raised (laws (preserves (view w₀))) w i (R .finishes) ok-says
+        fell = words-fall (geometryOf (view w₀)) raised (laws (preserveCollinear (view w₀))) w i (R .finishes) ok-says
 
         pub next : Running w₀ i w′
         next = subst (Running w₀ i) words (go (R .fuel) (R .more ok-says) (R .is))
@@ -76,8 +77,8 @@ module _ (w₀ : List ℕ) (i : ℕ) (w : List ℕ) (R : Running w₀ i w) where
             go zero l q = absurd (omega arith)
             go (suc n) l q =
                 record {
-                  finishes = finishes-step (geometryOf (view w₀)) raised (laws (preserves (view w₀))) w i (R .finishes);
-                  same = settings-kept (geometryOf (view w₀)) raised (laws (preserves (view w₀))) w i (R .finishes) ∙ R .same;
+                  finishes = finishes-step (geometryOf (view w₀)) raised (laws (preserveCollinear (view w₀))) w i (R .finishes);
+                  same = settings-kept (geometryOf (view w₀)) raised (laws (preserveCollinear (view w₀))) w i (R .finishes) ∙ R .same;
                   size = length-step (geometryOf (view w₀)) raised w i ∙ R .size;
                   fuel = n;
                   some = omega (arith, fell);
@@ -147,9 +148,9 @@ module _ (w₀ : List ℕ) (i : ℕ) (w : List ℕ) (R : Remaining w₀ i w) whe
       pub next-all : b ≡ false → Remaining w₀ (i + 1) w′
       next-all h =
           record {
-            finishes = finishes-record (geometryOf (view w₀)) raised (laws (preserves (view w₀))) w i a w′ (R .finishes) finished;
-            same = settings-record (geometryOf (view w₀)) raised (laws (preserves (view w₀))) w i a w′ (R .finishes) finished ∙ R .same;
-            size = length-record (geometryOf (view w₀)) raised (laws (preserves (view w₀))) w i a w′ finished ∙ R .size;
+            finishes = finishes-record (geometryOf (view w₀)) raised (laws (preserveCollinear (view w₀))) w i a w′ (R .finishes) finished;
+            same = settings-record (geometryOf (view w₀)) raised (laws (preserveCollinear (view w₀))) w i a w′ (R .finishes) finished ∙ R .same;
+            size = length-record (geometryOf (view w₀)) raised (laws (preserveCollinear (view w₀))) w i a w′ finished ∙ R .size;
             low = omega arith;
             is = here ∙ go a (sym eb ∙ h);
           }

@@ -13,7 +13,7 @@ use Rattle.lone.specs.Plane.{plane}
 use Rattle.lone.proofs.Plane.{plane-laws}
 use Rattle.numbers.specs.Raised.{coordinate}
 use Rattle.job.specs.Limits as limit
-use Rattle.store.specs.Value.{wordOf}
+use Rattle.store.specs.Value.{wordOf, preserveCollinear}
 use Rattle.store.specs.Field.{rc, FIRST, PRESENT}
 use Rattle.store.specs.Words.{view}
 use Rattle.store.proofs.Soundness.{first-on}
@@ -22,7 +22,7 @@ use Rattle.walks.proofs.Visiting.{on-ring}
 use Rattle.acts.specs.Apply.{Codes}
 use Rattle.acts.specs.Laws.{Laws}
 use Rattle.acts.specs.Step.{actAt}
-use Rattle.turns.specs.Form.{raised, preserves, geometryOf}
+use Rattle.turns.specs.Form.{raised, geometryOf}
 use Rattle.turns.specs.Reads.{Steps, Going}
 use Rattle.turns.specs.Decide.{decideAt}
 use Rattle.turns.specs.Applies.{Reach}
@@ -65,7 +65,7 @@ module _ (w : List ℕ) (i : ℕ) (s : Steps w i) where
       }
 
   pub decided : (r : Act Point) → r ≡ decideAt (raised .of) (geometryOf (view w)) (view w) i → r ≡ actAt (geometryOf (view w)) raised (view w) i
-  decided r e = e ∙ decide-is (raised .of) (geometryOf (view w)) (view w) (laws (preserves (view w)) .flat-3) (laws (preserves (view w)) .flat-2) (s .sound) i (s .closed)
+  decided r e = e ∙ decide-is (raised .of) (geometryOf (view w)) (view w) (laws (preserveCollinear (view w)) .flat-3) (laws (preserveCollinear (view w)) .flat-2) (s .sound) i (s .closed)
 
   pub reach : Reach w i
   reach =

@@ -14,6 +14,7 @@ use Rattle.lone.specs.Forest.{ok, full, outOfTurn}
 use Rattle.store.specs.Field.{rc, ct, FLAGS, FIRST, MARK, POINTS, RECORDS}
 use Rattle.store.specs.Words.{Store, view, cell}
 use Rattle.store.specs.Sound.{pts, recs, dueOf, dueAt}
+use Rattle.store.specs.Value.{preserveCollinear}
 use Rattle.acts.specs.Apply.{takesRecord, afterW}
 use Rattle.acts.specs.Step.{outcome, fits, live, actAt, answerS, stepW, stepOf}
 use Rattle.acts.proofs.Acting.{Ready, to-discard, to-move, to-go-first, to-drop, to-double, to-cut}
@@ -23,7 +24,7 @@ use Rattle.turns.specs.declared.Act as code
 use Rattle.turns.specs.declared.Act.the-variants.{Cut}
 use Rattle.turns.specs.declared.Due as due
 use Rattle.turns.specs.Code.{dueIs, actIs}
-use Rattle.turns.specs.Form.{raised, preserves, geometryOf}
+use Rattle.turns.specs.Form.{raised, geometryOf}
 use Rattle.turns.specs.Reads.{Steps, SoundWords}
 use Rattle.turns.specs.Takes.{placesOf}
 use Rattle.turns.specs.Applies.{NewIn, Applies}
@@ -78,7 +79,7 @@ module _ (w : List ℕ) (i : ℕ) (s : Steps w i) (act : Act Point) (e : act ≡
         reach = reach w i s;
         points-fit = leb-true _ _ (f .0);
         records-fit = leb-true _ _ (f .1);
-        new-in = new-in (view w) i act (subst (Ready raised (view w) i) (sym e) (ready (geometryOf (view w)) raised (laws (preserves (view w))) (view w) (s .sound) i (s .closed) (s .unfinished)));
+        new-in = new-in (view w) i act (subst (Ready raised (view w) i) (sym e) (ready (geometryOf (view w)) raised (laws (preserveCollinear (view w))) (view w) (s .sound) i (s .closed) (s .unfinished)));
       }
     where
       both : (a b : Bool) → (a && b) ≡ true → (a ≡ true) × (b ≡ true)

@@ -1,12 +1,8 @@
 -- A point by value, from its two words, as the acts read and write it; and the settings' bit that the geometry takes.
-use Prim.Native.Nat.{_%_}
-use mathlib.Core.Bool.{Bool}
-use lib.Dec.{eqb}
 use Rattle.numbers.specs.Raised.{coordinate}
 use Rattle.job.specs.Limits as limit
 use Rattle.geometry.specs.declared.Point.{Point}
-use Rattle.store.specs.Value.{wordOf}
-use Rattle.store.specs.Field.{ct, SETTINGS}
+use Rattle.store.specs.Value.{wordOf, preserveCollinear}
 use Rattle.store.specs.Words.{Store}
 use Rattle.lone.specs.Lone.{Geo}
 use Rattle.lone.specs.Plane.{plane}
@@ -15,10 +11,6 @@ use Rattle.acts.specs.Apply.{Coding}
 abbrev pub raised : Coding Point
 raised = record { of = λ a b. record { x = coordinate limit.COORDINATE a; y = coordinate limit.COORDINATE b }; xw = λ p. wordOf (p .x); yw = λ p. wordOf (p .y) }
 
--- the setting `preserve_collinear`: bit 0
-abbrev pub preserves : Store → Bool
-preserves s = eqb (s (ct SETTINGS) 0 % 2) 1
-
--- the geometry of a work space
+-- the geometry of a work space, by its setting `preserve_collinear`
 abbrev pub geometryOf : Store → Geo Point
-geometryOf s = plane (preserves s)
+geometryOf s = plane (preserveCollinear s)

@@ -21,9 +21,10 @@ ghost use Rattle.geometry.specs.Crossing.{Crossed};
 ghost use Rattle.lone.specs.Ring.{dropPoint, discard};
 ghost use Rattle.store.specs.Field.{rc, FIRST, PRESENT, LENGTH};
 ghost use Rattle.store.specs.Words.{cell, view};
+ghost use Rattle.store.specs.Value.{preserveCollinear};
 ghost use Rattle.walks.specs.Ring.{OnRing};
 ghost use Rattle.turns.specs.Code.{dueIs, actIs};
-ghost use Rattle.turns.specs.Form.{raised, preserves, geometryOf};
+ghost use Rattle.turns.specs.Form.{raised, geometryOf};
 ghost use Rattle.turns.specs.Reads.{Found, Steps, Going, Three, Four, Cornered, CornerOf};
 ghost use Rattle.turns.specs.Decide.{keepsBy, smallAt, removeAt, validWithout, removalAt, validityAt, triangleAt, threeFrom, threeLeft, dueOn, cutAt, splitOpAt, crossedAt, splitAt, decideAt};
 ghost use Rattle.acts.specs.Step.{actAt};
@@ -31,7 +32,7 @@ ghost use Rattle.acts.specs.Step.{actAt};
 // The setting `preserve_collinear`: bit 0.
 fn preserve(w: &[u32]) -> bool
     requires { ⌜ LENGTH ≤ length (now w) ⌝ }
-    ensures { λ r. ⌜ r ≡ preserves (view (now (w .entry))) ⌝ }
+    ensures { λ r. ⌜ r ≡ preserveCollinear (view (now (w .entry))) ⌝ }
 {
     let s = get(w, Col::Settings, 0);
     s % 2 == 1

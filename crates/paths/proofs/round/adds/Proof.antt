@@ -1,8 +1,8 @@
 -- `paths::adds` meets its contract.
 use borrow.Author.Needs.{needs}
 use Rattle.paths.proofs.Rounds.{adds-none, adds-one}
-use Rattle.paths.proofs.adds.Statement.{statement}
-use Rattle.paths.proofs.adds.Tie as tie
+use Rattle.paths.proofs.round.adds.Statement.{statement}
+use Rattle.paths.proofs.round.adds.Tie as tie
 
 pub adds-spec : {M : Type 1} → statement M
 adds-spec =

@@ -1,8 +1,8 @@
 -- `paths::link` meets its contract.
 use borrow.Author.Needs.{needs}
 use Rattle.paths.proofs.Walks.{link-back, link-on}
-use Rattle.paths.proofs.link.Statement.{statement}
-use Rattle.paths.proofs.link.Tie as tie
+use Rattle.paths.proofs.round.link.Statement.{statement}
+use Rattle.paths.proofs.round.link.Tie as tie
 
 pub link-spec : {M : Type 1} → statement M
 link-spec =

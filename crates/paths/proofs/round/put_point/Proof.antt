@@ -1,8 +1,8 @@
 -- `paths::put_point` meets its contract.
 use borrow.Author.Needs.{needs}
 use Rattle.paths.proofs.Writing.{point-put}
-use Rattle.paths.proofs.put_point.Statement.{statement}
-use Rattle.paths.proofs.put_point.Tie as tie
+use Rattle.paths.proofs.round.put_point.Statement.{statement}
+use Rattle.paths.proofs.round.put_point.Tie as tie
 
 pub put-point-spec : {M : Type 1} → statement M
 put-point-spec =

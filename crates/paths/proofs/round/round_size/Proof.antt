@@ -6,8 +6,8 @@ use Rattle.store.specs.Words.{view}
 use Rattle.paths.specs.Walking.{linkOf, toGo, Going, Counting, pathRound}
 use Rattle.paths.proofs.Walks.{round-here, going-less}
 use Rattle.paths.proofs.Rounds.{counting-begins, counting-on, counting-fits, counting-here, counting-ends}
-use Rattle.paths.proofs.round_size.Statement.{statement}
-use Rattle.paths.proofs.round_size.Tie as tie
+use Rattle.paths.proofs.round.round_size.Statement.{statement}
+use Rattle.paths.proofs.round.round_size.Tie as tie
 
 abbrev Inv-loop : tie.InvT-loop
 Inv-loop w rev a n₀ b₀ q₀ n b q = Going w rev a q (Counting w b n (length (pathRound (view w) rev a)))

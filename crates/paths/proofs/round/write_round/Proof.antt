@@ -4,8 +4,8 @@ use Rattle.store.specs.Words.{view}
 use Rattle.paths.specs.Walking.{linkOf, toGo, Going, Laying, pathRound}
 use Rattle.paths.proofs.Walks.{round-here, going-less}
 use Rattle.paths.proofs.Writing.{one-fits, laying-begins, laying-on, laying-here, laying-length, laying-room, laying-ends}
-use Rattle.paths.proofs.write_round.Statement.{statement}
-use Rattle.paths.proofs.write_round.Tie as tie
+use Rattle.paths.proofs.round.write_round.Statement.{statement}
+use Rattle.paths.proofs.round.write_round.Tie as tie
 
 abbrev Inv-loop : tie.InvT-loop
 Inv-loop w rev a t₀ at₀ b₀ q₀ t at b q = Going w rev a q (Laying w b at t₀ t (pathRound (view w) rev a))
