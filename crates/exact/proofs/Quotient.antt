@@ -1,4 +1,4 @@
--- The quotient of two floats that are whole numbers: its value, and how it compares with 0 and 1. Assumes nothing.
+-- The quotient of two floats that are whole numbers: its value, and how it compares with 0 and 1.
 use mathlib.Core.Path.{_≡_, refl, sym, ap, _∙_}
 use mathlib.Core.Logic.{_⊎_, inl, inr}
 use mathlib.Core.Bool.{Bool, true, false, _&&_, _||_, true≢false}

@@ -1,4 +1,4 @@
--- `geometry::fraction` meets its contract. Assumes nothing.
+-- `geometry::fraction` meets its contract.
 use Rattle.geometry.specs.Floats.{fractionF}
 use Rattle.geometry.proofs.fraction.Statement.{statement}
 use Rattle.geometry.proofs.fraction.Tie as tie
