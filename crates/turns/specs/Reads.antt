@@ -4,6 +4,7 @@ use mathlib.Core.Path.{_≡_}
 use mathlib.Core.List.{List}
 use mathlib.Core.Bool.{false}
 use lib.ListN.{length}
+use Rattle.job.specs.Limits as limit
 use Rattle.rings.specs.Progress.{isDone}
 use Rattle.geometry.specs.declared.Point.{Point}
 use Rattle.geometry.specs.Plane.{InTable}
@@ -19,7 +20,7 @@ use Rattle.walks.specs.Ring.{OnRing}
 pub record Found (w : List ℕ) (k r : ℕ) : Type 0 where
   pub is : r ≡ k
   pub on : OnRing w r
-  pub low : r < 2048
+  pub low : r < limit.POINTS
 
 -- p is the value of the point k
 pub record Valued (w : List ℕ) (k : ℕ) (p : Point) : Type 0 where
@@ -36,7 +37,7 @@ pub record Steps (w : List ℕ) (i : ℕ) : Type 0 where
 -- what its decision reads: its first point and its present place are on a ring
 pub record Going (w : List ℕ) (i : ℕ) : Type 0 where
   pub long : LENGTH ≤ length w
-  pub record-in : i < 512
+  pub record-in : i < limit.RECORDS
   pub first-on : OnRing w (view w (rc FIRST) i)
   pub present-on : OnRing w (view w (rc PRESENT) i)
 

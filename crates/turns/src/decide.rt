@@ -15,6 +15,7 @@ ghost use mathlib.Core.Bool.{cond, not, _||_};
 ghost use Prim.Native.Nat.{_+_, _<_, _≤_};
 ghost use lib.IntN.{natAbs};
 ghost use lib.ListN.{length};
+ghost use Rattle.job.specs.Limits as limit;
 ghost use Rattle.rings.specs.Progress.{split, done};
 ghost use Rattle.geometry.specs.Plane.{InTable, samePoint, areaTriangle};
 ghost use Rattle.geometry.specs.Crossing.{Crossed};
@@ -187,7 +188,7 @@ fn size_of(a: i64) -> usize
 
 // Whether the loop ends at k: it is the first point or the loop's start.
 fn due_on(w: &[u32], i: usize, k: usize) -> Due
-    requires { ⌜ (LENGTH ≤ length (now w)) × (i < 512) ⌝ }
+    requires { ⌜ (LENGTH ≤ length (now w)) × (i < limit.RECORDS) ⌝ }
     ensures { λ r. ⌜ dueIs r ≡ dueOn (view (now (w .entry))) i k ⌝ }
 {
     let f = get(w, Col::First, i);
