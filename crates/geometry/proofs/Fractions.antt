@@ -1,4 +1,4 @@
--- The fraction of a crossing: the float's tests are the whole numbers'. Assumes nothing.
+-- The fraction of a crossing: the float's tests are the whole numbers'.
 use mathlib.Core.Path.{_≡_, refl, subst, _∙_}
 use mathlib.Core.Bool.{Bool, true, false}
 use Prim.Native.Nat.{ℕ, _≤_, _<_, _^_}
@@ -12,14 +12,12 @@ use lib.Ieee.{Float, binary64, round, div, le}
 use Rattle.exact.specs.Num.{Num, Part, eqZ}
 use Rattle.exact.proofs.Floats.{num-zero, num-eq}
 use Rattle.exact.proofs.Quotient.{size-pos, start-is, inside-is, end-is, part-round}
-use Rattle.geometry.specs.declared.Point.{Point}
-use Rattle.geometry.specs.declared.EdgePair.{EdgePair}
+use Rattle.geometry.specs.declared.Edges.{Edges}
 use Rattle.geometry.specs.declared.Crossing.{Crossing}
 use Rattle.geometry.specs.declared.Crossing.the-variants.{Parallel, Start, End, Inside}
-use Rattle.geometry.specs.Plane.{InTable}
-use Rattle.geometry.specs.Crossing.{edgePair, pick, fractionOf, crossing}
+use Rattle.geometry.specs.Crossing.{Paired, pick, fractionOf, crossing}
 use Rattle.geometry.specs.Floats.{zeroF, oneF, divisorF, alongF, fractionF}
-use Rattle.geometry.proofs.Edges.{num-divisor, num-first}
+use Rattle.geometry.proofs.Differences.{num-divisor, num-first}
 
 -- `fraction` on floats that hold whole numbers
 pub fraction-float : {x y : Float} {u v : ℤ} {m n : ℕ} → Num x u m → Num y v n → n ≤ 2 ^ 53 → fractionF x y ≡ fractionOf u v
@@ -40,12 +38,17 @@ fraction-float {x} {y} {u} {v} p q h = rw (num-eq q num-zero) (go (eqZ v (pos 0)
         let l = le-trans (q .within .size) h in
         rw (start-is (p .exact) (q .exact) k l) (rest (leZ (u *ℤ v) (pos 0)) (λ z. (end-is (p .exact) (q .exact) k l z, inside-is (p .exact) (q .exact) k l z)))
 
--- the answer of `crossing_at`
+-- the answer of `get_segment_intersect_pt`
 pub crossing-of :
-    {a b c d : Point} {e : EdgePair} {r : Crossing} → InTable a → InTable b → InTable c → InTable d → e ≡ edgePair a b c d →
-    r ≡ fractionF (alongF (a .x) (a .y) (c .x) (c .y) (e .dx2) (e .dy2)) (divisorF e) → r ≡ crossing a b c d
+    {e : Edges} {r : Crossing} {t cp : Float} → Paired e →
+    t ≡ alongF (e .a .x) (e .a .y) (e .c .x) (e .c .y) (e .pair .dx2) (e .pair .dy2) → cp ≡ divisorF (e .pair) → r ≡ fractionF t cp → r ≡ crossing (e .a) (e .b) (e .c) (e .d)
 unfolding crossing
-crossing-of A B C D p r = r ∙ rw p (fraction-float (num-first A B C D) (num-divisor A B C D) (leb→le (2 ^ 43) (2 ^ 53) tt))
+crossing-of p f q r =
+    let A = p .a-in in
+    let B = p .b-in in
+    let C = p .c-in in
+    let D = p .d-in in
+    r ∙ rw (f, q, p .pair-is) (fraction-float (num-first A B C D) (num-divisor A B C D) (leb→le (2 ^ 43) (2 ^ 53) tt))
 
 -- ---- a crossing's fraction lies between 0 and 1
 pub part-of : (u v : ℤ) (t : Float) → fractionOf u v ≡ Inside t → Part t

@@ -1,4 +1,4 @@
--- Where the crossing test holds, the crossing is inside, and its fraction is a float strictly between 0 and 1. Assumes nothing.
+-- Where the crossing test holds, the crossing is inside, and its fraction is a float strictly between 0 and 1.
 use mathlib.Core.Path.{_≡_, refl, ap}
 use mathlib.Core.Bool.{Bool, true, false, not, cond, _&&_, false≢true}
 use Prim.Native.Nat.{ℕ, suc, _*_, _<_, _^_, zero-le, suc-le-suc}
@@ -17,7 +17,7 @@ use Rattle.geometry.specs.declared.Crossing.the-variants.{Inside}
 use Rattle.geometry.specs.Plane.{InTable, divisor, alongFirst, alongSecond, strictlyWithin, segmentsIntersect}
 use Rattle.geometry.specs.Crossing.{fractionOf, crossing}
 use Rattle.geometry.specs.Floats.{zeroF, oneF}
-use Rattle.geometry.proofs.Edges.{num-divisor}
+use Rattle.geometry.proofs.Differences.{num-divisor}
 
 -- u is a proper fraction of v
 record Proper (u v : ℤ) : Type 0 where

@@ -8,6 +8,7 @@ use lib.Ieee.{Float, binary64, ofInt, add, mul, round, toSigned}
 use Rattle.exact.specs.Num.{eqZ}
 use Rattle.geometry.specs.declared.Point.{Point}
 use Rattle.geometry.specs.declared.EdgePair.{EdgePair}
+use Rattle.geometry.specs.declared.Edges.{Edges}
 use Rattle.geometry.specs.declared.Crossing.{Crossing}
 use Rattle.geometry.specs.declared.Crossing.the-variants.{Parallel, Start, End, Inside}
 use Rattle.geometry.specs.Plane.{InTable, divisor, alongFirst}
@@ -19,6 +20,18 @@ float z = ofInt binary64 z
 -- "The four differences of an edge pair are kept together as floats"
 unfoldable pub edgePair : Point → Point → Point → Point → EdgePair
 edgePair a b c d = record { dx1 = float (b .x -ℤ a .x); dy1 = float (b .y -ℤ a .y); dx2 = float (d .x -ℤ c .x); dy2 = float (d .y -ℤ c .y) }
+
+-- two edges with their differences
+abbrev pub edgesOf : Point → Point → Point → Point → Edges
+edgesOf a b c d = record { a = a; b = b; c = c; d = d; pair = edgePair a b c d }
+
+-- the points of two edges are on the table, and their pair is the pair of these points
+pub record Paired (e : Edges) : Type 0 where
+  pub a-in : InTable (e .a)
+  pub b-in : InTable (e .b)
+  pub c-in : InTable (e .c)
+  pub d-in : InTable (e .d)
+  pub pair-is : e .pair ≡ edgePair (e .a) (e .b) (e .c) (e .d)
 
 -- the first where the test holds, else the second
 abbrev pub pick : Bool → Crossing → Crossing → Crossing
@@ -33,7 +46,7 @@ fractionOf num det =
     (pick (leb (natAbs det) (natAbs num)) End
     (Inside (round binary64 false (natAbs num) (natAbs det)))))
 
--- where the line of the edge from c to d meets the edge from a to b
+-- the answer of `get_segment_intersect_pt`: where the line of the edge from c to d meets the edge from a to b
 unfoldable pub crossing : Point → Point → Point → Point → Crossing
 crossing a b c d = fractionOf (alongFirst a b c d) (divisor a b c d)
 
@@ -41,14 +54,23 @@ crossing a b c d = fractionOf (alongFirst a b c d) (divisor a b c d)
 unfoldable pub coordinateAt : ℤ → ℤ → Float → ℤ
 coordinateAt a b t = toSigned 63 (add binary64 (float a) (mul binary64 t (float (b -ℤ a))))
 
+-- the edges meet inside the first, at its fraction t
+pub record MeetAt (e : Edges) (t : Float) : Type 0 where
+  pub paired : Paired e
+  pub is : crossing (e .a) (e .b) (e .c) (e .d) ≡ Inside t
+
+-- the point of the edge from a to b at its fraction t
+abbrev pub pointAt : Point → Point → Float → Point
+pointAt a b t = record { x = coordinateAt (a .x) (b .x) t; y = coordinateAt (a .y) (b .y) t }
+
 -- the point of the edge from a to b, and ip where there is none
 abbrev pub pointOf : Point → Point → Point → Crossing → Point
 pointOf a b ip Parallel = ip
 pointOf a b ip Start = a
 pointOf a b ip End = b
-pointOf a b ip (Inside t) = record { x = coordinateAt (a .x) (b .x) t; y = coordinateAt (a .y) (b .y) t }
+pointOf a b ip (Inside t) = pointAt a b t
 
--- `get_segment_intersect_pt`: what it leaves in `ip`. It answers false for parallel edges, where `ip` stays
+-- what the Rust's `get_segment_intersect_pt` leaves in its `ip`. It answers false for parallel edges, where `ip` stays
 unfoldable pub getSegmentIntersectPt : Point → Point → Point → Point → Point → Point
 getSegmentIntersectPt a b c d ip = pointOf a b ip (crossing a b c d)
 

@@ -1,6 +1,6 @@
--- The floats of an edge pair hold whole numbers: its differences, its cross products, and the tests on them. Assumes nothing.
+-- The floats of an edge pair hold whole numbers: its differences, its cross products, and the tests on them.
 use mathlib.Core.Path.{_≡_, refl, sym, ap, _∙_}
-use mathlib.Core.Bool.{Bool, true, false, cond, _&&_}
+use mathlib.Core.Bool.{Bool, true, false, _&&_}
 use Prim.Native.Nat.{ℕ, _^_}
 use native.Mathlib.Nat.{le-trans}
 use lib.Dec.{leb→le}
@@ -12,9 +12,10 @@ use Rattle.exact.proofs.Size.{within-sub}
 use Rattle.exact.proofs.Floats.{sub-of, num-float, num-sub, num-mul, num-lt, num-eq, num-zero}
 use Rattle.geometry.specs.declared.Point.{Point}
 use Rattle.geometry.specs.declared.EdgePair.{EdgePair}
+use Rattle.geometry.specs.declared.Edges.{Edges}
 use Rattle.geometry.specs.Plane.{InTable, divisor, alongFirst, alongSecond, strictlyWithin, segmentsIntersect}
-use Rattle.geometry.specs.Crossing.{float, edgePair}
-use Rattle.geometry.specs.Floats.{zeroF, divisorF, alongF, strictlyWithinF, pairIntersectsF}
+use Rattle.geometry.specs.Crossing.{float, edgePair, edgesOf, Paired}
+use Rattle.geometry.specs.Floats.{zeroF, divisorF, alongF, strictlyWithinF}
 
 -- a difference as the code makes it
 diff-float : {a b : ℤ} → Within (2 ^ 20) a → Within (2 ^ 20) b → sub binary64 (float (i32 b)) (float (i32 a)) ≡ float (b -ℤ a)
@@ -72,45 +73,31 @@ pub within-float : {t cp : Float} {u v : ℤ} {m n : ℕ} → Num t u m → Num 
 unfolding strictlyWithinF strictlyWithin
 within-float h k = rw (num-lt num-zero h, num-lt h k, num-lt h num-zero, num-lt k h)
 
-module _ {a b c d : Point} {e : EdgePair} {cp : Float} (A : InTable a) (B : InTable b) (C : InTable c) (D : InTable d) (p : e ≡ edgePair a b c d) (q : cp ≡ divisorF e) where
-  cp-is : cp ≡ divisorF (edgePair a b c d)
-  cp-is = q ∙ ap divisorF p
+module _ {e : Edges} {cp : Float} (p : Paired e) (q : cp ≡ divisorF (e .pair)) where
+  cp-is : cp ≡ divisorF (edgePair (e .a) (e .b) (e .c) (e .d))
+  cp-is = q ∙ ap divisorF (p .pair-is)
 
-  parallel-is : eq cp zeroF ≡ eqZ (divisor a b c d) (pos 0)
-  parallel-is = rw cp-is (num-eq (num-divisor A B C D) num-zero)
+  parallel-is : eq cp zeroF ≡ eqZ (divisor (e .a) (e .b) (e .c) (e .d)) (pos 0)
+  parallel-is = rw cp-is (num-eq (num-divisor (p .a-in) (p .b-in) (p .c-in) (p .d-in)) num-zero)
 
   -- `segments_intersect` of parallel edges
-  pub parallel-of : eq cp zeroF ≡ true → false ≡ segmentsIntersect a b c d
+  pub parallel-of : eq cp zeroF ≡ true → false ≡ segmentsIntersect (e .a) (e .b) (e .c) (e .d)
   unfolding segmentsIntersect
   parallel-of t = rw (sym parallel-is ∙ t)
 
   -- and of others
   pub intersect-of :
       {r s : Bool} {t u : Float} → eq cp zeroF ≡ false →
-      t ≡ alongF (a .x) (a .y) (c .x) (c .y) (e .dx2) (e .dy2) → r ≡ strictlyWithinF t cp →
-      u ≡ alongF (a .x) (a .y) (c .x) (c .y) (e .dx1) (e .dy1) → s ≡ strictlyWithinF u cp → (r && s) ≡ segmentsIntersect a b c d
+      t ≡ alongF (e .a .x) (e .a .y) (e .c .x) (e .c .y) (e .pair .dx2) (e .pair .dy2) → r ≡ strictlyWithinF t cp →
+      u ≡ alongF (e .a .x) (e .a .y) (e .c .x) (e .c .y) (e .pair .dx1) (e .pair .dy1) → s ≡ strictlyWithinF u cp → (r && s) ≡ segmentsIntersect (e .a) (e .b) (e .c) (e .d)
   unfolding segmentsIntersect
-  intersect-of f g h i j = rw (h, j, g, i, p, cp-is, sym parallel-is ∙ f, within-float (num-first A B C D) (num-divisor A B C D), within-float (num-second A B C D) (num-divisor A B C D))
+  intersect-of f g h i j =
+      let A = p .a-in in
+      let B = p .b-in in
+      let C = p .c-in in
+      let D = p .d-in in
+      rw (h, j, g, i, p .pair-is, cp-is, sym parallel-is ∙ f, within-float (num-first A B C D) (num-divisor A B C D), within-float (num-second A B C D) (num-divisor A B C D))
 
--- ---- the answers of `pair_intersects`
-module _ (e : EdgePair) (a c : Point) {cp : Float} (q : cp ≡ divisorF e) where
-  pub pair-parallel : eq cp zeroF ≡ true → false ≡ pairIntersectsF e a c
-  unfolding pairIntersectsF
-  pair-parallel t = rw (ap (λ (x : Float). eq x zeroF) (sym q) ∙ t)
-
-  pub pair-crosses :
-      {r s : Bool} {t u : Float} → eq cp zeroF ≡ false →
-      t ≡ alongF (a .x) (a .y) (c .x) (c .y) (e .dx2) (e .dy2) → r ≡ strictlyWithinF t cp →
-      u ≡ alongF (a .x) (a .y) (c .x) (c .y) (e .dx1) (e .dy1) → s ≡ strictlyWithinF u cp → (r && s) ≡ pairIntersectsF e a c
-  unfolding pairIntersectsF
-  pair-crosses f g h i j = rw (h, j, g, i, ap (λ (x : Float). eq x zeroF) (sym q) ∙ f, q)
-
--- and of the pair of four points
-pub pair-of : {a b c d : Point} {e : EdgePair} → InTable a → InTable b → InTable c → InTable d → e ≡ edgePair a b c d → pairIntersectsF e a c ≡ segmentsIntersect a b c d
-unfolding pairIntersectsF
-pair-of {a} {b} {c} {d} {e} A B C D p = go (eq (divisorF e) zeroF) refl
-  where
-    go : (t : Bool) → eq (divisorF e) zeroF ≡ t
-        → cond t false (strictlyWithinF (alongF (a .x) (a .y) (c .x) (c .y) (e .dx2) (e .dy2)) (divisorF e) && strictlyWithinF (alongF (a .x) (a .y) (c .x) (c .y) (e .dx1) (e .dy1)) (divisorF e)) ≡ segmentsIntersect a b c d
-    go true h = parallel-of A B C D p refl h
-    go false h = intersect-of A B C D p refl h refl refl refl refl
+-- ---- the answer of `edges_of`
+pub paired-of : {a b c d : Point} {e : Edges} → InTable a → InTable b → InTable c → InTable d → e ≡ edgesOf a b c d → Paired e
+paired-of A B C D q = rw q (record { a-in = A; b-in = B; c-in = C; d-in = D; pair-is = refl })
