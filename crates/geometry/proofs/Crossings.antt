@@ -11,7 +11,7 @@ use Rattle.geometry.specs.declared.Point.{Point}
 use Rattle.geometry.specs.declared.Edges.{Edges}
 use Rattle.geometry.specs.declared.Crossing.{Crossing}
 use Rattle.geometry.specs.declared.Crossing.the-variants.{Parallel, Start, End, Inside}
-use Rattle.geometry.specs.Plane.{InTable, divisor, alongFirst}
+use Rattle.geometry.specs.Plane.{InTable, divisor, alongFirst, alongSecond}
 use Rattle.geometry.specs.Crossing.{float, edgePair, Paired, crossing, coordinateAt, MeetAt, pointAt, pointOf, getSegmentIntersectPt, crossingPoint, InBox, Crossed}
 use Rattle.geometry.specs.Floats.{Reach, steppedF}
 use Rattle.geometry.proofs.Fractions.{part-of}
@@ -23,9 +23,9 @@ reach {a} {b} h k e p = record { to = b; from = h; end = k; step = num-float e (
 back : {z : ℤ} → Within (2 ^ 20) z → i32 z ≡ z
 back h = back-32 h tt
 
-part-inside : (a b c d : Point) (t : Float) → crossing a b c d ≡ Inside t → Part t
+part-inside : (a b c d : Point) (t s : Float) → crossing a b c d ≡ Inside t s → Part t
 unfolding crossing
-part-inside a b c d t e = part-of (alongFirst a b c d) (divisor a b c d) t e
+part-inside a b c d t s e = part-of (alongFirst a b c d) (alongSecond a b c d) (divisor a b c d) t s e
 
 stepped-coordinate : (a b : ℤ) (t : Float) → steppedF a (float (b -ℤ a)) t ≡ coordinateAt a b t
 unfolding steppedF coordinateAt
@@ -40,7 +40,7 @@ module _ {e : Edges} {t : Float} (m : MeetAt e t) where
   B = m .paired .b-in
 
   part : Part t
-  part = part-inside (e .a) (e .b) (e .c) (e .d) t (m .is)
+  part = part-inside (e .a) (e .b) (e .c) (e .d) t (m .second) (m .is)
 
   first-x : e .pair .dx1 ≡ float (e .b .x -ℤ e .a .x)
   unfolding edgePair
@@ -67,8 +67,8 @@ box-at : (a b c d : Point) → InTable a → InTable b → (g : Crossing) → cr
 box-at a b c d A B Parallel e = record { x = at-start (a .x) (b .x); y = at-start (a .y) (b .y) }
 box-at a b c d A B Start e = record { x = at-start (a .x) (b .x); y = at-start (a .y) (b .y) }
 box-at a b c d A B End e = record { x = at-end (a .x) (b .x); y = at-end (a .y) (b .y) }
-box-at a b c d A B (Inside t) e =
-    let p = part-inside a b c d t e in
+box-at a b c d A B (Inside t s) e =
+    let p = part-inside a b c d t s e in
     record {
       x = rw (stepped-coordinate (a .x) (b .x) t) at (between (reach (A .x) (B .x) refl p));
       y = rw (stepped-coordinate (a .y) (b .y) t) at (between (reach (A .y) (B .y) refl p));
@@ -88,8 +88,8 @@ module _ {a b : Point} (c d : Point) (A : InTable a) (B : InTable b) where
   crossed-of e = record { is = e; box = rw e crossing-in-box; table = rw e crossing-in-table }
 
 -- ---- the crossing point, by the answer of `get_segment_intersect_pt`
-pub meet-of : {e : Edges} {f : Crossing} {t : Float} → Paired e → f ≡ crossing (e .a) (e .b) (e .c) (e .d) → f ≡ Inside t → MeetAt e t
-meet-of p q h = record { paired = p; is = sym q ∙ h }
+pub meet-of : {e : Edges} {f : Crossing} {t s : Float} → Paired e → f ≡ crossing (e .a) (e .b) (e .c) (e .d) → f ≡ Inside t s → MeetAt e t
+meet-of {s = s} p q h = record { paired = p; second = s; is = sym q ∙ h }
 
 pub crossed-as : {e : Edges} {f g : Crossing} {r : Point} → Paired e → f ≡ crossing (e .a) (e .b) (e .c) (e .d) → f ≡ g → r ≡ pointOf (e .a) (e .b) (e .a) g → Crossed (e .a) (e .b) (e .c) (e .d) r
 unfolding getSegmentIntersectPt

@@ -14,8 +14,8 @@ use Rattle.geometry.specs.declared.Point.{Point}
 use Rattle.geometry.specs.declared.EdgePair.{EdgePair}
 use Rattle.geometry.specs.declared.Edges.{Edges}
 use Rattle.geometry.specs.Plane.{InTable, divisor, alongFirst, alongSecond, strictlyWithin, segmentsIntersect}
-use Rattle.geometry.specs.Crossing.{float, edgePair, edgesOf, Paired}
-use Rattle.geometry.specs.Floats.{zeroF, divisorF, alongF, strictlyWithinF}
+use Rattle.geometry.specs.Crossing.{float, edgePair, edgesOf, Paired, zeroF}
+use Rattle.geometry.specs.Floats.{divisorF, alongF, strictlyWithinF}
 
 -- a difference as the code makes it
 diff-float : {a b : ℤ} → Within (2 ^ 20) a → Within (2 ^ 20) b → sub binary64 (float (i32 b)) (float (i32 a)) ≡ float (b -ℤ a)

@@ -6,7 +6,7 @@ ghost use lib.IntN.{_+ℤ_, _-ℤ_, _*ℤ_};
 ghost use Rattle.exact.specs.Num.{Within};
 ghost use Rattle.geometry.specs.Plane.{InTable, samePoint, isCollinear, dotProductThreePoints, edgeArea, areaTriangle, closeBy, ptsReallyClose, isVerySmallTriangle, removable, segmentsIntersect};
 ghost use Rattle.geometry.specs.Crossing.{edgePair, edgesOf, Paired, crossing, pointAt, MeetAt};
-ghost use Rattle.geometry.specs.Floats.{divisorF, alongF, strictlyWithinF, fractionF, Reach, steppedF};
+ghost use Rattle.geometry.specs.Floats.{divisorF, alongF, strictlyWithinF, quotientF, fractionF, Reach, steppedF};
 
 // A point; its coordinates are micrometres.
 pub struct Point {
@@ -31,12 +31,13 @@ pub struct Edges {
     pub pair: EdgePair,
 }
 
-// Where the line of the second edge meets the first: nowhere, at or before its start, at or after its end, or at a fraction of it.
+// Where the line of the second edge meets the first: nowhere, at or before its start, at or after its end, or inside, with the fractions
+// of the first edge and of the second at which they meet.
 pub enum Crossing {
     Parallel,
     Start,
     End,
-    Inside(f64),
+    Inside { first: f64, second: f64 },
 }
 
 // Equality of points: the only one.
@@ -203,21 +204,32 @@ pub fn segments_intersect(e: Edges) -> bool
         & strictly_within(along(e.a, e.c, e.pair.dx1, e.pair.dy1), cp)
 }
 
-// num / det as a fraction of an edge.
-fn fraction(num: f64, det: f64) -> Crossing
-    ensures { λ r. ⌜ r ≡ fractionF num det ⌝ }
+// num / det, rounded once; 0 is plus, also where num is -0.
+fn quotient(num: f64, det: f64) -> f64
+    ensures { λ r. ⌜ r ≡ quotientF num det ⌝ }
+{
+    if num == 0.0 {
+        return 0.0;
+    }
+    num / det
+}
+
+// The crossing, by the numerators of both fractions and their divisor.
+fn fraction(num1: f64, num2: f64, det: f64) -> Crossing
+    ensures { λ r. ⌜ r ≡ fractionF num1 num2 det ⌝ }
 {
     if det == 0.0 {
         return Crossing::Parallel;
     }
-    let t = num / det;
-    if t <= 0.0 {
+    let first = num1 / det;
+    if first <= 0.0 {
         return Crossing::Start;
     }
-    if t >= 1.0 {
+    if first >= 1.0 {
         return Crossing::End;
     }
-    Crossing::Inside(t)
+    let second = quotient(num2, det);
+    Crossing::Inside { first, second }
 }
 
 // Where the second edge's line meets the first. The Rust's `ip` is what the split makes of the answer; its `false` is `Parallel`.
@@ -225,8 +237,9 @@ pub fn get_segment_intersect_pt(e: Edges) -> Crossing
     requires { ⌜ Paired e ⌝ }
     ensures { λ r. ⌜ r ≡ crossing (e .a) (e .b) (e .c) (e .d) ⌝ }
 {
-    let num = along(e.a, e.c, e.pair.dx2, e.pair.dy2);
-    fraction(num, divisor(e.pair))
+    let num1 = along(e.a, e.c, e.pair.dx2, e.pair.dy2);
+    let num2 = along(e.a, e.c, e.pair.dx1, e.pair.dy1);
+    fraction(num1, num2, divisor(e.pair))
 }
 
 // From a by the fraction t of the difference d: product and sum rounded once each, then dropped toward zero.

@@ -202,15 +202,18 @@ fn fraction(s: &[u8], at: usize) -> f64 {
     v
 }
 
-// Whether the crossing inside is what stands at a place: its point, and its fraction.
-fn inside_agrees(s: &[u8], at: usize, e: Edges, t: f64) -> bool
-    requires { ⌜ MeetAt e t ⌝ }
+// Whether the crossing inside is what stands at a place: its point, and the fractions of both edges.
+fn inside_agrees(s: &[u8], at: usize, e: Edges, first: f64, second: f64) -> bool
+    requires { ⌜ MeetAt e first ⌝ }
 {
     let p = past_point(s, at);
-    geometry::same_point(geometry::point_inside(e, t), point(s, at)) & (fraction(s, p) == t)
+    let q = past_point(s, p);
+    geometry::same_point(geometry::point_inside(e, first), point(s, at))
+        & (fraction(s, p) == first)
+        & (fraction(s, q) == second)
 }
 
-// Whether the crossing of the edges is what stands after `= `: a word and, where they are not parallel, a point; inside, the fraction.
+// Whether the crossing of the edges is what stands after `= `: a word and, where they are not parallel, a point; inside, both fractions.
 fn crossing_agrees(s: &[u8], at: usize, e: Edges) -> bool
     requires { ⌜ Paired e ⌝ }
 {
@@ -227,8 +230,8 @@ fn crossing_agrees(s: &[u8], at: usize, e: Edges) -> bool
         Crossing::End => {
             return (word == b'e') & geometry::same_point(e.b, point(s, p));
         }
-        Crossing::Inside(t) => {
-            return (word == b'i') & inside_agrees(s, p, e, t);
+        Crossing::Inside { first, second } => {
+            return (word == b'i') & inside_agrees(s, p, e, first, second);
         }
     }
 }

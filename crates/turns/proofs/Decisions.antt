@@ -180,8 +180,8 @@ module _ (e : Edges) (f : Crossing) (p : Paired e) (q : f ≡ crossing (e .a) (e
   pub crossed-end : f ≡ End → Crossed (e .a) (e .b) (e .c) (e .d) (e .b)
   crossed-end h = crossed-as p q h refl
 
-  pub crossed-inside : (t : Float) (r : Point) → f ≡ Inside t → r ≡ pointAt (e .a) (e .b) t → Crossed (e .a) (e .b) (e .c) (e .d) r
-  crossed-inside t r h k = crossed-as p q h k
+  pub crossed-inside : (t s : Float) (r : Point) → f ≡ Inside t s → r ≡ pointAt (e .a) (e .b) t → Crossed (e .a) (e .b) (e .c) (e .d) r
+  crossed-inside t s r h k = crossed-as p q h k
 
 -- what the second crossing test asks
 pub twice-paired : (w : List ℕ) (k : Edges) (u : ℕ) (v : Point) (g : Edges) → Paired k → Valued w u v → g ≡ edgesOf (k .a) (k .b) (k .d) v → Paired g

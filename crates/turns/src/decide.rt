@@ -296,8 +296,8 @@ fn crossing_of(e: Edges) -> Point
         Crossing::End => {
             return e.b;
         }
-        Crossing::Inside(t) => {
-            return geometry::point_inside(e, t);
+        Crossing::Inside { first, second: _ } => {
+            return geometry::point_inside(e, first);
         }
     }
 }

@@ -44,7 +44,7 @@ fn points(rng: &mut Rng) -> [Point64; 4] {
     four
 }
 
-/// Four points whose fraction, of the first edge or of the second, lies as near to the middle of two floats as its divisor lets it; their edges cross.
+/// Four points whose second fraction, or whose first, lies as near to the middle of two floats as its divisor lets it; their edges cross.
 fn near_points(rng: &mut Rng) -> [Point64; 4] {
     let side = COORDINATE as i64;
     loop {
@@ -61,8 +61,8 @@ fn near_points(rng: &mut Rng) -> [Point64; 4] {
 }
 
 /// What `get_segment_intersect_pt` shows: parallel, at the start, at the end, or inside, and its point. Where the point inside
-/// falls on an end by truncation, that end is told by the fraction's own sign and size in whole numbers. Inside, the fraction,
-/// M and E for M / 2^E, exact and then rounded once.
+/// falls on an end by truncation, that end is told by the fraction's own sign and size in whole numbers. Inside, the fractions of the
+/// first edge and of the second, each M and E for M / 2^E, exact and then rounded once.
 fn crossing([a, b, c, d]: [Point64; 4]) -> String {
     let mut at = Point64::new(0, 0);
     if !get_segment_intersect_pt(a, b, c, d, &mut at) {
@@ -70,6 +70,7 @@ fn crossing([a, b, c, d]: [Point64; 4]) -> String {
     }
     let divisor = (b.y - a.y) * (d.x - c.x) - (d.y - c.y) * (b.x - a.x);
     let first = (a.x - c.x) * (d.y - c.y) - (a.y - c.y) * (d.x - c.x);
+    let second = (a.x - c.x) * (b.y - a.y) - (a.y - c.y) * (b.x - a.x);
     let along = first * divisor.signum();
     if along <= 0 {
         return format!("start {} {}", at.x, at.y);
@@ -77,8 +78,8 @@ fn crossing([a, b, c, d]: [Point64; 4]) -> String {
     if along >= divisor.abs() {
         return format!("end {} {}", at.x, at.y);
     }
-    let (m, e) = rounded(first, divisor);
-    format!("inside {} {} {m} {e}", at.x, at.y)
+    let ((m1, e1), (m2, e2)) = (rounded(first, divisor), rounded(second, divisor));
+    format!("inside {} {} {m1} {e1} {m2} {e2}", at.x, at.y)
 }
 
 /// The condition in `clean_collinear` on which it drops `pt`, from the real functions that it calls.

@@ -11,4 +11,5 @@ get-segment-intersect-pt-spec =
     (λ c κs. search needs)
     (λ c κs. search needs)
     (λ c κs. search needs)
+    (λ c κs. search needs)
     (λ c. search (crossing-of)))
