@@ -8,7 +8,7 @@ use native.Mathlib.Omega.{arith}
 use native.Mathlib.Decide.{decLt}
 use lib.Dec.{eqb}
 use lib.ListN.{length}
-use borrow.Author.Tests.{eq-eqb, ne-eqb, eqb-false}
+use borrow.Author.Tests.{eq-eqb, ne-eqb, eqb-true, eqb-false, lt-ltb, le-ltb}
 use Rattle.rings.specs.Count.{one, occ}
 use Rattle.rings.specs.Links.{All, Seg}
 use Rattle.rings.specs.Walk.{Whole}
@@ -27,6 +27,8 @@ use Rattle.joins.specs.Resolve.{Lives}
 use Rattle.joins.specs.Resolved.{Ready}
 use Rattle.joins.specs.Join.{relinkOf, newOutRec, fixOutrecPts, settleOf, cutOf, mergeOf}
 use Rattle.joins.specs.Needs.{Four, Ringed, Pair}
+use Rattle.joins.specs.AsRings.{firstLeft}
+use Rattle.joins.proofs.Resolving.{res-low}
 use Rattle.joins.proofs.Homes.{on-ring, from, next-lives, prev-lives, next-prev}
 use Rattle.joins.proofs.Joining.{Split, split-resolved, split-opened, Merged, merge-resolved, merge-opened, Opened}
 use Rattle.joins.proofs.Naming.{name-length, name-col, name-out, name-in}
@@ -79,7 +81,7 @@ module _ (w : List ℕ) (a c i j : ℕ) (t : Pair w a c i j) where
   unfolding merges mergeOf relinkOf
   view-merge = view-writes w merges (t .ready .long) (four .one, (four .two, (four .next, (four .prev, (low-two, (low-two, tt))))))
 
-  merged : Merged (view w) (view (mergeOf w a c i j)) a (prevOf w c) i j
+  pub merged : Merged (view w) (view (mergeOf w a c i j)) a (prevOf w c) i j
   unfolding merges
   merged = subst (λ (u : Store). Merged (view w) u a (prevOf w c) i j) (sym view-merge) go
     where
@@ -263,16 +265,29 @@ module _ (w : List ℕ) (a c i k : ℕ) (t : Pair w a c i i) (kn : k ≡ records
     cols : (g : Field) (j : ℕ) → same (pt REC) g ≡ false → same (rc FIRST) g ≡ false → view z g j ≡ u g j
     long : LENGTH ≤ length z
     first-own : 0 < occ (firstOf z i) (a ∷ r)
+    first-is : firstOf z i ≡ firstLeft a (prevOf w c ∷ l) (firstOf w i)
     first-else : (j : ℕ) → j ≢ i → firstOf z j ≡ u (rc FIRST) j
     rec-own : (recOf z a ≡ recOf w a) ⊎ (recOf z a ≡ i)
     rec-else : (j : ℕ) → j ≢ a → recOf z j ≡ recOf y j
 
-  moved : Settled (setRec (setFirst y i a) a i)
-  moved =
+  -- the first point went to record k, if it names it
+  named : recOf y (firstOf y i) ≡ k → 0 < occ (firstOf w i) (prevOf w c ∷ l)
+  named e = go (decLt 0 (occ (firstOf w i) (prevOf w c ∷ l)))
+    where
+      go : Dec (0 < occ (firstOf w i) (prevOf w c ∷ l)) → 0 < occ (firstOf w i) (prevOf w c ∷ l)
+      go (yes h) = h
+      go (no h) =
+          let d : recOf w (firstOf w i) ≡ k = sym (y-else (firstOf w i) (omega arith)) ∙ ap (recOf y) (sym own-first) ∙ e in
+          let b = res-low (view w) (recOf w (firstOf w i)) i (t .ready .resolved .home i (firstOf w i) (t .one .res .real) (omega (arith, own-on, q .occs (firstOf w i)))) in
+          absurd (omega arith)
+
+  moved : recOf y (firstOf y i) ≡ k → Settled (setRec (setFirst y i a) a i)
+  moved e =
       record {
-        cols = λ g j e f. v g j ∙ rw (e, f) (y-col g j e);
+        cols = λ g j d f. v g j ∙ rw (d, f) (y-col g j d);
         long = omega (arith, y-long, length-put (pt REC) (setFirst y i a) a i, length-put (rc FIRST) y i a);
         first-own = rw (v (rc FIRST) i, eq-eqb i i refl) (omega (arith, one-here a));
+        first-is = v (rc FIRST) i ∙ rw (eq-eqb i i refl, lt-ltb 0 (occ (firstOf w i) (prevOf w c ∷ l)) (named e));
         first-else = λ j d. v (rc FIRST) j ∙ rw (ne-eqb j i d) (y-col (rc FIRST) j refl);
         rec-own = inr (v (pt REC) a ∙ rw (eq-eqb a a refl));
         rec-else = λ j d. v (pt REC) j ∙ rw (ne-eqb j a d);
@@ -286,25 +301,35 @@ module _ (w : List ℕ) (a c i k : ℕ) (t : Pair w a c i i) (kn : k ≡ records
       record {
         cols = λ g j e f. y-col g j e;
         long = y-long;
-        first-own = rw own-first (stays (decLt 0 (occ (firstOf w i) (prevOf w c ∷ l))));
+        first-own = rw own-first (omega (arith, own-on, halves (firstOf w i), off));
+        first-is = rw (le-ltb 0 (occ (firstOf w i) (prevOf w c ∷ l)) (omega (arith, off))) own-first;
         first-else = λ j e. y-col (rc FIRST) j refl;
         rec-own = inl (y-else a a-out);
         rec-else = λ j e. refl;
       }
     where
-      stays : Dec (0 < occ (firstOf w i) (prevOf w c ∷ l)) → 0 < occ (firstOf w i) (a ∷ r)
-      stays (yes h) = absurd (d (ap (recOf y) own-first ∙ y-new (firstOf w i) h))
-      stays (no h) = omega (arith, own-on, halves (firstOf w i))
+      off : occ (firstOf w i) (prevOf w c ∷ l) ≡ 0
+      off = go (decLt 0 (occ (firstOf w i) (prevOf w c ∷ l)))
+        where
+          go : Dec (0 < occ (firstOf w i) (prevOf w c ∷ l)) → occ (firstOf w i) (prevOf w c ∷ l) ≡ 0
+          go (yes h) = absurd (d (ap (recOf y) own-first ∙ y-new (firstOf w i) h))
+          go (no h) = omega arith
 
   settled : Settled (settleOf y i k a)
   unfolding settleOf
   settled = go (eqb (recOf y (firstOf y i)) k) refl
     where
       go : (m : Bool) → eqb (recOf y (firstOf y i)) k ≡ m → Settled (cond m (setRec (setFirst y i a) a i) y)
-      go true e = moved
+      go true e = moved (eqb-true _ _ e)
       go false e = stayed (eqb-false _ _ e)
 
-  split : Split (view w) (view (settleOf y i k a)) a (prevOf w c) i l r
+  pub split-first-new : firstOf (settleOf y i k a) k ≡ nextOf w a
+  split-first-new = settled .first-else k (λ e. ik (sym e)) ∙ sym (col (rc FIRST) k) ∙ x-first-new
+
+  pub split-first : firstOf (settleOf y i k a) i ≡ firstLeft a (prevOf w c ∷ l) (firstOf w i)
+  split-first = settled .first-is
+
+  pub split : Split (view w) (view (settleOf y i k a)) a (prevOf w c) i l r
   unfolding cuts
   split =
       let z = settled in

@@ -9,5 +9,6 @@ pub mod Finding
 pub mod Renaming
 pub mod Turns
 pub mod Open
+pub mod AsRings
 pub mod Tested
 pub mod Bench

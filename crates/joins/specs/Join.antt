@@ -2,9 +2,12 @@
 use Prim.Native.Nat.{ℕ, zero, suc, _+_, _*_}
 use mathlib.Core.Bool.{cond}
 use mathlib.Core.List.{List, [], _∷_}
+use mathlib.Core.Option.{Option, none, some}
 use lib.Dec.{ltb, eqb}
 use lib.ListN.{getD}
 use Rattle.job.specs.Limits as limit
+use Rattle.job.specs.declared.refusal.Refusal.{Refusal}
+use Rattle.job.specs.declared.refusal.Refusal.the-variants as refusal
 use Rattle.store.specs.Field.{rc, FLAGS, NONE}
 use Rattle.store.specs.Words.{view, put}
 use Rattle.store.specs.Named.{nextOf, prevOf, recOf, firstOf, recordsOf, setNext, setPrev, setRec, setFirst, setOwner, setRecords}
@@ -17,11 +20,11 @@ use Rattle.joins.specs.Resolve.{homeOf}
 pub data End : Type 0 where
   end : Joined → List ℕ → End
 
--- the table's number of a refusal; 0 is none
-unfoldable pub number : Joined → ℕ
-number Done = 0
-number Knot = 9
-number Full = 10
+-- the row of document 01's table that an answer is, if any
+abbrev pub refusalOf : Joined → Option Refusal
+refusalOf Done = none
+refusalOf Knot = some refusal.Knot
+refusalOf Full = some refusal.Full
 
 -- op1.next = op2, op2.prev = op1, op1b.prev = op2b, op2b.next = op1b
 unfoldable pub relinkOf : List ℕ → ℕ → ℕ → List ℕ
