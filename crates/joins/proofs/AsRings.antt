@@ -24,12 +24,12 @@ use Rattle.store.specs.Sound.{pts, recs, ringAt}
 use Rattle.joins.specs.declared.Joined.the-variants.{Done, Knot, Full}
 use Rattle.joins.specs.Resolve.{homeOf}
 use Rattle.joins.specs.Resolved.{Resolved}
-use Rattle.joins.specs.Join.{End, end, cutOf, splitOf, mergeOf, byRecords, joinOf, follow, joinsFrom, processHorzJoins}
+use Rattle.joins.specs.Join.{End, end, splitRing, splitOf, mergeOf, byRecords, joinOf, follow, joinsFrom, processHorzJoins}
 use Rattle.joins.specs.Needs.{Points, Pair, Joins}
 use Rattle.joins.specs.AsRings.{before, onward, seenFrom, goes, stays, firstLeft, spliced, OneRecord, TwoRecords, OneOrTwo, AsRings, AtTurn}
 use Rattle.joins.proofs.Homes.{on-ring, from}
 use Rattle.joins.proofs.Joining.{Split, split-others, Merged, merge-whole, merge-others}
-use Rattle.joins.proofs.Cutting.{mate, back, merged, parts, split, split-first, split-first-new}
+use Rattle.joins.proofs.Cases.{mate, back, merged, parts, split, split-first, split-first-new}
 use Rattle.joins.proofs.Turns.{Still, words, pair-same, points-pair, joins-kept}
 
 -- ---- lists
@@ -57,7 +57,7 @@ head-kept (x ∷ l) a y z f m e = let d : x ≡ f = cc in ap (λ (v : ℕ). v �
 
 -- ---- walks
 
-module _ (n p : ℕ → ℕ) (m : ℕ) (few : m ≤ 2048) where
+module _ (n p : ℕ → ℕ) (m : ℕ) (few : m ≤ limit.POINTS) where
   -- a whole ring walked from one of its points
   walk-seen : (c : List ℕ) (x : ℕ) → Whole n p m c → 0 < occ x c → walk n x ≡ seenFrom x c
   walk-seen c x w o =
@@ -80,7 +80,7 @@ ring-walk s i d = rw (ne-eqb (s (rc FIRST) i) NONE d)
 
 -- ---- one record
 
-module _ (s u : Store) (o : Resolved s) (a b i : ℕ) (l r : List ℕ) (hi : i < recs s) (room : recs s < 512) (fi : s (rc FIRST) i ≢ NONE)
+module _ (s u : Store) (o : Resolved s) (a b i : ℕ) (l r : List ℕ) (hi : i < recs s) (room : recs s < limit.RECORDS) (fi : s (rc FIRST) i ≢ NONE)
     (w : Whole (s (pt NEXT)) (s (pt PREV)) (pts s) (a ∷ l ++ b ∷ r)) (occs : (k : ℕ) → occ k (a ∷ l ++ b ∷ r) ≡ occ k (ringAt s i)) (q : Split s u a b i l r)
     (c : ℕ) (nb : s (pt NEXT) b ≡ c) (first-new : u (rc FIRST) (recs s) ≡ s (pt NEXT) a) (first-is : u (rc FIRST) i ≡ firstLeft a (b ∷ l) (s (rc FIRST) i)) where
   runs : Seg (s (pt NEXT)) (s (pt PREV)) (a ∷ l ++ (b ∷ [])) × Seg (s (pt NEXT)) (s (pt PREV)) (b ∷ r ++ (a ∷ []))
@@ -224,11 +224,11 @@ module _ (s u : Store) (o : Resolved s) (a b i j : ℕ) (r : List ℕ) (ij : i �
 
 -- ---- a join at its turn
 
-cut-rings : (w : List ℕ) (a c i k : ℕ) → Pair w a c i i → k ≡ recordsOf w → k < 512 → OneRecord (view w) (view (cutOf w a c i k)) a c i
-unfolding cutOf
-cut-rings w a c i k t kn kf =
+split-ring-rings : (w : List ℕ) (a c i k : ℕ) → Pair w a c i i → k ≡ recordsOf w → k < limit.RECORDS → OneRecord (view w) (view (splitRing w a c i k)) a c i
+unfolding splitRing
+split-ring-rings w a c i k t kn kf =
     let p = parts w a c i t in
-    one-record (view w) (view (cutOf w a c i k)) (t .ready .resolved) a (prevOf w c) i (p .l) (p .r) (t .one .res .real) (omega arith) (t .one .res .some) (p .whole) (p .occs) (split w a c i k t kn kf p) c
+    one-record (view w) (view (splitRing w a c i k)) (t .ready .resolved) a (prevOf w c) i (p .l) (p .r) (t .one .res .real) (omega arith) (t .one .res .some) (p .whole) (p .occs) (split w a c i k t kn kf p) c
     (back w a c i i t) (rw (← kn) (split-first-new w a c i k t kn kf p)) (split-first w a c i k t kn kf p)
 
 merge-rings : (w : List ℕ) (a c i j : ℕ) → Pair w a c i j → i ≢ j → TwoRecords (view w) (view (mergeOf w a c i j)) a c i j
@@ -242,8 +242,8 @@ split-rings : (w : List ℕ) (a c : ℕ) → Pair w a c (homeOf w a) (homeOf w a
 unfolding splitOf
 split-rings w a c t e d = go (ltb (recordsOf w) limit.RECORDS) refl
   where
-    go : (b : Bool) → ltb (recordsOf w) limit.RECORDS ≡ b → AsRings w a c (cond b (end Done (cutOf w a c (homeOf w a) (recordsOf w))) (end Full w))
-    go true f = (d, inl (e, cut-rings w a c (homeOf w a) (recordsOf w) t refl (ltb-true _ _ f)))
+    go : (b : Bool) → ltb (recordsOf w) limit.RECORDS ≡ b → AsRings w a c (cond b (end Done (splitRing w a c (homeOf w a) (recordsOf w))) (end Full w))
+    go true f = (d, inl (e, split-ring-rings w a c (homeOf w a) (recordsOf w) t refl (ltb-true _ _ f)))
     go false f = (refl, d, e, omega (arith, ltb-false (recordsOf w) limit.RECORDS f, t .ready .resolved .few-records))
 
 by-rings : (w : List ℕ) (a c : ℕ) → Pair w a c (homeOf w a) (homeOf w c) → nextOf w a ≢ c → AsRings w a c (byRecords w a c (homeOf w a) (homeOf w c))

@@ -12,7 +12,7 @@ use Rattle.rings.specs.Walk.{run}
 use Rattle.job.specs.declared.refusal.Refusal.{Refusal}
 use Rattle.job.specs.Refusal.{numberOf}
 use Rattle.joins.specs.Resolve.{realOf, getRealOutrec, homeOf}
-use Rattle.joins.specs.Join.{End, end, refusalOf, relinkOf, newOutRec, nameAll, fixOutrecPts, settleOf, cutOf, splitOf, mergeOf, byRecords, joinOf, joinsFrom, processHorzJoins}
+use Rattle.joins.specs.Join.{End, end, refusalOf, relinkOf, newOutRec, nameAll, fixOutrecPts, settleOf, splitRing, splitOf, mergeOf, byRecords, joinOf, joinsFrom, processHorzJoins}
 use Rattle.joins.specs.AsRings.{goes, stays, seenFrom, firstLeft, spliced}
 
 -- from point c of record r's ring on by l, and back to f
@@ -98,7 +98,7 @@ examples =
     ∷ []
 
 pub bench : Holds examples
-unfolding examples answered joinsFrom joinOf byRecords splitOf cutOf settleOf fixOutrecPts nameAll newOutRec relinkOf mergeOf homeOf getRealOutrec realOf run cell put
+unfolding examples answered joinsFrom joinOf byRecords splitOf splitRing settleOf fixOutrecPts nameAll newOutRec relinkOf mergeOf homeOf getRealOutrec realOf run cell put
 bench = (refl, (refl, (refl, (refl, (refl, (refl, (refl, (refl, (refl, tt)))))))))
 
 -- ---- the same by lists alone: what goes, what stays, what is spliced

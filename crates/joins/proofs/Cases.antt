@@ -9,6 +9,7 @@ use native.Mathlib.Decide.{decLt}
 use lib.Dec.{eqb}
 use lib.ListN.{length}
 use borrow.Author.Tests.{eq-eqb, ne-eqb, eqb-true, eqb-false, lt-ltb, le-ltb}
+use Rattle.job.specs.Limits as limit
 use Rattle.rings.specs.Count.{one, occ}
 use Rattle.rings.specs.Links.{All, Seg}
 use Rattle.rings.specs.Walk.{Whole}
@@ -18,14 +19,14 @@ use Rattle.rings.proofs.Members.{occ-append, parted, seg-part, seg-next, whole-
 use Rattle.rings.proofs.Splicing.{occ-halves, whole-cut-new}
 use Rattle.rings.proofs.Walking.{Seen, seen}
 use Rattle.store.specs.Field.{Field, pt, rc, ct, X, Y, NEXT, PREV, REC, FLAGS, OWNER, FIRST, POINTS, RECORDS, NONE, LENGTH, same}
-use Rattle.store.specs.Words.{Store, view, Write, write, onStore}
-use Rattle.store.specs.Named.{nextOf, prevOf, recOf, firstOf, pointsOf, recordsOf, setRec, setFirst}
+use Rattle.store.specs.Words.{Store, view, Write, onStore, onWords}
+use Rattle.store.specs.Named.{nextOf, prevOf, recOf, firstOf, pointsOf, recordsOf}
 use Rattle.store.specs.Sound.{ringAt, isOpen}
 use Rattle.store.proofs.Soundness.{first-on}
-use Rattle.store.proofs.Storing.{view-writes, length-writes, length-put}
+use Rattle.store.proofs.Storing.{view-writes, length-writes}
 use Rattle.joins.specs.Resolve.{Lives}
 use Rattle.joins.specs.Resolved.{Ready}
-use Rattle.joins.specs.Join.{relinkOf, newOutRec, fixOutrecPts, settleOf, cutOf, mergeOf}
+use Rattle.joins.specs.Join.{relinkWrites, madeWrites, emptyWrites, firstWrites, relinkOf, newOutRec, fixOutrecPts, settleOf, splitRing, mergeOf}
 use Rattle.joins.specs.Needs.{Four, Ringed, Pair}
 use Rattle.joins.specs.AsRings.{firstLeft}
 use Rattle.joins.proofs.Resolving.{res-low}
@@ -35,11 +36,8 @@ use Rattle.joins.proofs.Naming.{name-length, name-col, name-out, name-i
 
 -- ---- the four links
 
-abbrev relinks : Store → ℕ → ℕ → List Write
-relinks s a c = write (pt NEXT) a c ∷ write (pt PREV) c a ∷ write (pt PREV) (s (pt NEXT) a) (s (pt PREV) c) ∷ write (pt NEXT) (s (pt PREV) c) (s (pt NEXT) a) ∷ []
-
 pub relinked : (s : Store) (a c : ℕ) → s (pt NEXT) (s (pt PREV) c) ≡ c → a ≢ s (pt PREV) c → s (pt NEXT) a ≢ c
-    → Crossed (s (pt NEXT)) (s (pt PREV)) (onStore s (relinks s a c) (pt NEXT)) (onStore s (relinks s a c) (pt PREV)) a (s (pt PREV) c)
+    → Crossed (s (pt NEXT)) (s (pt PREV)) (onStore s (relinkWrites s a c) (pt NEXT)) (onStore s (relinkWrites s a c) (pt PREV)) a (s (pt PREV) c)
 relinked s a c e d g =
     record {
       next-a = rw (ne-eqb a (s (pt PREV) c) d, eq-eqb a a refl) (sym e);
@@ -62,20 +60,20 @@ module _ (w : List ℕ) (a c i j : ℕ) (t : Pair w a c i j) where
 
   pub four : Four w a c
   four =
-      let k : pointsOf w ≤ 2048 = t .ready .resolved .few-points in
+      let k : pointsOf w ≤ limit.POINTS = t .ready .resolved .few-points in
       let n : nextOf w a < pointsOf w = next-lives (view w) (t .ready .resolved) i a (t .one) .bound in
       record { long = t .ready .long; one = omega (arith, t .one .bound); two = omega (arith, t .two .bound); next = omega arith; prev = omega (arith, mate .bound) }
 
-  pub low-one : i < 512
+  pub low-one : i < limit.RECORDS
   low-one = omega (arith, t .one .res .real, t .ready .resolved .few-records)
 
-  pub low-two : j < 512
+  pub low-two : j < limit.RECORDS
   low-two = omega (arith, t .two .res .real, t .ready .resolved .few-records)
 
   -- ---- two records
 
   merges : List Write
-  merges = write (pt NEXT) a c ∷ write (pt PREV) c a ∷ write (pt PREV) (nextOf w a) (prevOf w c) ∷ write (pt NEXT) (prevOf w c) (nextOf w a) ∷ write (rc FIRST) j NONE ∷ write (rc OWNER) j i ∷ []
+  merges = relinkWrites (view w) a c ++ emptyWrites j i
 
   view-merge : view (mergeOf w a c i j) ≡ onStore (view w) merges
   unfolding merges mergeOf relinkOf
@@ -149,33 +147,32 @@ parts w a c i t =
       occs = λ k. subst (λ (m : List ℕ). occ k (a ∷ m) ≡ occ k (ringAt (view w) i)) (q .is) (f .occs k);
     }
 
-module _ (w : List ℕ) (a c i k : ℕ) (t : Pair w a c i i) (kn : k ≡ recordsOf w) (kf : k < 512) (q : Parts w a (prevOf w c) i) where
+module _ (w : List ℕ) (a c i k : ℕ) (t : Pair w a c i i) (kn : k ≡ recordsOf w) (kf : k < limit.RECORDS) (q : Parts w a (prevOf w c) i) where
   open Parts q using (l, r)
 
   -- after the relinks and the new record
   abbrev x : List ℕ
   x = newOutRec (relinkOf w a c) k (nextOf w a) i
 
-  cuts : List Write
-  cuts = write (pt NEXT) a c ∷ write (pt PREV) c a ∷ write (pt PREV) (nextOf w a) (prevOf w c) ∷ write (pt NEXT) (prevOf w c) (nextOf w a)
-      ∷ write (ct RECORDS) 0 (k + 1) ∷ write (rc FLAGS) k 0 ∷ write (rc FIRST) k (nextOf w a) ∷ write (rc OWNER) k i ∷ []
+  splits : List Write
+  splits = relinkWrites (view w) a c ++ madeWrites k (nextOf w a) i
 
   abbrev u : Store
-  u = onStore (view w) cuts
+  u = onStore (view w) splits
 
   view-x : view x ≡ u
-  unfolding cuts newOutRec relinkOf
-  view-x = view-writes w cuts (t .ready .long) (four w a c i i t .one, (four w a c i i t .two, (four w a c i i t .next, (four w a c i i t .prev, (omega arith, (kf, (kf, (kf, tt))))))))
+  unfolding splits newOutRec relinkOf
+  view-x = view-writes w splits (t .ready .long) (four w a c i i t .one, (four w a c i i t .two, (four w a c i i t .next, (four w a c i i t .prev, (omega arith, (kf, (kf, (kf, tt))))))))
 
   col : (g : Field) (j : ℕ) → view x g j ≡ u g j
   col g j = ap (λ (s : Store). s g j) view-x
 
   x-long : LENGTH ≤ length x
-  unfolding cuts newOutRec relinkOf
-  x-long = omega (arith, t .ready .long, length-writes w cuts)
+  unfolding splits newOutRec relinkOf
+  x-long = omega (arith, t .ready .long, length-writes w splits)
 
   crossed : Crossed (nextOf w) (prevOf w) (nextOf x) (prevOf x) a (prevOf w c)
-  unfolding cuts
+  unfolding splits
   crossed = subst (λ (s : Store). Crossed (nextOf w) (prevOf w) (s (pt NEXT)) (s (pt PREV)) a (prevOf w c)) (sym view-x) (relinked (view w) a c (back w a c i i t) (other w a c i i t) (t .loose))
 
   -- the new ring, from a's next
@@ -190,14 +187,14 @@ module _ (w : List ℕ) (a c i k : ℕ) (t : Pair w a c i i) (kn : k ≡ records
       let s = seg-part (nextOf w) (prevOf w) (a ∷ l) (prevOf w c) (r ++ (a ∷ [])) (subst (λ (m : List ℕ). Seg (nextOf w) (prevOf w) (a ∷ m)) (append-assoc l (prevOf w c ∷ r) (a ∷ [])) (q .whole .linked)) in
       omega (arith, seg-next (nextOf w) (prevOf w) a l (prevOf w c) (s .0), occ-append (nextOf w a) l (prevOf w c ∷ []))
 
-  few : pointsOf w ≤ 2048
+  few : pointsOf w ≤ limit.POINTS
   few = t .ready .resolved .few-points
 
   seen-half : Seen (nextOf x) (prevOf x) (pointsOf w) (prevOf w c ∷ l) (nextOf w a)
   seen-half = seen (nextOf x) (prevOf x) (pointsOf w) (prevOf w c ∷ l) (nextOf w a) few half next-on-it
 
   x-first-new : firstOf x k ≡ nextOf w a
-  unfolding cuts
+  unfolding splits
   x-first-new = col (rc FIRST) k ∙ rw (eq-eqb k k refl)
 
   point : (m : ℕ) → 0 < occ m (a ∷ l ++ prevOf w c ∷ r) → m < pointsOf w
@@ -212,7 +209,7 @@ module _ (w : List ℕ) (a c i k : ℕ) (t : Pair w a c i i) (kn : k ≡ records
         long = x-long;
         low = kf;
         others = seen-half .others;
-        whole = rw x-first-new (whole-kept (nextOf x) (prevOf x) (nextOf x) (prevOf x) (pointsOf w) 2048 (nextOf w a ∷ seen-half .others) (seen-half .whole) few (λ m h. refl) (λ m h. refl));
+        whole = rw x-first-new (whole-kept (nextOf x) (prevOf x) (nextOf x) (prevOf x) (pointsOf w) limit.POINTS (nextOf w a ∷ seen-half .others) (seen-half .whole) few (λ m h. refl) (λ m h. refl));
       }
 
   ring-is : ringAt (view x) k ≡ nextOf w a ∷ seen-half .others
@@ -221,8 +218,8 @@ module _ (w : List ℕ) (a c i k : ℕ) (t : Pair w a c i i) (kn : k ≡ records
   occs : (m : ℕ) → occ m (ringAt (view x) k) ≡ occ m (prevOf w c ∷ l)
   occs m = ap (occ m) ring-is ∙ seen-half .occs m
 
-  list-low : All (λ m. m < 2048) (ringAt (view x) k)
-  list-low = all-in (λ m. m < 2048) (ringAt (view x) k) (λ m h. omega (arith, few, half .below m (omega (arith, occs m))))
+  list-low : All (λ m. m < limit.POINTS) (ringAt (view x) k)
+  list-low = all-in (λ m. m < limit.POINTS) (ringAt (view x) k) (λ m h. omega (arith, few, half .below m (omega (arith, occs m))))
 
   -- after the renaming
   abbrev y : List ℕ
@@ -241,20 +238,20 @@ module _ (w : List ℕ) (a c i k : ℕ) (t : Pair w a c i i) (kn : k ≡ records
   y-new m h = name-in k m x (ringAt (view x) k) x-long list-low (omega (arith, occs m, half .once m)) (omega (arith, occs m))
 
   y-else : (m : ℕ) → occ m (prevOf w c ∷ l) ≡ 0 → recOf y m ≡ recOf w m
-  unfolding fixOutrecPts cuts
+  unfolding fixOutrecPts splits
   y-else m h = name-out k m x (ringAt (view x) k) x-long list-low (occs m ∙ h) ∙ col (pt REC) m
 
   ik : i ≢ k
   ik e = omega (arith, t .one .res .real)
 
   own-first : firstOf y i ≡ firstOf w i
-  unfolding cuts
+  unfolding splits
   own-first = y-col (rc FIRST) i refl ∙ rw (ne-eqb i k ik)
 
   own-on : 0 < occ (firstOf w i) (a ∷ l ++ prevOf w c ∷ r)
   own-on = omega (arith, q .occs (firstOf w i), first-on (view w) i (ne-eqb (firstOf w i) NONE (t .one .res .some)))
 
-  pub first-low : firstOf y i < 2048
+  pub first-low : firstOf y i < limit.POINTS
   first-low = rw own-first (omega (arith, few, point (firstOf w i) own-on))
 
   a-out : occ a (prevOf w c ∷ l) ≡ 0
@@ -281,11 +278,11 @@ module _ (w : List ℕ) (a c i k : ℕ) (t : Pair w a c i i) (kn : k ≡ records
           let b = res-low (view w) (recOf w (firstOf w i)) i (t .ready .resolved .home i (firstOf w i) (t .one .res .real) (omega (arith, own-on, q .occs (firstOf w i)))) in
           absurd (omega arith)
 
-  moved : recOf y (firstOf y i) ≡ k → Settled (setRec (setFirst y i a) a i)
+  moved : recOf y (firstOf y i) ≡ k → Settled (onWords y (firstWrites i a))
   moved e =
       record {
         cols = λ g j d f. v g j ∙ rw (d, f) (y-col g j d);
-        long = omega (arith, y-long, length-put (pt REC) (setFirst y i a) a i, length-put (rc FIRST) y i a);
+        long = omega (arith, y-long, length-writes y (firstWrites i a));
         first-own = rw (v (rc FIRST) i, eq-eqb i i refl) (omega (arith, one-here a));
         first-is = v (rc FIRST) i ∙ rw (eq-eqb i i refl, lt-ltb 0 (occ (firstOf w i) (prevOf w c ∷ l)) (named e));
         first-else = λ j d. v (rc FIRST) j ∙ rw (ne-eqb j i d) (y-col (rc FIRST) j refl);
@@ -293,8 +290,8 @@ module _ (w : List ℕ) (a c i k : ℕ) (t : Pair w a c i i) (kn : k ≡ records
         rec-else = λ j d. v (pt REC) j ∙ rw (ne-eqb j a d);
       }
     where
-      v : (g : Field) (j : ℕ) → view (setRec (setFirst y i a) a i) g j ≡ onStore (view y) (write (rc FIRST) i a ∷ write (pt REC) a i ∷ []) g j
-      v g j = ap (λ (s : Store). s g j) (view-writes y (write (rc FIRST) i a ∷ write (pt REC) a i ∷ []) y-long (low-one w a c i i t, (four w a c i i t .one, tt)))
+      v : (g : Field) (j : ℕ) → view (onWords y (firstWrites i a)) g j ≡ onStore (view y) (firstWrites i a) g j
+      v g j = ap (λ (s : Store). s g j) (view-writes y (firstWrites i a) y-long (low-one w a c i i t, (four w a c i i t .one, tt)))
 
   stayed : recOf y (firstOf y i) ≢ k → Settled y
   stayed d =
@@ -319,7 +316,7 @@ module _ (w : List ℕ) (a c i k : ℕ) (t : Pair w a c i i) (kn : k ≡ records
   unfolding settleOf
   settled = go (eqb (recOf y (firstOf y i)) k) refl
     where
-      go : (m : Bool) → eqb (recOf y (firstOf y i)) k ≡ m → Settled (cond m (setRec (setFirst y i a) a i) y)
+      go : (m : Bool) → eqb (recOf y (firstOf y i)) k ≡ m → Settled (cond m (onWords y (firstWrites i a)) y)
       go true e = moved (eqb-true _ _ e)
       go false e = stayed (eqb-false _ _ e)
 
@@ -330,7 +327,7 @@ module _ (w : List ℕ) (a c i k : ℕ) (t : Pair w a c i i) (kn : k ≡ records
   split-first = settled .first-is
 
   pub split : Split (view w) (view (settleOf y i k a)) a (prevOf w c) i l r
-  unfolding cuts
+  unfolding splits
   split =
       let z = settled in
       record {
@@ -365,14 +362,14 @@ module _ (w : List ℕ) (a c i k : ℕ) (t : Pair w a c i i) (kn : k ≡ records
         resolved = split-resolved (view w) (view (settleOf y i k a)) (t .ready .resolved) a (prevOf w c) i l r (t .one .res .real) (omega arith) (t .one .res .some) (q .whole) (q .occs) split;
       }
 
-pub cut-ready : (w : List ℕ) (a c i k : ℕ) → Pair w a c i i → k ≡ recordsOf w → k < 512 → Ready (cutOf w a c i k)
-unfolding cutOf
-cut-ready w a c i k t kn kf = split-ready w a c i k t kn kf (parts w a c i t)
+pub split-ring-ready : (w : List ℕ) (a c i k : ℕ) → Pair w a c i i → k ≡ recordsOf w → k < limit.RECORDS → Ready (splitRing w a c i k)
+unfolding splitRing
+split-ring-ready w a c i k t kn kf = split-ready w a c i k t kn kf (parts w a c i t)
 
-pub cut-points : (w : List ℕ) (a c i k : ℕ) → Pair w a c i i → k ≡ recordsOf w → k < 512 → pointsOf (cutOf w a c i k) ≡ pointsOf w
-unfolding cutOf
-cut-points w a c i k t kn kf = split-points w a c i k t kn kf (parts w a c i t)
+pub split-ring-points : (w : List ℕ) (a c i k : ℕ) → Pair w a c i i → k ≡ recordsOf w → k < limit.RECORDS → pointsOf (splitRing w a c i k) ≡ pointsOf w
+unfolding splitRing
+split-ring-points w a c i k t kn kf = split-points w a c i k t kn kf (parts w a c i t)
 
-pub cut-open : (w : List ℕ) (a c i k : ℕ) → Pair w a c i i → k ≡ recordsOf w → k < 512 → isOpen (view w) i ≡ false → Opened (view w) (view (cutOf w a c i k))
-unfolding cutOf
-cut-open w a c i k t kn kf = split-open w a c i k t kn kf (parts w a c i t)
+pub split-ring-open : (w : List ℕ) (a c i k : ℕ) → Pair w a c i i → k ≡ recordsOf w → k < limit.RECORDS → isOpen (view w) i ≡ false → Opened (view w) (view (splitRing w a c i k))
+unfolding splitRing
+split-ring-open w a c i k t kn kf = split-open w a c i k t kn kf (parts w a c i t)

@@ -7,6 +7,7 @@ use mathlib.Core.List.{List, [], _∷_, _++_}
 use native.Mathlib.Omega.{arith}
 use native.Mathlib.Decide.{ℕ-discrete, decLt}
 use borrow.Author.Tests.{eq-eqb, ne-eqb}
+use Rattle.job.specs.Limits as limit
 use Rattle.rings.specs.Count.{occ}
 use Rattle.rings.specs.Walk.{walk, Whole}
 use Rattle.rings.specs.Relink.{Crossed}
@@ -78,7 +79,7 @@ ring-kept s u j e f = rw e (go (ringless s j) refl)
   where
     go : (z : Bool) → ringless s j ≡ z → cond z [] (walk (u (pt NEXT)) (s (rc FIRST) j)) ≡ cond z [] (walk (s (pt NEXT)) (s (rc FIRST) j))
     go true d = refl
-    go false d = run-agree (s (pt NEXT)) (u (pt NEXT)) (s (rc FIRST) j) 2048 (s (rc FIRST) j) (λ k p. f k (rw d p))
+    go false d = run-agree (s (pt NEXT)) (u (pt NEXT)) (s (rc FIRST) j) limit.POINTS (s (rc FIRST) j) (λ k p. f k (rw d p))
 
 -- a point that lives on a closed ring lives on no open one
 shut-by : (u : Store) (i k : ℕ) → Lives u i k → isOpen u i ≡ false → Shut u k
@@ -91,7 +92,7 @@ differ s i j a b e = let z : _≡_ {A = Bool} true false = sym a ∙ ap (isOpen 
 apart : (s : Store) → Resolved s → (m t : ℕ) → m < recs s → t < recs s → t ≢ m → (k x : ℕ) → 0 < occ k (ringAt s t) → 0 < occ x (ringAt s m) → k ≢ x
 apart s o m t hm ht d k x p y e = omega (arith, subst (λ (v : ℕ). occ v (ringAt s t) ≡ 0) (sym e) (elsewhere (s (pt NEXT)) (s (pt PREV)) (pts s) (recs s) (ringAt s) (table s o) m t x hm ht (λ v. d (sym v)) y))
 
-module _ (s u : Store) (o : Resolved s) (a b i : ℕ) (l r : List ℕ) (hi : i < recs s) (room : recs s < 512) (fi : s (rc FIRST) i ≢ NONE)
+module _ (s u : Store) (o : Resolved s) (a b i : ℕ) (l r : List ℕ) (hi : i < recs s) (room : recs s < limit.RECORDS) (fi : s (rc FIRST) i ≢ NONE)
     (w : Whole (s (pt NEXT)) (s (pt PREV)) (pts s) (a ∷ l ++ b ∷ r)) (occs : (k : ℕ) → occ k (a ∷ l ++ b ∷ r) ≡ occ k (ringAt s i)) (c : Split s u a b i l r) where
   halves : (k : ℕ) → occ k (a ∷ l ++ b ∷ r) ≡ occ k (b ∷ l) + occ k (a ∷ r)
   halves k = occ-halves (s (pt NEXT)) (s (pt PREV)) (u (pt NEXT)) (u (pt PREV)) a b (c .crossed) (pts s) k l r

@@ -4,11 +4,11 @@ pub mod Homes
 pub mod Joining
 pub mod Growing
 pub mod Naming
-pub mod Cutting
+pub mod Cases
 pub mod Finding
 pub mod Renaming
 pub mod Turns
 pub mod Open
 pub mod AsRings
-pub mod Tested
+pub mod Sounding
 pub mod Bench

@@ -18,7 +18,7 @@ use Rattle.store.proofs.Storing.{length-writes, view-writes, hit, miss}
 use Rattle.store.proofs.Soundness.{first-on}
 use Rattle.joins.specs.Resolve.{Resolves}
 use Rattle.joins.specs.Resolved.{Resolved, Ready}
-use Rattle.joins.proofs.Tested.{resolved-sound}
+use Rattle.joins.proofs.Sounding.{resolved-sound}
 use Rattle.acts.specs.Opened.{Fresh}
 use Rattle.opening.specs.Start.{startWrites, startRing, startTo, startRings}
 

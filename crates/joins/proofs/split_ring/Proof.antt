@@ -1,11 +1,11 @@
--- `joins::cut` meets its contract.
+-- `joins::split_ring` meets its contract.
 use borrow.Author.Needs.{needs}
-use Rattle.joins.proofs.Turns.{pair-four, pair-one, pair-long, pair-next, pair-low-one, cut-ring, cut-first, cut-done}
-use Rattle.joins.proofs.cut.Statement.{statement}
-use Rattle.joins.proofs.cut.Tie as tie
+use Rattle.joins.proofs.Turns.{pair-four, pair-one, pair-long, pair-next, pair-low-one, split-ring-new, split-ring-first, split-ring-done}
+use Rattle.joins.proofs.split_ring.Statement.{statement}
+use Rattle.joins.proofs.split_ring.Tie as tie
 
-pub cut-spec : {M : Type 1} → statement M
-cut-spec =
+pub split-ring-spec : {M : Type 1} → statement M
+split-ring-spec =
     tie.close
     (tie.spec
     (λ c κs. search (needs, pair-one, pair-long))
@@ -13,15 +13,15 @@ cut-spec =
     (λ c κs. search (needs, pair-long, pair-next, pair-low-one))
     (λ c κs.
     let t = c .before .before .before .before .before .before .before .before .before .before .before .before .pre in
-    cut-ring _ _ _ _ _ _ _ _ (t .0) (t .1) (t .2) (c .before .before .before .before .before .before .before .before .before .get .ensures .0) (c .before .before .before .before .before .before .before .relink .ensures) (c .before .before .before .new-out-rec .ensures))
+    split-ring-new _ _ _ _ _ _ _ _ (t .0) (t .1) (t .2) (c .before .before .before .before .before .before .before .before .before .get .ensures .0) (c .before .before .before .before .before .before .before .relink .ensures) (c .before .before .before .new-out-rec .ensures))
     (λ c κs.
     let t = c .before .before .before .before .before .before .before .before .before .before .before .before .before .before .before .before .pre in (
       search (needs, pair-long),
       pair-low-one _ _ _ _ _ (t .0),
       pair-one _ _ _ _ _ (t .0),
-      cut-first _ _ _ _ _ _ _ _ (t .0) (t .1) (t .2) (c .before .before .before .before .before .before .before .before .before .before .before .before .before .get .ensures .0) (c .before .before .before .before .before .before .before .before .before .before .before .relink .ensures) (c .before .before .before .before .before .before .before .new-out-rec .ensures) _ (c .before .before .before .fix-outrec-pts .ensures),
+      split-ring-first _ _ _ _ _ _ _ _ (t .0) (t .1) (t .2) (c .before .before .before .before .before .before .before .before .before .before .before .before .before .get .ensures .0) (c .before .before .before .before .before .before .before .before .before .before .before .relink .ensures) (c .before .before .before .before .before .before .before .new-out-rec .ensures) _ (c .before .before .before .fix-outrec-pts .ensures),
     ))
     (λ c. search needs)
     (λ c.
     let t = c .before .before .before .before .before .before .before .before .before .before .before .before .before .before .before .before .before .before .before .pre in
-    cut-done _ _ _ _ _ _ _ _ (t .0) (t .1) (t .2) (c .before .before .before .before .before .before .before .before .before .before .before .before .before .before .before .before .get .ensures .0) (c .before .before .before .before .before .before .before .before .before .before .before .before .before .before .relink .ensures) (c .before .before .before .before .before .before .before .before .before .before .new-out-rec .ensures) _ _ (c .before .before .before .before .before .before .fix-outrec-pts .ensures) (c .before .before .settle .ensures)))
+    split-ring-done _ _ _ _ _ _ _ _ (t .0) (t .1) (t .2) (c .before .before .before .before .before .before .before .before .before .before .before .before .before .before .before .before .get .ensures .0) (c .before .before .before .before .before .before .before .before .before .before .before .before .before .before .relink .ensures) (c .before .before .before .before .before .before .before .before .before .before .new-out-rec .ensures) _ _ (c .before .before .before .before .before .before .fix-outrec-pts .ensures) (c .before .before .settle .ensures)))
