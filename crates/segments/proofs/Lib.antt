@@ -3,6 +3,7 @@ pub mod Stable
 pub mod Sinking
 pub mod Walks
 pub mod Running
+pub mod LevelRuns
 pub mod Moving
 pub mod Updates
 pub mod Doubling

@@ -98,7 +98,7 @@ unfolding alongOf
 along-lives w o true i p h = next-lives (view w) (o .resolved) i p h
 along-lives w o false i p h = prev-lives (view w) (o .resolved) i p h
 
-steps : (w : List ℕ) → Ready w → (on : Bool) (i p q : ℕ) → Lives (view w) i p → Lives (view w) i q → Steps (alongOf w on) q p
+pub steps : (w : List ℕ) → Ready w → (on : Bool) (i p q : ℕ) → Lives (view w) i p → Lives (view w) i q → Steps (alongOf w on) q p
 unfolding alongOf
 steps w o true i p q a b = forwards (view w) (o .resolved) i p q a b
 steps w o false i p q a b = backwards (view w) (o .resolved) i p q a b

@@ -3,4 +3,5 @@ pub mod Level
 pub mod Row
 pub mod Pair
 pub mod Update
+pub mod LevelRun
 pub mod Make
