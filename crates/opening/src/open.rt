@@ -60,8 +60,8 @@ fn stages(bytes: &[u8], work: &mut [u32]) -> Opened
     requires { ⌜ LENGTH ≤ length (now work) ⌝ }
     ensures { λ r. ⌜ end r (now (work .exit)) ≡ stagesOf (now (bytes .entry)) (now (work .entry)) ⌝ }
 {
-    let mut segments = [0u32; 256];
-    let mut joins = [0u32; 2560];
+    let mut segments = [0u32; Job::SEGMENTS];
+    let mut joins = [0u32; 2 * Job::JOINS + Job::POINTS];
     let o = accept(bytes, work, &mut segments, &mut joins);
     match o {
         Outcome::State(j) => convert(work, &segments, j.segments, &mut joins, j.joins),
