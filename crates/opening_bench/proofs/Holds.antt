@@ -20,66 +20,71 @@ use Rattle.joins.specs.Resolve.{realOf, getRealOutrec, homeOf}
 use Rattle.joins.specs.Join.{relinkOf, newOutRec, nameAll, fixOutrecPts, settleOf, splitRing, splitOf, mergeOf, byRecords, joinOf, joinsFrom}
 use Rattle.opening.specs.Start.{startRing, startTo, startRings}
 use Rattle.opening.specs.Open.{stagesOf, openOf}
-use Rattle.opening_bench.specs.Bench.{result, Holds, bench, knotted, itself, overlapping, sameWay, levelFree, levelWalled, equalLeft, oneRing, nested, otherHeights, threeInLine, bothEnds, uprightSpike, openRing, ownJoinFirst}
+use Rattle.opening_bench.specs.Bench.{Row, Answer, result, Holds, bench, knotted, itself, overlapping, sameWay, levelFree, levelWalled, equalLeft, oneRing, nested, otherHeights, threeInLine, bothEnds, uprightSpike, openRing, ownJoinFirst}
+
+-- what opening computes, opened: to unfold this is to unfold all that its line names
+computed : Row → Answer
+unfolding result openOf stagesOf acceptOf readOf fillOf run turnOf fieldOf bodyOf rowsOf endsIn findIn anyIn walk.run anyBelow cell put duplicateOp alongOf until atWall atStop atLimit wallRun stopRun limitRun sorted oneOf twoOf walledEnds freeEnds endsOf headed updateHorzSegment claimOf rowOf updateFrom makeJoin apartOf joinPair firstOne secondOne movedPair pairOf innerFrom outerFrom segmentRows pairsOf convertHorzSegsToJoins realOf getRealOutrec homeOf relinkOf newOutRec nameAll fixOutrecPts settleOf splitRing splitOf mergeOf byRecords joinOf joinsFrom startRing startTo startRings
+computed r = result r
 
 knotted-holds : result knotted ≡ knotted .answer
-unfolding result knotted openOf stagesOf acceptOf readOf fillOf run turnOf fieldOf bodyOf rowsOf endsIn findIn anyIn walk.run anyBelow cell put duplicateOp alongOf until atWall atStop atLimit wallRun stopRun limitRun sorted oneOf twoOf walledEnds freeEnds endsOf headed updateHorzSegment claimOf rowOf updateFrom makeJoin apartOf joinPair firstOne secondOne movedPair pairOf innerFrom outerFrom segmentRows pairsOf convertHorzSegsToJoins realOf getRealOutrec homeOf relinkOf newOutRec nameAll fixOutrecPts settleOf splitRing splitOf mergeOf byRecords joinOf joinsFrom startRing startTo startRings
+unfolding computed knotted
 knotted-holds = refl
 
 itself-holds : result itself ≡ itself .answer
-unfolding result itself openOf stagesOf acceptOf readOf fillOf run turnOf fieldOf bodyOf rowsOf endsIn findIn anyIn walk.run anyBelow cell put duplicateOp alongOf until atWall atStop atLimit wallRun stopRun limitRun sorted oneOf twoOf walledEnds freeEnds endsOf headed updateHorzSegment claimOf rowOf updateFrom makeJoin apartOf joinPair firstOne secondOne movedPair pairOf innerFrom outerFrom segmentRows pairsOf convertHorzSegsToJoins realOf getRealOutrec homeOf relinkOf newOutRec nameAll fixOutrecPts settleOf splitRing splitOf mergeOf byRecords joinOf joinsFrom startRing startTo startRings
+unfolding computed itself
 itself-holds = refl
 
 overlapping-holds : result overlapping ≡ overlapping .answer
-unfolding result overlapping openOf stagesOf acceptOf readOf fillOf run turnOf fieldOf bodyOf rowsOf endsIn findIn anyIn walk.run anyBelow cell put duplicateOp alongOf until atWall atStop atLimit wallRun stopRun limitRun sorted oneOf twoOf walledEnds freeEnds endsOf headed updateHorzSegment claimOf rowOf updateFrom makeJoin apartOf joinPair firstOne secondOne movedPair pairOf innerFrom outerFrom segmentRows pairsOf convertHorzSegsToJoins realOf getRealOutrec homeOf relinkOf newOutRec nameAll fixOutrecPts settleOf splitRing splitOf mergeOf byRecords joinOf joinsFrom startRing startTo startRings
+unfolding computed overlapping
 overlapping-holds = refl
 
 sameWay-holds : result sameWay ≡ sameWay .answer
-unfolding result sameWay openOf stagesOf acceptOf readOf fillOf run turnOf fieldOf bodyOf rowsOf endsIn findIn anyIn walk.run anyBelow cell put duplicateOp alongOf until atWall atStop atLimit wallRun stopRun limitRun sorted oneOf twoOf walledEnds freeEnds endsOf headed updateHorzSegment claimOf rowOf updateFrom makeJoin apartOf joinPair firstOne secondOne movedPair pairOf innerFrom outerFrom segmentRows pairsOf convertHorzSegsToJoins realOf getRealOutrec homeOf relinkOf newOutRec nameAll fixOutrecPts settleOf splitRing splitOf mergeOf byRecords joinOf joinsFrom startRing startTo startRings
+unfolding computed sameWay
 sameWay-holds = refl
 
 levelFree-holds : result levelFree ≡ levelFree .answer
-unfolding result levelFree openOf stagesOf acceptOf readOf fillOf run turnOf fieldOf bodyOf rowsOf endsIn findIn anyIn walk.run anyBelow cell put duplicateOp alongOf until atWall atStop atLimit wallRun stopRun limitRun sorted oneOf twoOf walledEnds freeEnds endsOf headed updateHorzSegment claimOf rowOf updateFrom makeJoin apartOf joinPair firstOne secondOne movedPair pairOf innerFrom outerFrom segmentRows pairsOf convertHorzSegsToJoins realOf getRealOutrec homeOf relinkOf newOutRec nameAll fixOutrecPts settleOf splitRing splitOf mergeOf byRecords joinOf joinsFrom startRing startTo startRings
+unfolding computed levelFree
 levelFree-holds = refl
 
 levelWalled-holds : result levelWalled ≡ levelWalled .answer
-unfolding result levelWalled openOf stagesOf acceptOf readOf fillOf run turnOf fieldOf bodyOf rowsOf endsIn findIn anyIn walk.run anyBelow cell put duplicateOp alongOf until atWall atStop atLimit wallRun stopRun limitRun sorted oneOf twoOf walledEnds freeEnds endsOf headed updateHorzSegment claimOf rowOf updateFrom makeJoin apartOf joinPair firstOne secondOne movedPair pairOf innerFrom outerFrom segmentRows pairsOf convertHorzSegsToJoins realOf getRealOutrec homeOf relinkOf newOutRec nameAll fixOutrecPts settleOf splitRing splitOf mergeOf byRecords joinOf joinsFrom startRing startTo startRings
+unfolding computed levelWalled
 levelWalled-holds = refl
 
 equalLeft-holds : result equalLeft ≡ equalLeft .answer
-unfolding result equalLeft openOf stagesOf acceptOf readOf fillOf run turnOf fieldOf bodyOf rowsOf endsIn findIn anyIn walk.run anyBelow cell put duplicateOp alongOf until atWall atStop atLimit wallRun stopRun limitRun sorted oneOf twoOf walledEnds freeEnds endsOf headed updateHorzSegment claimOf rowOf updateFrom makeJoin apartOf joinPair firstOne secondOne movedPair pairOf innerFrom outerFrom segmentRows pairsOf convertHorzSegsToJoins realOf getRealOutrec homeOf relinkOf newOutRec nameAll fixOutrecPts settleOf splitRing splitOf mergeOf byRecords joinOf joinsFrom startRing startTo startRings
+unfolding computed equalLeft
 equalLeft-holds = refl
 
 oneRing-holds : result oneRing ≡ oneRing .answer
-unfolding result oneRing openOf stagesOf acceptOf readOf fillOf run turnOf fieldOf bodyOf rowsOf endsIn findIn anyIn walk.run anyBelow cell put duplicateOp alongOf until atWall atStop atLimit wallRun stopRun limitRun sorted oneOf twoOf walledEnds freeEnds endsOf headed updateHorzSegment claimOf rowOf updateFrom makeJoin apartOf joinPair firstOne secondOne movedPair pairOf innerFrom outerFrom segmentRows pairsOf convertHorzSegsToJoins realOf getRealOutrec homeOf relinkOf newOutRec nameAll fixOutrecPts settleOf splitRing splitOf mergeOf byRecords joinOf joinsFrom startRing startTo startRings
+unfolding computed oneRing
 oneRing-holds = refl
 
 nested-holds : result nested ≡ nested .answer
-unfolding result nested openOf stagesOf acceptOf readOf fillOf run turnOf fieldOf bodyOf rowsOf endsIn findIn anyIn walk.run anyBelow cell put duplicateOp alongOf until atWall atStop atLimit wallRun stopRun limitRun sorted oneOf twoOf walledEnds freeEnds endsOf headed updateHorzSegment claimOf rowOf updateFrom makeJoin apartOf joinPair firstOne secondOne movedPair pairOf innerFrom outerFrom segmentRows pairsOf convertHorzSegsToJoins realOf getRealOutrec homeOf relinkOf newOutRec nameAll fixOutrecPts settleOf splitRing splitOf mergeOf byRecords joinOf joinsFrom startRing startTo startRings
+unfolding computed nested
 nested-holds = refl
 
 otherHeights-holds : result otherHeights ≡ otherHeights .answer
-unfolding result otherHeights openOf stagesOf acceptOf readOf fillOf run turnOf fieldOf bodyOf rowsOf endsIn findIn anyIn walk.run anyBelow cell put duplicateOp alongOf until atWall atStop atLimit wallRun stopRun limitRun sorted oneOf twoOf walledEnds freeEnds endsOf headed updateHorzSegment claimOf rowOf updateFrom makeJoin apartOf joinPair firstOne secondOne movedPair pairOf innerFrom outerFrom segmentRows pairsOf convertHorzSegsToJoins realOf getRealOutrec homeOf relinkOf newOutRec nameAll fixOutrecPts settleOf splitRing splitOf mergeOf byRecords joinOf joinsFrom startRing startTo startRings
+unfolding computed otherHeights
 otherHeights-holds = refl
 
 threeInLine-holds : result threeInLine ≡ threeInLine .answer
-unfolding result threeInLine openOf stagesOf acceptOf readOf fillOf run turnOf fieldOf bodyOf rowsOf endsIn findIn anyIn walk.run anyBelow cell put duplicateOp alongOf until atWall atStop atLimit wallRun stopRun limitRun sorted oneOf twoOf walledEnds freeEnds endsOf headed updateHorzSegment claimOf rowOf updateFrom makeJoin apartOf joinPair firstOne secondOne movedPair pairOf innerFrom outerFrom segmentRows pairsOf convertHorzSegsToJoins realOf getRealOutrec homeOf relinkOf newOutRec nameAll fixOutrecPts settleOf splitRing splitOf mergeOf byRecords joinOf joinsFrom startRing startTo startRings
+unfolding computed threeInLine
 threeInLine-holds = refl
 
 bothEnds-holds : result bothEnds ≡ bothEnds .answer
-unfolding result bothEnds openOf stagesOf acceptOf readOf fillOf run turnOf fieldOf bodyOf rowsOf endsIn findIn anyIn walk.run anyBelow cell put duplicateOp alongOf until atWall atStop atLimit wallRun stopRun limitRun sorted oneOf twoOf walledEnds freeEnds endsOf headed updateHorzSegment claimOf rowOf updateFrom makeJoin apartOf joinPair firstOne secondOne movedPair pairOf innerFrom outerFrom segmentRows pairsOf convertHorzSegsToJoins realOf getRealOutrec homeOf relinkOf newOutRec nameAll fixOutrecPts settleOf splitRing splitOf mergeOf byRecords joinOf joinsFrom startRing startTo startRings
+unfolding computed bothEnds
 bothEnds-holds = refl
 
 uprightSpike-holds : result uprightSpike ≡ uprightSpike .answer
-unfolding result uprightSpike openOf stagesOf acceptOf readOf fillOf run turnOf fieldOf bodyOf rowsOf endsIn findIn anyIn walk.run anyBelow cell put duplicateOp alongOf until atWall atStop atLimit wallRun stopRun limitRun sorted oneOf twoOf walledEnds freeEnds endsOf headed updateHorzSegment claimOf rowOf updateFrom makeJoin apartOf joinPair firstOne secondOne movedPair pairOf innerFrom outerFrom segmentRows pairsOf convertHorzSegsToJoins realOf getRealOutrec homeOf relinkOf newOutRec nameAll fixOutrecPts settleOf splitRing splitOf mergeOf byRecords joinOf joinsFrom startRing startTo startRings
+unfolding computed uprightSpike
 uprightSpike-holds = refl
 
 openRing-holds : result openRing ≡ openRing .answer
-unfolding result openRing openOf stagesOf acceptOf readOf fillOf run turnOf fieldOf bodyOf rowsOf endsIn findIn anyIn walk.run anyBelow cell put duplicateOp alongOf until atWall atStop atLimit wallRun stopRun limitRun sorted oneOf twoOf walledEnds freeEnds endsOf headed updateHorzSegment claimOf rowOf updateFrom makeJoin apartOf joinPair firstOne secondOne movedPair pairOf innerFrom outerFrom segmentRows pairsOf convertHorzSegsToJoins realOf getRealOutrec homeOf relinkOf newOutRec nameAll fixOutrecPts settleOf splitRing splitOf mergeOf byRecords joinOf joinsFrom startRing startTo startRings
+unfolding computed openRing
 openRing-holds = refl
 
 ownJoinFirst-holds : result ownJoinFirst ≡ ownJoinFirst .answer
-unfolding result ownJoinFirst openOf stagesOf acceptOf readOf fillOf run turnOf fieldOf bodyOf rowsOf endsIn findIn anyIn walk.run anyBelow cell put duplicateOp alongOf until atWall atStop atLimit wallRun stopRun limitRun sorted oneOf twoOf walledEnds freeEnds endsOf headed updateHorzSegment claimOf rowOf updateFrom makeJoin apartOf joinPair firstOne secondOne movedPair pairOf innerFrom outerFrom segmentRows pairsOf convertHorzSegsToJoins realOf getRealOutrec homeOf relinkOf newOutRec nameAll fixOutrecPts settleOf splitRing splitOf mergeOf byRecords joinOf joinsFrom startRing startTo startRings
+unfolding computed ownJoinFirst
 ownJoinFirst-holds = refl
 
 -- every row
