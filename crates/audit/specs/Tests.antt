@@ -58,12 +58,12 @@ offTable w k = ltb (2 * limit.COORDINATE) (view w (pt X) k) || ltb (2 * limit.CO
 abbrev pub noSuch : List ℕ → ℕ → Bool
 noSuch w k = not (ltb (nextOf w k) (pointsOf w)) || (not (ltb (prevOf w k) (pointsOf w)) || not (ltb (recOf w k) (recordsOf w)))
 
--- "and every record's owner and first point)": none, or it names one
-abbrev pub namesNone : ℕ → ℕ → Bool
-namesNone n v = not (eqb v NONE) && not (ltb v n)
+-- "and every record's owner and first point)": a number that names nothing, none aside
+abbrev pub namesNothing : ℕ → ℕ → Bool
+namesNothing n v = not (eqb v NONE) && not (ltb v n)
 
 abbrev pub noSuchOf : List ℕ → ℕ → Bool
-noSuchOf w i = namesNone (recordsOf w) (ownerOf w i) || namesNone (pointsOf w) (firstOf w i)
+noSuchOf w i = namesNothing (recordsOf w) (ownerOf w i) || namesNothing (pointsOf w) (firstOf w i)
 
 -- "links (6)": "next of prev, or prev of next, isn't the point"
 abbrev pub loose : List ℕ → ℕ → Bool

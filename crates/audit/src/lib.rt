@@ -11,7 +11,7 @@ ghost use Prim.Native.Nat.{_+_, _<_, _≤_};
 ghost use lib.ListN.{length};
 ghost use Rattle.store.specs.Field.{LENGTH};
 ghost use Rattle.store.specs.Named.{pointsOf, recordsOf, nextOf, ringOf};
-ghost use Rattle.audit.specs.Tests.{isIn, anyBelow, offTable, noSuch, noSuchOf, namesNone, loose, misplaced, crowded, anyRecord, testsOf};
+ghost use Rattle.audit.specs.Tests.{isIn, anyBelow, offTable, noSuch, noSuchOf, namesNothing, loose, misplaced, crowded, anyRecord, testsOf};
 ghost use Rattle.audit.specs.declared.PointTest.the-variants.{Numbers};
 ghost use Rattle.audit.specs.Marks.{Counted, isMarked, markFrom, marksBy, AllMarked, fails, failsOf, anyMarked, linksOf, pointsTested};
 
@@ -180,8 +180,8 @@ fn any_marked(w: &[u32], marks: &[u8; 2048], t: PointTest) -> bool
 
 // ---- the tests of a record
 
-fn names_none(n: usize, v: usize) -> bool
-    ensures { λ r. ⌜ r ≡ namesNone n v ⌝ }
+fn names_nothing(n: usize, v: usize) -> bool
+    ensures { λ r. ⌜ r ≡ namesNothing n v ⌝ }
 {
     !(v == NONE) & !(v < n)
 }
@@ -194,8 +194,8 @@ fn no_such_of(w: &[u32], i: usize) -> bool
     let n = get(w, Col::Records, 0);
     let o = read(w, Col::Owner, i);
     let f = read(w, Col::First, i);
-    let a = names_none(n, o);
-    let b = names_none(m, f);
+    let a = names_nothing(n, o);
+    let b = names_nothing(m, f);
     a | b
 }
 
