@@ -64,6 +64,7 @@ pub record OneRecord (s u : Store) (a c i : ℕ) : Type 0 where
   pub one-on : 0 < occ a (ringAt s i)
   pub two-on : 0 < occ c (ringAt s i)
   pub records : recs u ≡ suc (recs s)
+  -- the new record's ring is what goes, from op1's next; its own is what stays, from its first point
   pub new : ringAt u (recs s) ≡ goes a c (ringAt s i)
   pub own : ringAt u i ≡ seenFrom (u (rc FIRST) i) (stays a c (ringAt s i))
   pub first : u (rc FIRST) i ≡ firstLeft a (goes a c (ringAt s i)) (s (rc FIRST) i)
@@ -97,7 +98,7 @@ AsRings w a c (end Knot x) = (x ≡ w) × (nextOf w a ≡ c)
 AsRings w a c (end Full x) = (x ≡ w) × (nextOf w a ≢ c) × (homeOf w a ≡ homeOf w c) × (recordsOf w ≡ limit.RECORDS)
 AsRings w a c (end Done x) = (nextOf w a ≢ c) × OneOrTwo w x a c (homeOf w a) (homeOf w c)
 
--- join number k of a list, of which the k before it are done and have left x: it is made next, and is the two cases
+-- join number k of a list, when the k before it are done and have left x: it is made next, on those words, as above
 pub record AtTurn (k : ℕ) (js w x : List ℕ) : Type 0 where
   pub next : processHorzJoins (suc k) js w ≡ joinOf x (getD js (2 * k) 0) (getD js (2 * k + 1) 0)
   pub rings : AsRings x (getD js (2 * k) 0) (getD js (2 * k + 1) 0) (joinOf x (getD js (2 * k) 0) (getD js (2 * k + 1) 0))

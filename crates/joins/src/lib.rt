@@ -1,4 +1,4 @@
-// Joins (`process_horz_joins`): document 01, "Segment and join". A join at its turn is a knot, splits one ring in two, or splices two into one.
+// Joins (`process_horz_joins`): document 01, "Segment and join". A join at its turn is refused (9, 10), splits one ring in two, or makes one ring of two.
 use job::Job;
 use store::Col;
 use store::NONE;
