@@ -22,7 +22,7 @@ pub enum Joined {
 }
 
 // The first with points among r and its owners.
-pub fn get_real_outrec(w: &[u32], r: usize) -> usize
+fn get_real_outrec(w: &[u32], r: usize) -> usize
     requires { ⌜ Resolving (now w) r ⌝ }
     ensures { λ q. ⌜ q ≡ getRealOutrec (now (w .entry)) r ⌝ }
 {
