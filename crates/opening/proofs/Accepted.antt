@@ -23,9 +23,9 @@ use Rattle.rows.specs.Rings.{onRing}
 use Rattle.rows.specs.Rows.{onOpen}
 use Rattle.rows.proofs.Homes.{or-left, or-right}
 use Rattle.accepting.specs.Accept.{acceptOf}
-use Rattle.segments.specs.declared.pairs.Converted.the-variants as converted
-use Rattle.segments.specs.Make.{Made, made, convertHorzSegsToJoins, Converting}
-use Rattle.segments.proofs.Open.{ConvertedOpen, convert-open}
+use Rattle.converting.specs.declared.pairs.Converted.the-variants as converted
+use Rattle.converting.specs.Make.{Made, made, convertHorzSegsToJoins, Converting}
+use Rattle.converting.proofs.Open.{ConvertedOpen, convert-open}
 use Rattle.joins.specs.declared.Joined.the-variants as joined
 use Rattle.joins.specs.Join as join
 use Rattle.joins.specs.Join.{processHorzJoins}

@@ -16,10 +16,10 @@ use Rattle.reading.proofs.Counted.{filled}
 use Rattle.rows.proofs.Homes.{named-at}
 use Rattle.accepting.specs.Accept.{judged, acceptOf, Accepted}
 use Rattle.accepting.proofs.Accepting.{accepted}
-use Rattle.segments.specs.declared.pairs.Converted.{Converted}
-use Rattle.segments.specs.declared.pairs.Converted.the-variants as converted
-use Rattle.segments.specs.Make.{made, convertHorzSegsToJoins, Converting}
-use Rattle.segments.proofs.Converting.{JoinsOf, convert-joins}
+use Rattle.converting.specs.declared.pairs.Converted.{Converted}
+use Rattle.converting.specs.declared.pairs.Converted.the-variants as converted
+use Rattle.converting.specs.Make.{made, convertHorzSegsToJoins, Converting}
+use Rattle.converting.proofs.Converting.{JoinsOf, convert-joins}
 use Rattle.joins.specs.declared.Joined.{Joined}
 use Rattle.joins.specs.Join as join
 use Rattle.joins.specs.Join.{processHorzJoins}

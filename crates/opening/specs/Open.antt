@@ -10,8 +10,8 @@ use Rattle.store.specs.Field.{LENGTH}
 use Rattle.reading.specs.declared.fill.Outcome.the-variants as outcome
 use Rattle.reading.specs.Fill as fill
 use Rattle.accepting.specs.Accept.{acceptOf}
-use Rattle.segments.specs.declared.pairs.Converted.the-variants as converted
-use Rattle.segments.specs.Make.{Made, made, convertHorzSegsToJoins}
+use Rattle.converting.specs.declared.pairs.Converted.the-variants as converted
+use Rattle.converting.specs.Make.{Made, made, convertHorzSegsToJoins}
 use Rattle.joins.specs.declared.Joined.the-variants as joined
 use Rattle.joins.specs.Join as join
 use Rattle.joins.specs.Join.{processHorzJoins}
