@@ -13,6 +13,7 @@ mod room;
 mod runs;
 mod steps;
 mod tally;
+mod tidied;
 mod words;
 
 use calls::{Fault, FAULTS};
