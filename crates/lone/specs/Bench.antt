@@ -1,8 +1,9 @@
--- Document 01's bench rings as rows of one table: a setting, one closed ring, and the paths that it and its offcuts end in.
+-- Rings as rows of tables: the settings, one closed ring, and the paths that it and its offcuts end in. Document 01's bench rings, rings at the rules' edges, and a
+-- ring for each rule that a table of simple rings would not see.
 use mathlib.Core.Bool.{Bool, true, false}
 use mathlib.Core.List.{List, [], _∷_}
 use Prim.Native.Nat.{ℕ}
-use lib.IntN.{pos}
+use lib.IntN.{ℤ, pos, negℤ}
 use lib.ListN.{length}
 use Rattle.geometry.specs.declared.Point.{Point}
 use Rattle.rings.specs.Progress.{Ring, atStart}
@@ -11,8 +12,15 @@ use Rattle.lone.specs.Plane.{plane, loneRing}
 use Rattle.lone.specs.Finish.{finishForest}
 use Rattle.lone.specs.Writing.{isAllDone, closedPaths}
 
+abbrev pub point : ℤ → ℤ → Point
+point a b = record { x = a; y = b }
+
+-- one that is nowhere left of or below the origin
 abbrev pub pt : ℕ → ℕ → Point
-pt a b = record { x = pos a; y = pos b }
+pt a b = point (pos a) (pos b)
+
+abbrev pub minus : ℕ → ℤ
+minus n = negℤ (pos n)
 
 -- the two settings, the ring, and its paths
 pub record Row : Type 0 where
@@ -24,6 +32,10 @@ pub record Row : Type 0 where
 -- a row with settings 0
 abbrev pub row : List Point → List (List Point) → Row
 row ring paths = record { preserve = false; reversed = false; ring = ring; paths = paths }
+
+-- one with bit 0
+abbrev pub rowKept : List Point → List (List Point) → Row
+rowKept ring paths = record { preserve = true; reversed = false; ring = ring; paths = paths }
 
 -- what a row's forest ends in: whether all are done, and the paths, records ascending
 pub record Outcome : Type 0 where
@@ -65,4 +77,76 @@ edges =
     ∷ row (pt 3 5 ∷ pt 0 0 ∷ pt 6 4 ∷ pt 0 2 ∷ pt 4 0 ∷ []) ((pt 0 0 ∷ pt 6 4 ∷ pt 0 2 ∷ pt 4 0 ∷ pt 6 4 ∷ pt 3 5 ∷ []) ∷ [])
     ∷ row (pt 0 4 ∷ pt 3 1 ∷ pt 2 1 ∷ pt 3 3 ∷ pt 0 0 ∷ []) ((pt 3 3 ∷ pt 3 1 ∷ pt 2 1 ∷ pt 3 3 ∷ pt 0 0 ∷ pt 0 4 ∷ []) ∷ [])
     ∷ row (pt 3 2 ∷ pt 2 4 ∷ pt 3 0 ∷ pt 2 1 ∷ pt 1 4 ∷ []) ((pt 2 2 ∷ pt 3 0 ∷ pt 2 1 ∷ pt 1 4 ∷ []) ∷ [])
+    ∷ []
+
+-- ---- a ring for each rule, with the Rust's own answers. Another rule there ends otherwise
+
+-- a doubling at the ring's first point ends the loop
+abbrev pub doubledAtFirst : Row
+doubledAtFirst = row (pt 2 0 ∷ pt 2 3 ∷ pt 0 1 ∷ pt 0 2 ∷ pt 3 0 ∷ pt 1 2 ∷ []) ((pt 0 1 ∷ pt 3 0 ∷ pt 1 2 ∷ pt 2 0 ∷ pt 3 0 ∷ pt 2 3 ∷ []) ∷ [])
+
+-- the loop's start is kept through a cut that leaves it on the ring
+abbrev pub startKept : Row
+startKept = rowKept (pt 1 4 ∷ pt 2 0 ∷ pt 4 2 ∷ pt 1 3 ∷ pt 2 2 ∷ []) ((pt 1 2 ∷ pt 1 4 ∷ pt 1 3 ∷ pt 2 0 ∷ pt 4 2 ∷ []) ∷ [])
+
+-- a start that was cut away is none: nothing meets it
+abbrev pub startCutAway : Row
+startCutAway = row (pt 1 4 ∷ pt 2 2 ∷ pt 0 1 ∷ pt 4 1 ∷ pt 0 4 ∷ []) []
+
+-- the crossing is the second point after: no point is put in
+abbrev pub crossingAfter : Row
+crossingAfter = rowKept (pt 0 0 ∷ pt 1 3 ∷ pt 3 1 ∷ pt 0 1 ∷ []) ((pt 1 3 ∷ pt 3 1 ∷ pt 0 1 ∷ []) ∷ [])
+
+-- the crossing is the point before: no point is put in
+abbrev pub crossingBefore : Row
+crossingBefore = row (pt 2 3 ∷ pt 0 2 ∷ pt 3 3 ∷ pt 0 0 ∷ pt 1 3 ∷ []) ((pt 3 3 ∷ pt 0 0 ∷ pt 0 2 ∷ []) ∷ [])
+
+-- an offcut whose `area_triangle` is 1.0, the least that is kept
+abbrev pub leastOffcut : Row
+leastOffcut = row (pt 5 1 ∷ pt 0 4 ∷ pt 4 3 ∷ pt 2 4 ∷ []) ((pt 5 1 ∷ pt 0 4 ∷ pt 2 3 ∷ []) ∷ [])
+
+-- an offcut that is not larger than the ring is kept for having its sign
+abbrev pub sameSign : Row
+sameSign = row (point (minus 2) (minus 3) ∷ point (pos 1) (minus 1) ∷ point (minus 3) (minus 2) ∷ point (minus 1) (minus 3) ∷ [])
+    ((point (pos 1) (minus 1) ∷ point (minus 3) (minus 2) ∷ point (minus 1) (minus 2) ∷ []) ∷ [])
+
+-- after a drop the removal loop's start is the point then present: else the last stray point is never met
+abbrev pub startAfterDrop : Row
+startAfterDrop = row (pt 2 0 ∷ pt 2 1 ∷ pt 3 2 ∷ pt 2 3 ∷ pt 2 0 ∷ []) []
+
+-- a first point that is dropped goes back by one
+abbrev pub firstGoesBack : Row
+firstGoesBack = row (pt 3 2 ∷ pt 3 0 ∷ pt 0 1 ∷ pt 3 3 ∷ []) ((pt 3 0 ∷ pt 0 1 ∷ pt 3 3 ∷ []) ∷ [])
+
+-- a ring of area 1.5 goes at its split
+abbrev pub areaUnderTwo : Row
+areaUnderTwo = row (pt 0 0 ∷ pt 2 0 ∷ pt 2 3 ∷ pt 3 3 ∷ []) []
+
+-- the crossing (-0.6, 1.2) drops toward zero, to (0, 1)
+abbrev pub towardZero : Row
+towardZero = row (point (pos 1) (minus 2) ∷ point (minus 1) (pos 2) ∷ point (minus 3) (pos 0) ∷ pt 1 2 ∷ []) []
+
+-- with bit 0, too, a spike goes
+abbrev pub spikeGoes : Row
+spikeGoes = rowKept (point (minus 3) (minus 3) ∷ point (minus 3) (pos 1) ∷ point (minus 3) (minus 1) ∷ []) []
+
+-- and so do equal neighbours
+abbrev pub equalsGo : Row
+equalsGo = rowKept (pt 3 1 ∷ pt 2 0 ∷ pt 2 2 ∷ pt 3 1 ∷ []) []
+
+unfoldable pub rules : List Row
+rules =
+    doubledAtFirst
+    ∷ startKept
+    ∷ startCutAway
+    ∷ crossingAfter
+    ∷ crossingBefore
+    ∷ leastOffcut
+    ∷ sameSign
+    ∷ startAfterDrop
+    ∷ firstGoesBack
+    ∷ areaUnderTwo
+    ∷ towardZero
+    ∷ spikeGoes
+    ∷ equalsGo
     ∷ []
