@@ -10,7 +10,7 @@ use Rattle.lone.specs.Forest.{answer, stepForest}
 use Rattle.lone.specs.Finish.{stepsOn, finishForest}
 use Rattle.lone.specs.Order.{machine}
 use Rattle.lone.specs.Bench.{result, expected, after, bench, edges, rules}
-use Rattle.lone.specs.Bench.{doubledAtFirst, startKept, startCutAway, crossingAfter, crossingBefore, leastOffcut, sameSign, startAfterDrop, firstGoesBack, areaUnderTwo, towardZero, spikeGoes, equalsGo}
+use Rattle.lone.specs.Bench.{doubledAtFirst, startKept, startCutAway, crossingAfter, crossingBefore, leastOffcut, sameSign, startAfterDrop, startMovesOn, firstGoesBack, areaUnderTwo, towardZero, spikeGoes, equalsGo}
 
 -- the definitions that a row computes with: `unfolding computing` opens them all
 unfoldable computing : Unit {0}
@@ -59,6 +59,10 @@ start-after-drop : result startAfterDrop ≡ expected startAfterDrop
 unfolding computing
 start-after-drop = refl
 
+start-moves-on : result startMovesOn ≡ expected startMovesOn
+unfolding computing
+start-moves-on = refl
+
 first-goes-back : result firstGoesBack ≡ expected firstGoesBack
 unfolding computing
 first-goes-back = refl
@@ -81,4 +85,4 @@ equals-go = refl
 
 pub rules-hold : map result rules ≡ map expected rules
 unfolding rules
-rules-hold = cc (doubled-at-first, start-kept, start-cut-away, crossing-after, crossing-before, least-offcut, same-sign, start-after-drop, first-goes-back, area-under-two, toward-zero, spike-goes, equals-go)
+rules-hold = cc (doubled-at-first, start-kept, start-cut-away, crossing-after, crossing-before, least-offcut, same-sign, start-after-drop, start-moves-on, first-goes-back, area-under-two, toward-zero, spike-goes, equals-go)

@@ -12,7 +12,7 @@ use Rattle.rings.specs.Progress.{Ring, atStart}
 use Rattle.lone.specs.Ring.{Act, stay, discard, dropPoint, moveOn, toFirst, double, cut, offcut, takesPoints}
 use Rattle.lone.specs.Lone.{Geo, actOf, offcutRing, takesRing}
 use Rattle.lone.specs.Forest.{Entry, ringless, openRing, closedRing, ok, Forest, isOk, at, Every, stepState, carryOut, answer, stepForest}
-use Rattle.lone.specs.Order.{machine, AllDone, Fits, NeverEnds}
+use Rattle.lone.specs.Order.{machine, AllDone, ForestFits, ForestNeverEnds}
 use Rattle.lone.specs.Kept.{OnRing, HasStart, Held}
 use Rattle.lone.specs.Measure.{heaviest, measure}
 use Rattle.lone.specs.Finish.{finishForest, enough}
@@ -122,6 +122,6 @@ module _ {P X : Type 0} (G : Geo P) (lp lr : ℕ) where
           omega (arith, suc-mul lp (suc (heaviest lp)), scale-le (lp - F .points) lp (suc (heaviest lp)) (omega arith), weight-le lp (L .now) (w .on-ring) (omega (arith, w .short, v .within)))
 
   -- finishing a forest of rings: all are done after it, and then no list has a full refusal and each can be carried on so far; or none can
-  pub rings-finish : (F : Forest (Ring P) X) → HeldIn F → length (F .entries) ≤ lr → (AllDone (machine G) (finishForest (machine G) lp lr F .entries) × Fits (machine G) lp lr F) ⊎ NeverEnds (machine G) lp lr F
+  pub rings-finish : (F : Forest (Ring P) X) → HeldIn F → length (F .entries) ≤ lr → (AllDone (machine G) (finishForest (machine G) lp lr F .entries) × ForestFits (machine G) lp lr F) ⊎ ForestNeverEnds (machine G) lp lr F
   unfolding finishForest
   rings-finish F v h = finish-decides (machine G) lp lr HeldIn left kept falls (enough lp) bound F (v .within) h v

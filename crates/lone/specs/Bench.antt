@@ -114,6 +114,10 @@ sameSign = row (point (minus 2) (minus 3) ∷ point (pos 1) (minus 1) ∷ point 
 abbrev pub startAfterDrop : Row
 startAfterDrop = row (pt 2 0 ∷ pt 2 1 ∷ pt 3 2 ∷ pt 2 3 ∷ pt 2 0 ∷ []) []
 
+-- and so the points before it are met again: (2,0), which lies in line once the spike is gone
+abbrev pub startMovesOn : Row
+startMovesOn = row (pt 0 4 ∷ pt 0 0 ∷ pt 2 0 ∷ pt 2 3 ∷ pt 2 0 ∷ pt 4 0 ∷ pt 4 4 ∷ []) ((pt 0 0 ∷ pt 4 0 ∷ pt 4 4 ∷ pt 0 4 ∷ []) ∷ [])
+
 -- a first point that is dropped goes back by one
 abbrev pub firstGoesBack : Row
 firstGoesBack = row (pt 3 2 ∷ pt 3 0 ∷ pt 0 1 ∷ pt 3 3 ∷ []) ((pt 3 0 ∷ pt 0 1 ∷ pt 3 3 ∷ []) ∷ [])
@@ -144,6 +148,7 @@ rules =
     ∷ leastOffcut
     ∷ sameSign
     ∷ startAfterDrop
+    ∷ startMovesOn
     ∷ firstGoesBack
     ∷ areaUnderTwo
     ∷ towardZero

@@ -1,12 +1,12 @@
 -- Laws of chains of drops: they compose, end at any place, keep the cyclic order and, in the plane, the doubled area.
-use mathlib.Core.Path.{_≡_, refl, sym, ap, _∙_}
+use mathlib.Core.Path.{_≡_, refl, sym, _∙_}
 use mathlib.Core.Bool.{Bool, true, false, _&&_, false≢true}
 use mathlib.Core.List.{List, [], _∷_, _++_, append-assoc}
 use Prim.Native.Nat.{ℕ, zero, suc}
 use Rattle.geometry.specs.declared.Point.{Point}
 use Rattle.geometry.specs.Plane.{isCollinear, removable, areaOutpt}
 use Rattle.geometry.proofs.Circles.{area-turned, area-in-line}
-use Rattle.rings.specs.Circle.{turn, spin, lastOf}
+use Rattle.rings.specs.Circle.{spin, lastOf}
 use Rattle.lone.specs.Lone.{Geo}
 use Rattle.lone.specs.Plane.{plane}
 use Rattle.tidied.specs.Tidied.{Among, nothing, stays, missing, InCyclicOrder, Drops, no-more, onward, dropped}

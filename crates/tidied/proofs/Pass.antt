@@ -11,11 +11,11 @@ use lib.ListN.{length}
 use Rattle.geometry.specs.declared.Point.{Point}
 use Rattle.rings.specs.Circle.{turn, spin, lastOf, headOr, oneOrThree, ahead, omap}
 use Rattle.rings.specs.Place.{isHere}
-use Rattle.rings.specs.Progress.{Due, validity, removal, triangle, split, done, Ring, atStart, tidyAt, tidy}
-use Rattle.rings.proofs.Circles.{length-turn, spin-round, spin-ahead}
+use Rattle.rings.specs.Progress.{Due, validity, removal, triangle, split, done, Ring, atStart, tidyAt}
+use Rattle.rings.proofs.Circles.{length-turn, spin-round}
 use Rattle.lone.specs.Ring.{Act, discard, dropPoint, moveOn, toFirst, double, cut, apply}
-use Rattle.lone.specs.Lone.{Geo, fromFirst, isValidClosedPath, removalTurn, splitTurn, decide, actOf, stepRing}
-use Rattle.lone.specs.Forest.{Machine, initial, stepsState}
+use Rattle.lone.specs.Lone.{Geo, fromFirst, isValidClosedPath, removalTurn, decide, actOf, stepRing}
+use Rattle.lone.specs.Forest.{initial, stepsState}
 use Rattle.lone.specs.Order.{machine}
 use Rattle.lone.specs.Plane.{plane, loneRing}
 use Rattle.lone.proofs.Turning.{split-cases}

@@ -1,5 +1,5 @@
 -- Request 6, of every work space as opening leaves it.
-use Prim.Native.Nat.{ℕ, _≤_, _<_}
+use Prim.Native.Nat.{ℕ}
 use mathlib.Core.Path.{_≡_, refl, sym, ap, _∙_, subst}
 use mathlib.Core.Logic.{_⊎_, inl, inr}
 use mathlib.Core.Bool.{Bool, true, false, cond, true≢false}
@@ -17,6 +17,8 @@ use Rattle.lone.specs.Forest as forest
 use Rattle.lone.specs.Plane.{plane, loneRing}
 use Rattle.lone.proofs.Stepping.{at-closed}
 use Rattle.lone.proofs.Keeping.{offcut-starts}
+use Rattle.lone.proofs.Ending.{run-append}
+use Rattle.lone.proofs.Coming.{stepped, Made, came}
 use Rattle.store.specs.Words.{view}
 use Rattle.store.specs.Sound.{recs, ringless, isOpen, dueAt}
 use Rattle.store.specs.Value.{ringPoints, preserveCollinear}
@@ -26,7 +28,6 @@ use Rattle.order.specs.Demand3.{fed, Has, HasRing}
 use Rattle.order.proofs.Theorem.{os, F₀, F, follows, left-at, rings-are}
 use Rattle.tidied.specs.Tidied.{Tidied, CameWith, opening-left, step-made, PassBehind, NothingLeft}
 use Rattle.tidied.proofs.Pass.{tidied}
-use Rattle.tidied.proofs.Coming.{run-both, stepped, Made, came}
 
 -- ---- an offcut is at its start
 
@@ -63,7 +64,7 @@ module _ (w : List ℕ) (o : OpeningLeft w) where
     behind : CameWith w j before → PassBehind w is j
     behind came =
         let n = stepped (loneRing p) limit.POINTS limit.RECORDS since (F w o before) j q (initial (atStart c)) there in
-        let e : at (F w o is .entries) j ≡ closedRing q (stepsState (loneRing p) (n .0) (initial (atStart c))) = ap (λ (l : List ℕ). at (F w o l .entries) j) together ∙ ap (λ (E : Forest (Ring Point) (List Point)). at (E .entries) j) (run-both (loneRing p) limit.POINTS limit.RECORDS before since (F₀ w o)) ∙ n .1 in
+        let e : at (F w o is .entries) j ≡ closedRing q (stepsState (loneRing p) (n .0) (initial (atStart c))) = ap (λ (l : List ℕ). at (F w o l .entries) j) together ∙ ap (λ (E : Forest (Ring Point) (List Point)). at (E .entries) j) (run-append (loneRing p) limit.POINTS limit.RECORDS before since (F₀ w o)) ∙ n .1 in
         let then = ring-of before j q (initial (atStart c)) there in
         let now = ring-of is j q (stepsState (loneRing p) (n .0) (initial (atStart c))) e in
         record {
