@@ -6,7 +6,6 @@ use mathlib.Core.List.{List, _++_}
 use native.Mathlib.Omega.{arith}
 use lib.Dec.{eqb, ltb}
 use lib.ListN.{length, length-append}
-use borrow.Author.Tests.{le-ltb}
 use Rattle.job.specs.Limits as limit
 use Rattle.job.specs.declared.refusal.Refusal.the-variants.{OutOfTurn, Crowded, OffTheTable, NoSuch, Loose, Muddled}
 use Rattle.store.specs.Field.{pt, rc, ct, X, Y, NEXT, PREV, REC, OWNER, FIRST, MARK, PRESENT, POINTS, RECORDS, LENGTH}
@@ -26,7 +25,7 @@ use Rattle.turns.proofs.Ready.{laws}
 use Rattle.finishing.specs.declared.Stepped.the-variants.{Refused}
 use Rattle.finishing.specs.Step.{Left, left, steppedAs, stepBy, stepOf}
 use Rattle.finishing.specs.Write.{anyLive, writeBy, writeOf}
-use Rattle.finishing.proofs.Entering.{long-step}
+use Rattle.finishing.proofs.Entering.{long-step, long-write}
 use Rattle.order.specs.PastLength.{PastLength}
 
 -- ---- the tests read the store only
@@ -84,10 +83,6 @@ module _ (v m : List ℕ) (n : length v ≡ LENGTH) where
       by verdict.Passed e =
           ap (λ (s : Store). left (steppedAs (answerS (geometryOf s) raised s i)) (stepW (geometryOf s) raised (v ++ m) i)) (view-more m v long)
           ∙ ap (left (steppedAs (answerS (geometryOf (view v)) raised (view v) i))) (step-more m raised v long i (geometryOf (view v)) (laws (preserveCollinear (view v))) (passed-sound v e))
-
-  long-write : (w t : List ℕ) → LENGTH ≤ length w → writeOf w t ≡ writeBy (testsOf w) w t
-  unfolding writeOf
-  long-write w t l = rw (le-ltb (length w) LENGTH l)
 
   writings : (t : List ℕ) → writeOf (v ++ m) t ≡ writeOf v t
   writings t =
