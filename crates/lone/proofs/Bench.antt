@@ -9,12 +9,12 @@ use Rattle.lone.specs.Path.{buildPath64FromOutpt, outline}
 use Rattle.lone.specs.Forest.{answer, stepForest}
 use Rattle.lone.specs.Finish.{stepsOn, finishForest}
 use Rattle.lone.specs.Order.{machine}
-use Rattle.lone.specs.Bench.{result, expected, after, bench, edges, rules}
+use Rattle.lone.specs.Bench.{result, expected, after, bench, edges, rules, loneResult, loneRows}
 use Rattle.lone.specs.Bench.{doubledAtFirst, startKept, startCutAway, crossingAfter, crossingBefore, leastOffcut, sameSign, startAfterDrop, startMovesOn, firstGoesBack, areaUnderTwo, towardZero, spikeGoes, equalsGo}
 
 -- the definitions that a row computes with: `unfolding computing` opens them all
 unfoldable computing : Unit {0}
-unfolding result after samePoint isCollinear dotProductThreePoints areaTriangle areaOutpt ptsReallyClose isVerySmallTriangle removable strictlyWithin segmentsIntersect fractionOf crossing coordinateAt getSegmentIntersectPt removalTurn doSplitOp splitTurn decide actOf stepRing offcutRing takesRing buildPath64FromOutpt outline answer stepForest stepsOn finishForest machine toSigned add ofInt mul
+unfolding result after loneResult samePoint isCollinear dotProductThreePoints areaTriangle areaOutpt ptsReallyClose isVerySmallTriangle removable strictlyWithin segmentsIntersect fractionOf crossing coordinateAt getSegmentIntersectPt removalTurn doSplitOp splitTurn decide actOf stepRing offcutRing takesRing buildPath64FromOutpt outline answer stepForest stepsOn finishForest machine toSigned add ofInt mul
 computing = tt
 
 pub bench-holds : map result bench ≡ map expected bench
@@ -86,3 +86,9 @@ equals-go = refl
 pub rules-hold : map result rules ≡ map expected rules
 unfolding rules
 rules-hold = cc (doubled-at-first, start-kept, start-cut-away, crossing-after, crossing-before, least-offcut, same-sign, start-after-drop, start-moves-on, first-goes-back, area-under-two, toward-zero, spike-goes, equals-go)
+
+-- ---- what only the ring itself shows
+
+pub lone-rows-hold : map loneResult loneRows ≡ loneRows
+unfolding computing loneRows
+lone-rows-hold = refl

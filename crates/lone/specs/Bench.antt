@@ -1,12 +1,13 @@
--- Rings as rows of tables: the settings, one closed ring, and the paths that it and its offcuts end in. Document 01's bench rings, rings at the rules' edges, and a
--- ring for each rule that a table of simple rings would not see.
+-- Rings as rows of tables: the settings, one closed ring, and the paths that it and its offcuts end in. Document 01's bench rings, rings at the rules' edges, a ring
+-- for each rule that a table of simple rings would not see, and rules that only the ring itself shows.
 use mathlib.Core.Bool.{Bool, true, false}
 use mathlib.Core.List.{List, [], _∷_}
-use Prim.Native.Nat.{ℕ}
+use Prim.Native.Nat.{ℕ, zero, suc}
 use lib.IntN.{ℤ, pos, negℤ}
 use lib.ListN.{length}
 use Rattle.geometry.specs.declared.Point.{Point}
 use Rattle.rings.specs.Progress.{Ring, atStart}
+use Rattle.lone.specs.Lone.{fromFirst}
 use Rattle.lone.specs.Forest.{Entry, leftClosed, opening}
 use Rattle.lone.specs.Plane.{plane, loneRing}
 use Rattle.lone.specs.Finish.{finishForest}
@@ -155,3 +156,49 @@ rules =
     ∷ spikeGoes
     ∷ equalsGo
     ∷ []
+
+-- ---- rules that no path shows, only what the ring itself is in the end and how many steps it took
+
+-- a lone ring alone, with settings 0: its points, the steps until it is done, and its points then from the first
+pub record LoneRow : Type 0 where
+  pub ring : List Point
+  pub steps : ℕ
+  pub left : List Point
+
+abbrev pub loneRow : List Point → ℕ → List Point → LoneRow
+loneRow ring steps left = record { ring = ring; steps = steps; left = left }
+
+-- steps until it is done, over: whether it is; f: more than are needed
+abbrev pub goesOn : ℕ → Bool → ℕ → Ring Point → LoneRow
+goesOn zero over n R = loneRow [] n (fromFirst R)
+goesOn (suc f) true n R = loneRow [] n (fromFirst R)
+goesOn (suc f) false n R = goesOn f (loneRing false .over (loneRing false .next R)) (suc n) (loneRing false .next R)
+
+unfoldable pub loneResult : LoneRow → LoneRow
+loneResult r = loneRow (r .ring) (goesOn 100 false 0 (atStart (r .ring)) .steps) (goesOn 100 false 0 (atStart (r .ring)) .left)
+
+-- three points of which two are close, and two points, fail the validity test
+abbrev pub threeClose : LoneRow
+threeClose = loneRow (pt 0 0 ∷ pt 1 1 ∷ pt 50 0 ∷ []) 1 []
+
+abbrev pub twoPoints : LoneRow
+twoPoints = loneRow (pt 0 0 ∷ pt 5 5 ∷ []) 1 []
+
+-- three points end at the triangle test
+abbrev pub threePoints : LoneRow
+threePoints = loneRow (pt 0 0 ∷ pt 2 0 ∷ pt 1 50 ∷ []) 5 (pt 0 0 ∷ pt 2 0 ∷ pt 1 50 ∷ [])
+
+-- a cut to three points ends the loop
+abbrev pub cutToThree : LoneRow
+cutToThree = loneRow (pt 0 0 ∷ pt 10 10 ∷ pt 10 0 ∷ pt 0 12 ∷ []) 8 (pt 0 0 ∷ pt 5 5 ∷ pt 0 12 ∷ [])
+
+-- a cut to two does not
+abbrev pub cutToTwo : LoneRow
+cutToTwo = loneRow (point (pos 0) (minus 5) ∷ pt 2 1 ∷ pt 0 1 ∷ pt 1 7 ∷ []) 9 (pt 1 7 ∷ pt 0 1 ∷ [])
+
+-- a drop that leaves three close points discards
+abbrev pub dropDiscards : LoneRow
+dropDiscards = loneRow (pt 2 0 ∷ pt 2 1 ∷ pt 3 2 ∷ pt 2 3 ∷ pt 2 0 ∷ []) 6 []
+
+unfoldable pub loneRows : List LoneRow
+loneRows = threeClose ∷ twoPoints ∷ threePoints ∷ cutToThree ∷ cutToTwo ∷ dropDiscards ∷ []
