@@ -7,12 +7,7 @@ use Rattle.job.specs.Refusal.{numberOf}
 use Rattle.job.specs.declared.refusal.Refusal.{Refusal}
 use Rattle.store.specs.Words.{view}
 use Rattle.store.specs.Sound.{Sound}
-use Rattle.store.specs.Value.{preserveCollinear}
-use Rattle.lone.specs.Forest.{ok, full, outOfTurn}
-use Rattle.acts.specs.Step.{Outcome, outcome}
-use Rattle.acts.proofs.Finished.{finish-done}
-use Rattle.turns.specs.Form.{raised, geometryOf}
-use Rattle.turns.proofs.Ready.{laws}
+use Rattle.acts.specs.Finish.{RingsEnd, ringsDone, ringsFull}
 use Rattle.paths.specs.declared.Written.{Written}
 use Rattle.paths.specs.declared.Written.the-variants.{Paths, Refused}
 use Rattle.paths.specs.Wrote.{Wrote, wrote, buildPaths64}
@@ -22,8 +17,7 @@ use Rattle.opening.specs.Open.{End, end, openOf}
 use Rattle.finishing.specs.Opened.{OpeningLeft}
 use Rattle.finishing.specs.Finish.{finishRings}
 use Rattle.finishing.specs.InOneCall.{Finished, finished, afterWriting, afterSteps, afterOpening, finishOf}
-use Rattle.finishing.proofs.Starting.{start-rep}
-use Rattle.finishing.proofs.InOneCall.{opening-left}
+use Rattle.finishing.proofs.InOneCall.{done-ready, opening-left}
 use Rattle.listing.specs.Told.{Listable, told, tell}
 use Rattle.listing.specs.Lines.{listingOf, refusedLine}
 use Rattle.listing.specs.declared.Listed.{Listed}
@@ -48,12 +42,9 @@ module _ (c o : ℕ) (w′ t′ t : List ℕ) where
           answer-listable (view w) c o t t′ s (y ∙ sym h)
       go (Refused x) f g = never c o x _ _ _ _ g
 
-  after-steps : (w : List ℕ) → OpeningLeft w → (r : Outcome) → finishRings w ≡ r → finished (Paths c o) w′ t′ ≡ afterSteps r t → Listable c o t′
-  unfolding finishRings
-  after-steps w l (outcome ok w₁) h e =
-      after-writing w₁ (finish-done (geometryOf (view w)) raised (laws (preserveCollinear (view w))) w _ w₁ (start-rep w l) h .rep .sound) (buildPaths64 (view w₁) t) refl e
-  after-steps w l (outcome full w₁) h e = never c o _ _ _ _ _ e
-  after-steps w l (outcome outOfTurn w₁) h e = never c o _ _ _ _ _ e
+  after-steps : (w : List ℕ) → OpeningLeft w → (r : RingsEnd) → finishRings w ≡ r → finished (Paths c o) w′ t′ ≡ afterSteps r t → Listable c o t′
+  after-steps w l (ringsDone w₁) h e = after-writing w₁ (done-ready w w₁ l h .sound) (buildPaths64 (view w₁) t) refl e
+  after-steps w l (ringsFull w₁) h e = never c o _ _ _ _ _ e
 
   -- what finishing leaves in the tray can be listed
   pub finish-listable : (bytes : List ℕ) (n : ℕ) → finished (Paths c o) w′ t′ ≡ finishOf bytes n t → Listable c o t′

@@ -39,6 +39,12 @@ pub enum Answer {
     OutOfTurn,
 }
 
+// How finishing all rings ends: every one is done, or a step was refused with 10.
+pub enum RingsEnd {
+    Done,
+    Full,
+}
+
 pub mod apply;
 pub mod decide;
 pub mod finish;
