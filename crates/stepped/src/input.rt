@@ -13,7 +13,7 @@ fn byte(s: &[u8], at: usize) -> usize {
 }
 
 // A place further on; the input has fewer bytes.
-pub fn further(at: usize, n: usize) -> usize {
+pub(crate) fn further(at: usize, n: usize) -> usize {
     if at < 1048576 {
         if n < 1048576 {
             return at + n;
@@ -23,7 +23,7 @@ pub fn further(at: usize, n: usize) -> usize {
 }
 
 // The number in two bytes at a place, low byte first. Parts are shorter than 65,536 bytes.
-pub fn number_at(s: &[u8], at: usize) -> usize
+pub(crate) fn number_at(s: &[u8], at: usize) -> usize
     ensures { λ r. ⌜ r < 65536 ⌝ }
 {
     let a = byte(s, at);
@@ -37,14 +37,14 @@ pub fn number_at(s: &[u8], at: usize) -> usize
 }
 
 // The bytes from a place on.
-pub fn from(s: &[u8], at: usize) -> &[u8] {
+pub(crate) fn from(s: &[u8], at: usize) -> &[u8] {
     if at <= s.len() {
         return &s[at..];
     }
     s
 }
 
-pub fn signed(n: usize) -> isize {
+pub(crate) fn signed(n: usize) -> isize {
     if n < 65536 {
         return n as isize;
     }

@@ -18,17 +18,17 @@ fn say(text: &[u8]) {
     io::write_all(STDOUT_FILENO, text);
 }
 
-pub fn print(n: usize) {
+pub(crate) fn print(n: usize) {
     io::print_decimal(STDOUT_FILENO, n as u64);
 }
 
-pub fn print_refusal(r: Refusal) {
+pub(crate) fn print_refusal(r: Refusal) {
     say(b"refused ");
     io::print_decimal(STDOUT_FILENO, r.number() as u64);
     say(b"\n");
 }
 
-pub fn print_due(d: Due) {
+pub(crate) fn print_due(d: Due) {
     match d {
         Due::Validity => say(b" validity"),
         Due::Removal => say(b" removal"),
@@ -85,7 +85,7 @@ fn print_to_first(d: Due) {
     }
 }
 
-pub fn print_act(a: Act) {
+pub(crate) fn print_act(a: Act) {
     match a {
         Act::Stay => say(b" stay"),
         Act::Discard => say(b" discard"),
@@ -185,7 +185,7 @@ fn print_records(w: &[u32], n: usize)
 }
 
 // Both counts and each record's ring.
-pub fn print_store(w: &[u32])
+pub(crate) fn print_store(w: &[u32])
     requires { ⌜ LENGTH ≤ length (now w) ⌝ }
 {
     say(b"points ");

@@ -12,7 +12,7 @@ ghost use lib.ListN.{length};
 ghost use Rattle.store.specs.Field.{LENGTH};
 
 // The step due; done for an open ring and for none.
-pub fn due_of(w: &[u32], i: usize) -> Due
+pub(crate) fn due_of(w: &[u32], i: usize) -> Due
     requires { ⌜ LENGTH ≤ length (now w) ⌝ }
 {
     if 512 <= i {
@@ -29,7 +29,7 @@ pub fn due_of(w: &[u32], i: usize) -> Due
     due_at(w, i)
 }
 
-pub fn is_done(d: Due) -> bool {
+pub(crate) fn is_done(d: Due) -> bool {
     match d {
         Due::Validity => false,
         Due::Removal => false,
@@ -70,7 +70,7 @@ fn set_one(w: &mut [u32; 13840], s: &[u8], at: usize) {
 }
 
 // The progress of some records.
-pub fn set_all(w: &mut [u32; 13840], s: &[u8]) {
+pub(crate) fn set_all(w: &mut [u32; 13840], s: &[u8]) {
     let mut at: usize = 0;
     let mut left: u32 = 100000;
     while 0 < left {
