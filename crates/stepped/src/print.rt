@@ -1,6 +1,7 @@
 // What is printed: steps due and acts by the oracle's words, rings by value from the first point.
 use crate::progress::due_of;
 use geometry::Point;
+use job::Job;
 use job::refusal::Refusal;
 use libc::STDOUT_FILENO;
 use store::Col;
@@ -12,7 +13,7 @@ ghost use Prim.Native.Nat.{_≤_};
 ghost use lib.ListN.{length};
 ghost use Rattle.store.specs.Field.{LENGTH};
 
-const RAISE: usize = 1048576;
+const RAISE: usize = Job::COORDINATE as usize;
 
 fn say(text: &[u8]) {
     io::write_all(STDOUT_FILENO, text);
@@ -125,7 +126,7 @@ fn count(w: &[u32], a: usize) -> usize
 {
     let mut p = a;
     let mut n: usize = 0;
-    while n < 2048 {
+    while n < Job::POINTS {
         p = read(w, Col::Next, p);
         n += 1;
         if p == a {
