@@ -2,3 +2,5 @@
 pub mod Placing
 pub mod Going
 pub mod Counted
+pub mod Bits
+pub mod Ignoring
