@@ -47,34 +47,34 @@ sizeOf kind.Segment = 2
 sizeOf kind.Join = 4
 
 -- where in a value its numbers stand: a point's, a record's, a join's. Each kind's first number stands at 0
-abbrev pub Y_AT : ℕ
-Y_AT = 4
+abbrev pub Y-AT : ℕ
+Y-AT = 4
 
-abbrev pub NEXT_AT : ℕ
-NEXT_AT = 8
+abbrev pub NEXT-AT : ℕ
+NEXT-AT = 8
 
-abbrev pub PREV_AT : ℕ
-PREV_AT = 10
+abbrev pub PREV-AT : ℕ
+PREV-AT = 10
 
-abbrev pub RECORD_AT : ℕ
-RECORD_AT = 12
+abbrev pub RECORD-AT : ℕ
+RECORD-AT = 12
 
-abbrev pub OWNER_AT : ℕ
-OWNER_AT = 1
+abbrev pub OWNER-AT : ℕ
+OWNER-AT = 1
 
-abbrev pub FIRST_AT : ℕ
-FIRST_AT = 3
+abbrev pub FIRST-AT : ℕ
+FIRST-AT = 3
 
-abbrev pub SECOND_AT : ℕ
-SECOND_AT = 2
+abbrev pub SECOND-AT : ℕ
+SECOND-AT = 2
 
 -- the numbers of each kind's value; a coordinate as its word
 abbrev pub fieldIn : Kind → List ℕ → Field
 fieldIn kind.Settings v = Settings (le 1 0 v)
-fieldIn kind.Point v = Point (wordAt 0 v) (wordAt Y_AT v) (le 2 NEXT_AT v) (le 2 PREV_AT v) (le 2 RECORD_AT v)
-fieldIn kind.Record v = Record (le 1 0 v) (le 2 OWNER_AT v) (le 2 FIRST_AT v)
+fieldIn kind.Point v = Point (wordAt 0 v) (wordAt Y-AT v) (le 2 NEXT-AT v) (le 2 PREV-AT v) (le 2 RECORD-AT v)
+fieldIn kind.Record v = Record (le 1 0 v) (le 2 OWNER-AT v) (le 2 FIRST-AT v)
 fieldIn kind.Segment v = Segment (le 2 0 v)
-fieldIn kind.Join v = Join (le 2 0 v) (le 2 SECOND_AT v)
+fieldIn kind.Join v = Join (le 2 0 v) (le 2 SECOND-AT v)
 
 -- row 1: "under 3 bytes remain for a field"
 abbrev pub tornHeader : List ℕ → Bool

@@ -4,3 +4,4 @@ pub mod Going
 pub mod Counted
 pub mod Bits
 pub mod Ignoring
+pub mod Standing
