@@ -12,14 +12,6 @@ pub fn word(refused: Refused) -> Option<(&'static str, &'static str)> {
     })
 }
 
-/// A refusal as a line says it: number, word and meaning.
-pub fn say(refused: Refused) -> String {
-    match word(refused) {
-        Some((word, meaning)) => format!("refused {}, {word}: {meaning}", refused.0),
-        None => format!("refused {}", refused.0),
-    }
-}
-
 #[test]
 fn every_refusal_has_its_word() {
     assert!((1..=12).all(|number| word(Refused(number)).is_some()));

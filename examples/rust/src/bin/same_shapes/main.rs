@@ -56,6 +56,14 @@ fn asked() -> Asked {
     }
 }
 
+/// A refusal as a line says it: number, word and meaning.
+fn said(refused: Refused) -> String {
+    match refusals::word(refused) {
+        Some((word, meaning)) => format!("refused {}, {word}: {meaning}", refused.0),
+        None => format!("refused {}", refused.0),
+    }
+}
+
 fn count(number: usize, thing: &str) -> String {
     format!("{number} {thing}{}", if number == 1 { "" } else { "s" })
 }
@@ -77,8 +85,8 @@ fn verdict(runs: &[Run]) -> (String, i32) {
             None => ("the same: every ring and every offcut has the same points in all three orders".to_string(), 0),
             Some(difference) => (format!("NOT the same: {difference}"), 1),
         },
-        [first, ..] if refused.len() == runs.len() => (format!("no order ends: {}", refusals::say(first)), 1),
-        [first, ..] => (format!("NOT the same: one order ends, another is {}", refusals::say(first)), 1),
+        [first, ..] if refused.len() == runs.len() => (format!("no order ends: {}", said(first)), 1),
+        [first, ..] => (format!("NOT the same: one order ends, another is {}", said(first)), 1),
     }
 }
 
@@ -87,17 +95,18 @@ fn main() {
     let job = std::fs::read(&asked.job).unwrap_or_else(|why| fail(&format!("cannot read {}: {why}", asked.job), 2));
     let mut work = vec![0; WORK_WORDS];
     if let Err(refused) = open(&job, &mut work) {
-        fail(&refusals::say(refused), 1);
+        fail(&said(refused), 1);
     }
     let rings = view::rings(&work).iter().filter(|ring| !ring.points.is_empty()).count();
     println!("opened    {}", count(rings, "ring"));
     let orders = [Order::Rising, Order::Falling, Order::Shuffled(asked.seed)];
     let runs = orders.map(|order| orders::run(&work, order, asked.html.is_some()));
     runs.iter().for_each(report);
-    let (said, status) = verdict(&runs);
-    println!("{said}");
+    let (what, status) = verdict(&runs);
+    println!("{what}");
     if let Some(file) = asked.html {
-        let page = page::page(&asked.job, &view::rings(&work), &runs);
+        let name = std::path::Path::new(&asked.job).file_name().unwrap_or_default().to_string_lossy();
+        let page = page::page(&name, &view::rings(&work), &runs);
         std::fs::write(&file, page).unwrap_or_else(|why| fail(&format!("cannot write {file}: {why}"), 2));
     }
     exit(status)

@@ -53,7 +53,11 @@ pub struct Run {
     pub paths: Result<Vec<Path>, Refused>,
 }
 
-fn step_all(work: &mut [u32], mut order: Order, mut seen: impl FnMut(&[u32], usize, usize)) -> (usize, Option<Refused>) {
+fn step_all(
+    work: &mut [u32],
+    mut order: Order,
+    mut seen: impl FnMut(&[u32], usize, usize),
+) -> (usize, Option<Refused>) {
     let mut left: Vec<usize> = (0..view::records(work)).collect();
     let mut count = 0;
     while !left.is_empty() {
