@@ -1,5 +1,5 @@
 -- What holds of a job that was read, and of one that is accepted: each law goes by the cases of what was left.
-use mathlib.Core.Path.{_≡_, refl}
+use mathlib.Core.Path.{_≡_, refl, sym, subst}
 use mathlib.Core.List.{List, [], _∷_}
 use mathlib.Core.Bool.{_||_}
 use Prim.Native.Nat.{ℕ, _*_, _≤_}
@@ -15,26 +15,28 @@ use Rattle.audit.specs.Tests.{anyBelow, noSuch, noSuchOf}
 use Rattle.reading.specs.declared.fill.Outcome.{Outcome}
 use Rattle.reading.specs.declared.fill.Outcome.the-variants.{State, Refused}
 use Rattle.reading.specs.Fill.{End, end, fillOf, Space}
-use Rattle.reading.specs.Read.{counted, withCounts, readOf, Counts}
+use Rattle.reading.specs.Read.{counted, withCounts, readOf, Counts, Bits}
 use Rattle.reading.proofs.Counted.{filled, counts}
+use Rattle.reading.proofs.Bits.{bits-of}
 use Rattle.audit.specs.declared.Verdict.{Verdict}
 use Rattle.audit.specs.declared.Verdict.the-variants as verdict
 use Rattle.rows.specs.Rows.{unnamed, rowsOf, Filled}
 use Rattle.rows.proofs.Homes.{or-left, or-right}
-use Rattle.rows.proofs.Readiness.{clear, ready}
+use Rattle.rows.proofs.Readiness.{clear, chain-ends, ready}
 use Rattle.accepting.specs.Accept.{answer, judgeOf, judged, acceptOf, Accepted}
 
 -- a job that was read
 pub record Whole (j : Job) (w ss js : List ℕ) : Type 0 where
   pub counts : Counts j w
+  pub bits : Bits w
   pub space : Space w ss js
 
 pub read-whole : (bytes w ss js : List ℕ) → Space w ss js → (j : Job) (v ts ks : List ℕ) → readOf bytes w ss js ≡ end (State j) v ts ks → Whole j v ts ks
 unfolding readOf
-read-whole bytes w ss js s j v ts ks e = by (fillOf bytes w ss js) refl e
+read-whole bytes w ss js s j v ts ks e = by (fillOf bytes w ss js) refl e (bits-of bytes w ss js (s .words) j v ts ks e)
   where
-    by : (T : End) → fillOf bytes w ss js ≡ T → withCounts T ≡ end (State j) v ts ks → Whole j v ts ks
-    by (end (State i) u us ls) f d =
+    by : (T : End) → fillOf bytes w ss js ≡ T → withCounts T ≡ end (State j) v ts ks → Bits v → Whole j v ts ks
+    by (end (State i) u us ls) f d q =
         let g = filled bytes i u us ls w ss js f in
         let a : i ≡ j = cc (d) in
         let b : counted i u ≡ v = cc (d) in
@@ -45,9 +47,10 @@ read-whole bytes w ss js s j v ts ks e = by (fillOf bytes w ss js) refl e
         rw (← a, ← b, ← c, ← k)
         (record {
           counts = counts u i n (g .within);
+          bits = subst Bits (sym b) q;
           space = record { words = omega (arith, l, n); segments = omega (arith, s .segments, g .segments); joins = omega (arith, s .joins, g .joins) };
         })
-    by (end (Refused x) u us ls) f d = absurd (let z : _≡_ {A = ℕ} 0 1 = cc in omega arith)
+    by (end (Refused x) u us ls) f d q = absurd (let z : _≡_ {A = ℕ} 0 1 = cc in omega arith)
 
 pub filled-of : (j : Job) (w ss js : List ℕ) → Whole j w ss js → Filled w ss (j .segments) js (j .joins)
 filled-of j w ss js g =
@@ -88,6 +91,9 @@ accepted bytes w ss js s j v ts ks e = by (readOf bytes w ss js) refl e
         let y = or-right (anyBelow (recordsOf u) (noSuchOf u)) (unnamed u us (i .segments) || unnamed u ls (2 * i .joins)) x in
         record {
           counts = g .counts;
+          bits = g .bits;
+          clear = c;
+          chains = chain-ends c;
           ready = ready f c;
           segments = or-left (unnamed u us (i .segments)) (unnamed u ls (2 * i .joins)) y;
           joins = or-right (unnamed u us (i .segments)) (unnamed u ls (2 * i .joins)) y;

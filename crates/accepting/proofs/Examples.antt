@@ -1,8 +1,9 @@
 -- Worked jobs, as rows of one table with a common statement: the number of the refusal, or 0, computed.
 use mathlib.Core.Path.{_≡_, refl}
 use mathlib.Core.List.{List, [], _∷_, _++_, map}
-use Prim.Native.Nat.{ℕ}
+use Prim.Native.Nat.{ℕ, _*_}
 use lib.ListN.{replicate}
+use Rattle.job.specs.Limits.{SEGMENTS, JOINS}
 use Rattle.job.specs.Field.{bodyOf, fieldOf}
 use Rattle.job.specs.Refusal.{numberOf}
 use Rattle.store.specs.Field.{LENGTH}
@@ -86,6 +87,6 @@ rows =
     ∷ row (settings ++ at 7 0 0 1 ++ record-at 0 0 ++ owned 1 ++ segment) 0
     ∷ []
 
-pub holds : map (λ (r : Row). said (acceptOf (r .job) (replicate LENGTH 0) (replicate 256 0) (replicate 512 0))) rows ≡ map (λ (r : Row). r .says) rows
+pub holds : map (λ (r : Row). said (acceptOf (r .job) (replicate LENGTH 0) (replicate SEGMENTS 0) (replicate (2 * JOINS) 0))) rows ≡ map (λ (r : Row). r .says) rows
 unfolding acceptOf readOf fillOf run turnOf fieldOf bodyOf rowsOf endsIn findIn anyIn walk.run anyBelow cell put
 holds = refl

@@ -16,3 +16,4 @@ pub mod Opening
 pub mod Finishing
 pub mod Finished
 pub mod Example
+pub mod Beyond

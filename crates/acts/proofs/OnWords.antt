@@ -14,7 +14,7 @@ use Rattle.lone.specs.Ring.{Act, stay, discard, dropPoint, moveOn, toFirst, dou
 use Rattle.store.proofs.Storing.{view-writes, length-writes}
 use Rattle.store.specs.Field.{pt, rc, NEXT, PREV, PRESENT, LENGTH}
 use Rattle.store.specs.Sound.{pts, recs, Closed, Sound}
-use Rattle.store.specs.Words.{Store, view, onWords, onStore, Within}
+use Rattle.store.specs.Words.{Store, Write, view, onWords, onStore, Within}
 use Rattle.acts.proofs.Acting.{Ready, to-discard, to-move, to-go-first, to-drop, to-double, to-cut}
 use Rattle.acts.proofs.Cutting.{Four, four}
 use Rattle.acts.proofs.Positions.{Loop}
@@ -65,43 +65,59 @@ module _ {P : Type 0} (f : Coding P) where
   within-offcut : (s : Store) (i x y vx vy : ℕ) → x < 2048 → y < 2048 → pts s < 2048 → recs s < 512 → Within (offcutWrites s i x y vx vy)
   within-offcut s i x y vx vy hx hy k r = (omega arith, (hx, (hy, (omega arith, (k, (k, (k, (k, (k, (hy, (hx, (r, (r, (r, (r, (r, (r, (r, tt))))))))))))))))))
 
+  -- what an act writes is within the columns
+  abbrev pub Inside : List ℕ → ℕ → Act P → Type 0
+  Inside w i stay = Unit {0}
+  Inside w i discard = Within (discardWrites i)
+  Inside w i dropPoint = Within (dropWrites (view w) i)
+  Inside w i (moveOn d) = Within (moveWrites (view w) i d)
+  Inside w i (toFirst d) = Within (toFirstWrites (view w) i d)
+  Inside w i (double v d) = Within (doubleWrites (view w) i (f .xw v) (f .yw v) d)
+  Inside w i (cut v put off d) = Within (ringWrites f (view w) i v put d) × Within (offWrites f (view w) (view (onWords w (ringWrites f (view w) i v put d))) i v off)
+
+  -- so the words show the store
+  view-inside : (w : List ℕ) (i : ℕ) → LENGTH ≤ length w → (act : Act P) → Inside w i act → view (afterW f w i act) ≡ after f (view w) i act
+  view-inside w i l stay h = refl
+  view-inside w i l discard h = view-writes w (discardWrites i) l h
+  view-inside w i l dropPoint h = view-writes w (dropWrites (view w) i) l h
+  view-inside w i l (moveOn d) h = view-writes w (moveWrites (view w) i d) l h
+  view-inside w i l (toFirst d) h = view-writes w (toFirstWrites (view w) i d) l h
+  view-inside w i l (double v d) h = view-writes w (doubleWrites (view w) i (f .xw v) (f .yw v) d) l h
+  view-inside w i l (cut v put off d) h =
+      let r : List Write = ringWrites f (view w) i v put d in
+      view-writes (onWords w r) (offWrites f (view w) (view (onWords w r)) i v off) (omega (arith, length-writes w r)) (h .1)
+      ∙ ap (λ (s : Store). onStore s (offWrites f (view w) s i v off)) (view-writes w r l (h .0))
+
   module _ (w : List ℕ) (long : LENGTH ≤ length w) (o : Sound (view w)) (i : ℕ) (c : Closed (view w) i) where
+    k : i < 512
+    k = omega (arith, c .known, o .few-records)
+
     -- the ring's own part, and then the offcut
-    pub cut-view : (v : P) (put off : Bool) (d : Due) (a : About (view w) o i c) → view w (pt NEXT) (view w (pt NEXT) (view w (rc PRESENT) i)) < 2048
-        → pts (view w) + takesPoints (cut v put off d) ≤ 2048 → recs (view w) + takesRecord (cut v put off d) ≤ 512
-        → view (afterW f w i (cut v put off d)) ≡ after f (view w) i (cut v put off d)
-    cut-view v put off d a z h m = go put off h m
+    cut-inside : (v : P) (put off : Bool) (d : Due) (a : About (view w) o i c) → view w (pt NEXT) (view w (pt NEXT) (view w (rc PRESENT) i)) < 2048
+        → pts (view w) + takesPoints (cut v put off d) ≤ 2048 → recs (view w) + takesRecord (cut v put off d) ≤ 512 → Inside w i (cut v put off d)
+    cut-inside v put off d a z h m = go put off h m
       where
-        ring : (put : Bool) → pts (view w) + takesPoints (cut v put false d) ≤ 2048 → view (onWords w (ringWrites f (view w) i v put d)) ≡ onStore (view w) (ringWrites f (view w) i v put d)
-        ring put h = view-writes w (ringWrites f (view w) i v put d) long (within-ring (view w) o i c a z v put d h)
+        ring : (put : Bool) → pts (view w) + takesPoints (cut v put false d) ≤ 2048 → Within (ringWrites f (view w) i v put d)
+        ring put h = within-ring (view w) o i c a z v put d h
 
-        off-view : (put : Bool) (w₁ : List ℕ) (s₁ : Store) → view w₁ ≡ s₁ → length w₁ ≡ length w → pts s₁ < 2048 → recs s₁ < 512
-            → view (onWords w₁ (offWrites f (view w) (view w₁) i v true)) ≡ onStore s₁ (offWrites f (view w) s₁ i v true)
-        off-view put w₁ s₁ e l k r =
-            view-writes w₁ (offWrites f (view w) (view w₁) i v true) (omega arith) (within-offcut (view w₁) i (view w (rc PRESENT) i) (view w (pt NEXT) (view w (rc PRESENT) i)) (f .xw v) (f .yw v) (a .x-in) (a .n-in) (subst (λ (s : Store). pts s < 2048) (sym e) k) (subst (λ (s : Store). recs s < 512) (sym e) r))
-            ∙ ap (λ (s : Store). onStore s (offWrites f (view w) s i v true)) e
+        offcut : (w₁ : List ℕ) (s₁ : Store) → view w₁ ≡ s₁ → pts s₁ < 2048 → recs s₁ < 512 → Within (offWrites f (view w) (view w₁) i v true)
+        offcut w₁ s₁ e n r = within-offcut (view w₁) i (view w (rc PRESENT) i) (view w (pt NEXT) (view w (rc PRESENT) i)) (f .xw v) (f .yw v) (a .x-in) (a .n-in) (subst (λ (s : Store). pts s < 2048) (sym e) n) (subst (λ (s : Store). recs s < 512) (sym e) r)
 
-        go : (put off : Bool) → pts (view w) + takesPoints (cut v put off d) ≤ 2048 → recs (view w) + takesRecord (cut v put off d) ≤ 512 → view (afterW f w i (cut v put off d)) ≡ after f (view w) i (cut v put off d)
-        go put false h m = ring put h
-        go true true h m = off-view true (onWords w (ringWrites f (view w) i v true d)) (onStore (view w) (ringWrites f (view w) i v true d)) (ring true (omega arith)) (length-writes w (ringWrites f (view w) i v true d)) (omega arith) (omega arith)
-        go false true h m = off-view false (onWords w (ringWrites f (view w) i v false d)) (onStore (view w) (ringWrites f (view w) i v false d)) (ring false (omega arith)) (length-writes w (ringWrites f (view w) i v false d)) (omega arith) (omega arith)
+        go : (put off : Bool) → pts (view w) + takesPoints (cut v put off d) ≤ 2048 → recs (view w) + takesRecord (cut v put off d) ≤ 512 → Inside w i (cut v put off d)
+        go put false h m = (ring put h, tt)
+        go true true h m = (ring true (omega arith), offcut (onWords w (ringWrites f (view w) i v true d)) (onStore (view w) (ringWrites f (view w) i v true d)) (view-writes w (ringWrites f (view w) i v true d) long (ring true (omega arith))) (omega arith) (omega arith))
+        go false true h m = (ring false (omega arith), offcut (onWords w (ringWrites f (view w) i v false d)) (onStore (view w) (ringWrites f (view w) i v false d)) (view-writes w (ringWrites f (view w) i v false d) long (ring false (omega arith))) (omega arith) (omega arith))
+
+    pub inside : (act : Act P) → Ready f (view w) i act → pts (view w) + takesPoints act ≤ 2048 → recs (view w) + takesRecord act ≤ 512 → Inside w i act
+    inside act to-discard h m = (k, (k, tt))
+    inside act (to-move d₀ d e g) h m = (k, (k, tt))
+    inside act (to-go-first d₀ d e g) h m = (k, (k, (k, tt)))
+    inside act (to-drop e b z u r g) h m = within-drop (view w) o i c (about (view w) o i c _ b z (u ∷ r) g)
+    inside act (to-double d₀ d b y r e v n) h m = within-double (view w) o i c (about (view w) o i c d₀ b y r e) (omega arith) (f .xw v) (f .yw v) d
+    inside act (to-cut d₀ d b y z u r e v n put off) h m = cut-inside v put off d (about (view w) o i c d₀ b y (z ∷ u ∷ r) e) (second (view w) o i c y z u r (four (view w) i d₀ b y z u r e)) h m
 
     pub after-view : (act : Act P) → Ready f (view w) i act → pts (view w) + takesPoints act ≤ 2048 → recs (view w) + takesRecord act ≤ 512 → view (afterW f w i act) ≡ after f (view w) i act
-    after-view act to-discard h m = view-writes w (discardWrites i) long (k, (k, tt))
-      where
-        k : i < 512
-        k = omega (arith, c .known, o .few-records)
-    after-view act (to-move d₀ d e g) h m = view-writes w (moveWrites (view w) i d) long (k, (k, tt))
-      where
-        k : i < 512
-        k = omega (arith, c .known, o .few-records)
-    after-view act (to-go-first d₀ d e g) h m = view-writes w (toFirstWrites (view w) i d) long (k, (k, (k, tt)))
-      where
-        k : i < 512
-        k = omega (arith, c .known, o .few-records)
-    after-view act (to-drop e b z u r g) h m = view-writes w (dropWrites (view w) i) long (within-drop (view w) o i c (about (view w) o i c _ b z (u ∷ r) g))
-    after-view act (to-double d₀ d b y r e v n) h m = view-writes w (doubleWrites (view w) i (f .xw v) (f .yw v) d) long (within-double (view w) o i c (about (view w) o i c d₀ b y r e) (omega arith) (f .xw v) (f .yw v) d)
-    after-view act (to-cut d₀ d b y z u r e v n put off) h m = cut-view v put off d (about (view w) o i c d₀ b y (z ∷ u ∷ r) e) (second (view w) o i c y z u r (four (view w) i d₀ b y z u r e)) h m
+    after-view act r h m = view-inside w i long act (inside act r h m)
 
   pub length-after : (w : List ℕ) (i : ℕ) (act : Act P) → length (afterW f w i act) ≡ length w
   length-after w i stay = refl

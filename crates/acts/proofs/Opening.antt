@@ -1,6 +1,6 @@
 -- The start: a sound store as opening leaves it is in step with the forest that opening makes of it; so the words stay in step under every list of
 -- steps, and each lone ring is where it would be alone.
-use Prim.Native.Nat.{ℕ, zero, suc, _+_, _≤_, _<_}
+use Prim.Native.Nat.{ℕ, zero, suc, _+_, _<_}
 use mathlib.Core.Path.{_≡_, refl, ap, _∙_, sym, subst}
 use mathlib.Core.Bool.{Bool, true, false, cond}
 use mathlib.Core.List.{List, map}
@@ -10,20 +10,13 @@ use native.Mathlib.Omega.{arith}
 use lib.ListN.{length, getD, length-map, List·getD-map}
 use Rattle.rings.specs.Progress.{atStart, mapRing}
 use Rattle.rings.specs.Walk.{walk}
-use Rattle.lone.proofs.Alone.{independent}
-use Rattle.lone.specs.Forest.{initial, leftRingless, leftOpen, leftClosed, enter, opening, at, runForest, accepted}
-use Rattle.lone.specs.Lone.{Geo}
-use Rattle.lone.specs.Order.{Independent, machine}
+use Rattle.lone.specs.Forest.{initial, leftRingless, leftOpen, leftClosed, enter, opening, at}
 use Rattle.store.proofs.Soundness.{from-first}
-use Rattle.store.specs.Field.{pt, rc, NEXT, FIRST, LENGTH}
+use Rattle.store.specs.Field.{pt, rc, NEXT, FIRST}
 use Rattle.store.specs.Sound.{pts, recs, ringless, ringAt, isOpen, Sound, loneAt}
-use Rattle.store.specs.Words.{Store, view}
-use Rattle.acts.proofs.Stepping.{runW-is}
-use Rattle.acts.specs.Apply.{Coding}
-use Rattle.acts.specs.Laws.{Laws}
+use Rattle.store.specs.Words.{Store}
 use Rattle.acts.specs.Opened.{table, Fresh, openedAt, records}
-use Rattle.acts.specs.Rep.{value, Shows, as-ringless, as-open, as-closed, Rep, RepW}
-use Rattle.acts.specs.Step.{runW}
+use Rattle.acts.specs.Rep.{value, Shows, as-ringless, as-open, as-closed, Rep}
 
 pub length-table : {A : Type 0} (g : ℕ → A) (k n : ℕ) → length (table g k n) ≡ n
 length-table g k zero = refl
@@ -58,16 +51,3 @@ module _ {P : Type 0} (of : ℕ → ℕ → P) (s : Store) where
     where
       here : (i : ℕ) → i < recs s → at (map enter (records of s)) i ≡ enter (openedAt of s i)
       here i l = List·getD-map enter (records of s) i leftRingless ∙ ap enter (at-table (openedAt of s) leftRingless 0 (recs s) i l ∙ ap (openedAt of s) (zero-add i))
-
--- after opening: words and forest in step, and every lone ring where it would be alone
-pub record Whole-run {P : Type 0} (G : Geo P) (f : Coding P) (w : List ℕ) (is : List ℕ) : Type 0 where
-  pub in-step : RepW f (runW G f w is) (runForest (machine G) 2048 512 (opening (records (f .of) (view w)) (pts (view w))) is)
-  pub alone : Independent (machine G) 2048 512 (records (f .of) (view w)) (pts (view w)) (runForest (machine G) 2048 512 (opening (records (f .of) (view w)) (pts (view w))) is)
-      (accepted (machine G) 2048 512 (opening (records (f .of) (view w)) (pts (view w))) is)
-
-pub run-whole : {P : Type 0} (G : Geo P) (f : Coding P) → Laws G f → (w : List ℕ) → LENGTH ≤ length w → Sound (view w) → ((i : ℕ) → i < recs (view w) → Fresh (view w) i) → (is : List ℕ) → Whole-run G f w is
-run-whole G f Λ w l o h is =
-    record {
-      in-step = runW-is G f Λ w (opening (records (f .of) (view w)) (pts (view w))) (record { long = l; rep = opening-rep (f .of) (view w) o h }) is;
-      alone = independent (machine G) 2048 512 (records (f .of) (view w)) (pts (view w)) is;
-    }

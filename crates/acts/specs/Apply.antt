@@ -1,8 +1,9 @@
 -- The store and the words after an act: its writes, one after another. And the places that it takes.
-use Prim.Native.Nat.{ℕ, _≤_}
+use Prim.Native.Nat.{ℕ, _*_, _≤_}
 use mathlib.Core.Path.{_≡_}
 use mathlib.Core.Bool.{Bool, true, false}
 use mathlib.Core.List.{List, []}
+use Rattle.job.specs.Limits as limit
 use Rattle.rings.specs.Progress.{Due}
 use Rattle.lone.specs.Ring.{Act, stay, discard, dropPoint, moveOn, toFirst, double, cut}
 use Rattle.store.specs.Field.{pt, rc, NEXT, PRESENT}
@@ -17,8 +18,8 @@ pub record Coding (P : Type 0) : Type 0 where
 
 -- a value that two words in range hold
 pub record Codes {P : Type 0} (f : Coding P) (v : P) : Type 0 where
-  pub x-in : f .xw v ≤ 2097152
-  pub y-in : f .yw v ≤ 2097152
+  pub x-in : f .xw v ≤ 2 * limit.COORDINATE
+  pub y-in : f .yw v ≤ 2 * limit.COORDINATE
   pub again : f .of (f .xw v) (f .yw v) ≡ v
 
 module _ {P : Type 0} where

@@ -2,11 +2,12 @@
 -- The forest's finishing (crate lone) goes the same way.
 use Prim.Native.Nat.{ℕ, zero, suc, _-_}
 use mathlib.Core.List.{List}
+use Rattle.job.specs.Limits.{POINTS, RECORDS}
 use Rattle.rings.specs.Progress.{Ring, mapRing}
 use Rattle.lone.specs.Lone.{Geo}
 use Rattle.lone.specs.Forest.{Answer, ok, full, outOfTurn, Forest}
 use Rattle.lone.specs.Measure.{measure}
-use Rattle.lone.proofs.FinishingRings.{HeldIn}
+use Rattle.lone.specs.Kept.{HeldIn}
 use Rattle.lone.specs.Finish.{enough}
 use Rattle.store.specs.Words.{view}
 use Rattle.store.specs.Sound.{pts, loneAt}
@@ -14,10 +15,15 @@ use Rattle.acts.specs.Apply.{Coding}
 use Rattle.acts.specs.Rep.{RepW, value}
 use Rattle.acts.specs.Step.{Outcome, outcome, answerS, stepW}
 
--- the rest is done unless it was full
-abbrev pub andThen : Outcome → (List ℕ → Outcome) → Outcome
+-- how finishing the rings ends, and the words left: all are done, or a step was refused as full
+pub data RingsEnd : Type 0 where
+  ringsDone : List ℕ → RingsEnd
+  ringsFull : List ℕ → RingsEnd
+
+-- the rest is done unless a step was full
+abbrev pub andThen : Outcome → (List ℕ → RingsEnd) → RingsEnd
 andThen (outcome ok w) k = k w
-andThen (outcome full w) k = outcome full w
+andThen (outcome full w) k = ringsFull w
 andThen (outcome outOfTurn w) k = k w
 
 module _ {P : Type 0} (G : Geo P) (f : Coding P) where
@@ -30,23 +36,23 @@ module _ {P : Type 0} (G : Geo P) (f : Coding P) where
 
   -- record i stepped until it is done (refused as out of turn), or until a step is full
   unfoldable pub finishRecord : List ℕ → ℕ → Outcome
-  finishRecord w i = stepsByW (enough 2048) (answerS G f (view w) i) w i
+  finishRecord w i = stepsByW (enough POINTS) (answerS G f (view w) i) w i
 
   -- the same on m records from number i on; on a number that is no record's the first step is refused
-  abbrev pub finishFromW : ℕ → List ℕ → ℕ → Outcome
-  finishFromW zero w i = outcome ok w
+  abbrev pub finishFromW : ℕ → List ℕ → ℕ → RingsEnd
+  finishFromW zero w i = ringsDone w
   finishFromW (suc m) w i = andThen (finishRecord w i) (λ (w′ : List ℕ). finishFromW m w′ (suc i))
 
   -- all records
-  unfoldable pub finishW : List ℕ → Outcome
-  finishW w = finishFromW 512 w 0
+  unfoldable pub finishW : List ℕ → RingsEnd
+  finishW w = finishFromW RECORDS w 0
 
   -- words that may be finished: in step with a forest whose rings are as steps leave them
   pub record Finishes (w : List ℕ) : Type 0 where
     pub forest : Forest (Ring P) (List P)
     pub rep : RepW f w forest
-    pub held : HeldIn G 2048 512 forest
+    pub held : HeldIn POINTS forest
 
   -- "a measure of free places, ring size and walk left", of record i
   unfoldable pub wordsLeft : List ℕ → ℕ → ℕ
-  wordsLeft w i = measure 2048 (2048 - pts (view w)) (mapRing (value (f .of) (view w)) (loneAt (view w) i))
+  wordsLeft w i = measure POINTS (POINTS - pts (view w)) (mapRing (value (f .of) (view w)) (loneAt (view w) i))

@@ -3,6 +3,7 @@ use Prim.Native.Nat.{ℕ, _+_}
 use mathlib.Core.Bool.{Bool, cond, not, _&&_}
 use mathlib.Core.List.{List, [], _∷_}
 use lib.Dec.{leb, ltb}
+use Rattle.job.specs.Limits as limit
 use Rattle.rings.specs.Progress.{isDone, mapRing}
 use Rattle.lone.specs.Ring.{Act, takesPoints}
 use Rattle.lone.specs.Lone.{Geo, actOf}
@@ -21,9 +22,9 @@ pub data Outcome : Type 0 where
   outcome : Answer → List ℕ → Outcome
 
 module _ {P : Type 0} where
-  -- the test of places left: points 2,048, records 512
+  -- the test of places left
   abbrev pub fits : Store → Act P → Bool
-  fits s act = leb (pts s + takesPoints act) 2048 && leb (recs s + takesRecord act) 512
+  fits s act = leb (pts s + takesPoints act) limit.POINTS && leb (recs s + takesRecord act) limit.RECORDS
 
   abbrev pub roomFor : Store → Act P → Answer
   roomFor s act = cond (fits s act) ok full

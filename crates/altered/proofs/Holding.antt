@@ -28,7 +28,8 @@ use Rattle.store.specs.Words.{Store}
 use Rattle.acts.proofs.Opening.{length-table, at-table}
 use Rattle.acts.proofs.Representing.{Makes, Stepped, map-agree, on-ring, lone-kept}
 use Rattle.acts.specs.Rep.{numberOf, value}
-use Rattle.altered.specs.InStep.{Holds, no-ring, an-open, a-closed, InStep, named, entryOf, forestOf}
+use Rattle.order.specs.Demand3.{named}
+use Rattle.altered.specs.InStep.{Holds, no-ring, an-open, a-closed, InStep, entryOf, forestOf}
 
 -- ---- every sound store has its forest
 

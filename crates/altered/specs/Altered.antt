@@ -4,6 +4,7 @@ use mathlib.Core.Path.{_≡_}
 use mathlib.Core.List.{List}
 use Rattle.rings.specs.Progress.{Ring}
 use Rattle.geometry.specs.declared.Point.{Point}
+use Rattle.job.specs.Limits as limit
 use Rattle.lone.specs.Forest.{Machine, Forest, answer, stepForest, runForest}
 use Rattle.lone.specs.Plane.{loneRing}
 use Rattle.store.specs.Words.{view}
@@ -24,14 +25,14 @@ ringsOf w = loneRing (preserveCollinear (view w))
 -- the step on record number i
 pub record StepIs (w : List ℕ) (F : Forest (Ring Point) (List Point)) (i : ℕ) : Type 0 where
   -- 12, 10 or carried out, as the forest says
-  pub answers : stepOf w i .answer ≡ steppedAs (answer (ringsOf w) 2048 512 F i)
+  pub answers : stepOf w i .answer ≡ steppedAs (answer (ringsOf w) limit.POINTS limit.RECORDS F i)
   -- and the words hold the forest after its step, unless the ring's start was the number of the point that this step puts in
-  pub stays : Elsewhere (geometryOf (view w)) raised (view w) i → HoldsForest (stepOf w i .words) (stepForest (ringsOf w) 2048 512 F i)
+  pub stays : Elsewhere (geometryOf (view w)) raised (view w) i → HoldsForest (stepOf w i .words) (stepForest (ringsOf w) limit.POINTS limit.RECORDS F i)
 
 -- a work space after a list of steps, and its forest
 pub record After (w : List ℕ) (F : Forest (Ring Point) (List Point)) (is : List ℕ) : Type 0 where
-  pub holds : HoldsForest (runOf w is) (runForest (ringsOf w) 2048 512 F is)
-  pub answers : (i : ℕ) → stepOf (runOf w is) i .answer ≡ steppedAs (answer (ringsOf w) 2048 512 (runForest (ringsOf w) 2048 512 F is) i)
+  pub holds : HoldsForest (runOf w is) (runForest (ringsOf w) limit.POINTS limit.RECORDS F is)
+  pub answers : (i : ℕ) → stepOf (runOf w is) i .answer ≡ steppedAs (answer (ringsOf w) limit.POINTS limit.RECORDS (runForest (ringsOf w) limit.POINTS limit.RECORDS F is) i)
 
 -- of a work space that passes the tests
 pub record Altered (w : List ℕ) : Type 0 where

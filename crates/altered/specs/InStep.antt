@@ -5,25 +5,22 @@ use mathlib.Core.Path.{_≡_}
 use mathlib.Core.Logic.{_≢_, _⊎_}
 use mathlib.Core.Bool.{true, false, cond}
 use mathlib.Core.List.{List, map}
-use mathlib.Core.Option.{Option, none, some}
-use lib.Dec.{eqb}
+use mathlib.Core.Option.{Option, some}
 use lib.ListN.{length}
+use Rattle.job.specs.Limits as limit
 use Rattle.rings.specs.Progress.{Ring, mapRing}
 use Rattle.lone.specs.Forest.{State, initial, Entry, openRing, closedRing, Forest, at, ok}
 use Rattle.lone.specs.Forest as forest
 use Rattle.lone.specs.Lone.{Geo}
 use Rattle.lone.specs.Ring.{ringsNew}
-use Rattle.store.specs.Field.{rc, START, CUT, NONE}
+use Rattle.store.specs.Field.{rc, START, CUT}
 use Rattle.store.specs.Words.{Store}
 use Rattle.store.specs.Sound.{pts, recs, ringless, ringAt, isOpen, Sound, loneAt}
 use Rattle.acts.specs.Apply.{Coding}
 use Rattle.acts.specs.Opened.{table}
 use Rattle.acts.specs.Rep.{numberOf, value}
 use Rattle.acts.specs.Step.{actAt, answerS}
-
--- the record that a word names
-abbrev pub named : ℕ → Option ℕ
-named n = cond (eqb n NONE) none (some n)
+use Rattle.order.specs.Demand3.{named}
 
 module _ {P : Type 0} (of : ℕ → ℕ → P) where
   -- record i of the store is this record of the forest
@@ -52,4 +49,4 @@ module _ {P : Type 0} (G : Geo P) (f : Coding P) (s : Store) where
 
 -- each start is a point in use, or a number that no point will ever have, as 65,535
 abbrev pub Settled : Store → Type 0
-Settled s = (i : ℕ) → i < recs s → (s (rc START) i < pts s) ⊎ (2048 ≤ s (rc START) i)
+Settled s = (i : ℕ) → i < recs s → (s (rc START) i < pts s) ⊎ (limit.POINTS ≤ s (rc START) i)

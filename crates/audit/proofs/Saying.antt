@@ -16,7 +16,7 @@ use Rattle.store.specs.Words.{view}
 use Rattle.store.specs.Named.{pointsOf, recordsOf, nextOf, prevOf, recOf, ownerOf, firstOf, progressOf, presentOf}
 use Rattle.store.specs.Sound.{ringless, ringAt, isOpen}
 use Rattle.audit.specs.declared.Verdict.the-variants.{Passed, Refused}
-use Rattle.audit.specs.Tests.{isIn, anyBelow, anyReached, anyRecord, reachedBy, crowded, offTable, noSuch, noSuchOf, namesNone, loose, shared, misplaced, testsOf}
+use Rattle.audit.specs.Tests.{isIn, anyBelow, anyReached, anyRecord, reachedBy, crowded, offTable, noSuch, noSuchOf, namesNothing, loose, shared, misplaced, testsOf}
 use Rattle.audit.proofs.Reaching.{in-true, in-false, true-in, false-in}
 
 clash : {A : Type 0} → _≡_ {A = Bool} true false → A
@@ -115,14 +115,14 @@ module _ (w : List ℕ) (k : ℕ) where
   pub tied-not : nextOf w (prevOf w k) ≡ k → prevOf w (nextOf w k) ≡ k → loose w k ≡ false
   tied-not h g = both-false (not (eqb (nextOf w (prevOf w k)) k)) (not (eqb (prevOf w (nextOf w k)) k)) (equal-not (nextOf w (prevOf w k)) k h) (equal-not (prevOf w (nextOf w k)) k g)
 
-names : (n v : ℕ) → namesNone n v ≡ false → (v ≡ NONE) ⊎ (v < n)
+names : (n v : ℕ) → namesNothing n v ≡ false → (v ≡ NONE) ⊎ (v < n)
 names n v e = go (ℕ-discrete v NONE)
   where
     go : Dec (v ≡ NONE) → (v ≡ NONE) ⊎ (v < n)
     go (yes z) = inl z
     go (no z) = inr (not-below v n (and-true (not (eqb v NONE)) (not (ltb v n)) e (rw (ne-eqb v NONE z))))
 
-names-not : (n v : ℕ) → (v ≡ NONE) ⊎ (v < n) → namesNone n v ≡ false
+names-not : (n v : ℕ) → (v ≡ NONE) ⊎ (v < n) → namesNothing n v ≡ false
 names-not n v (inl e) = rw (eq-eqb v NONE e)
 names-not n v (inr h) = rw (lt-ltb v n h) (go (eqb v NONE))
   where
@@ -140,11 +140,11 @@ module _ (w : List ℕ) (i : ℕ) where
 
   pub owned : noSuchOf w i ≡ false → Owned
   owned e =
-      let d = or-false (namesNone (recordsOf w) (ownerOf w i)) (namesNone (pointsOf w) (firstOf w i)) e in
+      let d = or-false (namesNothing (recordsOf w) (ownerOf w i)) (namesNothing (pointsOf w) (firstOf w i)) e in
       record { owner = names (recordsOf w) (ownerOf w i) (d .0); first = names (pointsOf w) (firstOf w i) (d .1) }
 
   pub owned-not : (ownerOf w i ≡ NONE) ⊎ (ownerOf w i < recordsOf w) → (firstOf w i ≡ NONE) ⊎ (firstOf w i < pointsOf w) → noSuchOf w i ≡ false
-  owned-not h g = both-false (namesNone (recordsOf w) (ownerOf w i)) (namesNone (pointsOf w) (firstOf w i)) (names-not (recordsOf w) (ownerOf w i) h) (names-not (pointsOf w) (firstOf w i) g)
+  owned-not h g = both-false (namesNothing (recordsOf w) (ownerOf w i)) (namesNothing (pointsOf w) (firstOf w i)) (names-not (recordsOf w) (ownerOf w i) h) (names-not (pointsOf w) (firstOf w i) g)
 
   pub alone : shared w i ≡ false → occ (firstOf w i) (reachedBy w i) ≡ 0
   alone e = false-in (firstOf w i) (reachedBy w i) e

@@ -13,6 +13,8 @@ use borrow.Author.Tests.{eq-eqb, ne-eqb, lt-ltb, le-ltb}
 use Rattle.rings.specs.Count.{one, occ}
 use Rattle.rings.specs.Walk.{run}
 use Rattle.rings.proofs.Counting.{one-here, one-else}
+use Rattle.job.specs.Limits as limit
+use Rattle.store.specs.Field.{NONE}
 use Rattle.store.specs.Named.{pointsOf, recordsOf, nextOf, firstOf, flagsOf, progressOf, presentOf, ringOf}
 use Rattle.job.specs.declared.refusal.Refusal.the-variants.{Crowded, OffTheTable, NoSuch, Loose, Muddled}
 use Rattle.audit.specs.declared.Verdict.{Verdict}
@@ -63,11 +65,11 @@ both-no a x y e h = rw (sym e ∙ h)
 
 -- ---- marking
 
-pub unmarked : (ms : List ℕ) (k : ℕ) → 2048 ≤ k → false ≡ isMarked ms k
-unmarked ms k h = rw (le-ltb k 2048 h)
+pub unmarked : (ms : List ℕ) (k : ℕ) → limit.POINTS ≤ k → false ≡ isMarked ms k
+unmarked ms k h = rw (le-ltb k limit.POINTS h)
 
-pub marked-at : (ms : List ℕ) (k : ℕ) → k < 2048 → not (eqb (getD ms k 0) 0) ≡ isMarked ms k
-marked-at ms k h = rw (lt-ltb k 2048 h)
+pub marked-at : (ms : List ℕ) (k : ℕ) → k < limit.POINTS → not (eqb (getD ms k 0) 0) ≡ isMarked ms k
+marked-at ms k h = rw (lt-ltb k limit.POINTS h)
 
 module _ (n : ℕ → ℕ) (m p : ℕ) (ms F : List ℕ) where
   pub mark-out : (k c : ℕ) → c ≡ m → c ≤ p → markFrom k n m ms p ≡ F → ms ≡ F
@@ -75,24 +77,24 @@ module _ (n : ℕ → ℕ) (m p : ℕ) (ms F : List ℕ) where
   mark-out zero c d h e = e
   mark-out (suc k) c d h e = rw (le-ltb p m (omega arith)) at e
 
-  pub mark-met : (k c : ℕ) → m ≤ 2048 → c ≡ m → p < c → getD ms p 0 ≢ 0 → markFrom k n m ms p ≡ F → ms ≡ F
+  pub mark-met : (k c : ℕ) → m ≤ limit.POINTS → c ≡ m → p < c → getD ms p 0 ≢ 0 → markFrom k n m ms p ≡ F → ms ≡ F
   unfolding markFrom
   mark-met zero c f d l h e = e
-  mark-met (suc k) c f d l h e = rw (lt-ltb p m (omega arith), lt-ltb p 2048 (omega arith), ne-eqb (getD ms p 0) 0 h) at e
+  mark-met (suc k) c f d l h e = rw (lt-ltb p m (omega arith), lt-ltb p limit.POINTS (omega arith), ne-eqb (getD ms p 0) 0 h) at e
 
-  pub mark-on : (k c q : ℕ) → 0 < k → m ≤ 2048 → c ≡ m → p < c → getD ms p 0 ≡ 0 → q ≡ n p → markFrom k n m ms p ≡ F → markFrom (k - 1) n m (set ms p 1) q ≡ F
+  pub mark-on : (k c q : ℕ) → 0 < k → m ≤ limit.POINTS → c ≡ m → p < c → getD ms p 0 ≡ 0 → q ≡ n p → markFrom k n m ms p ≡ F → markFrom (k - 1) n m (set ms p 1) q ≡ F
   unfolding markFrom
   mark-on zero c q z f d l h g e = absurd (omega arith)
-  mark-on (suc k) c q z f d l h g e = rw (sub-one, g) (rw (lt-ltb p m (omega arith), lt-ltb p 2048 (omega arith), eq-eqb (getD ms p 0) 0 h) at e)
+  mark-on (suc k) c q z f d l h g e = rw (sub-one, g) (rw (lt-ltb p m (omega arith), lt-ltb p limit.POINTS (omega arith), eq-eqb (getD ms p 0) 0 h) at e)
 
   pub mark-over : (k : ℕ) → k ≤ 0 → markFrom k n m ms p ≡ F → ms ≡ F
   unfolding markFrom
   mark-over zero z e = e
   mark-over (suc k) z e = absurd (omega arith)
 
-pub marks-more : (w : List ℕ) (i a : ℕ) (ms ms′ : List ℕ) → ms ≡ marksBy w i → a ≡ firstOf w i → ms′ ≡ markFrom 2048 (nextOf w) (pointsOf w) ms a → ms′ ≡ marksBy w (i + 1)
+pub marks-more : (w : List ℕ) (i a : ℕ) (ms ms′ : List ℕ) → ms ≡ marksBy w i → a ≡ firstOf w i → ms′ ≡ markFrom limit.POINTS (nextOf w) (pointsOf w) ms a → ms′ ≡ marksBy w (i + 1)
 unfolding marksBy
-marks-more w i a ms ms′ e d g = rw add-one (g ∙ ap (λ (l : List ℕ). markFrom 2048 (nextOf w) (pointsOf w) l a) e ∙ ap (markFrom 2048 (nextOf w) (pointsOf w) (marksBy w i)) d)
+marks-more w i a ms ms′ e d g = rw add-one (g ∙ ap (λ (l : List ℕ). markFrom limit.POINTS (nextOf w) (pointsOf w) l a) e ∙ ap (markFrom limit.POINTS (nextOf w) (pointsOf w) (marksBy w i)) d)
 
 pub met-more : (w : List ℕ) (i a : ℕ) (ms : List ℕ) (s b : Bool) → s ≡ anyBelow i (meets w) → ms ≡ marksBy w i → a ≡ firstOf w i → b ≡ isMarked ms a → (s || b) ≡ anyBelow (i + 1) (meets w)
 unfolding anyBelow
@@ -128,12 +130,12 @@ module _ (n : ℕ → ℕ) (stop p k : ℕ) (F : Bool) where
 -- ---- a ring's progress
 
 module _ (w : List ℕ) (i f : ℕ) (ef : f ≡ firstOf w i) where
-  pub misplaced-bare : f ≡ 65535 → false ≡ misplaced w i
-  misplaced-bare h = rw (eq-eqb (firstOf w i) 65535 (sym ef ∙ h))
+  pub misplaced-bare : f ≡ NONE → false ≡ misplaced w i
+  misplaced-bare h = rw (eq-eqb (firstOf w i) NONE (sym ef ∙ h))
 
-  module _ (h : f ≢ 65535) (g : ℕ) (eg : g ≡ flagsOf w i) where
-    ringed : eqb (firstOf w i) 65535 ≡ false
-    ringed = ne-eqb (firstOf w i) 65535 (λ z. h (ef ∙ z))
+  module _ (h : f ≢ NONE) (g : ℕ) (eg : g ≡ flagsOf w i) where
+    ringed : eqb (firstOf w i) NONE ≡ false
+    ringed = ne-eqb (firstOf w i) NONE (λ z. h (ef ∙ z))
 
     pub misplaced-open : g % 2 ≡ 1 → false ≡ misplaced w i
     misplaced-open k = rw (ringed, eq-eqb (flagsOf w i % 2) 1 (ap (λ (x : ℕ). x % 2) (sym eg) ∙ k))

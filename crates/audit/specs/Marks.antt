@@ -23,7 +23,7 @@ pub record Counted (w : List ℕ) : Type 0 where
   pub points : pointsOf w ≤ limit.POINTS
   pub records : recordsOf w ≤ limit.RECORDS
 
--- a marked point: there is one mark for each of the 2,048 points
+-- a marked point: there is one mark for each point that a job may have
 abbrev pub isMarked : List ℕ → ℕ → Bool
 isMarked ms k = ltb k limit.POINTS && not (eqb (getD ms k 0) 0)
 

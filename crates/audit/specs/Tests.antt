@@ -1,14 +1,15 @@
 -- The tests of a handed work space: document 01, "A step, or writing out after steps, first tests the work space it is handed".
-use Prim.Native.Nat.{ℕ, zero, suc, _*_}
+use Prim.Native.Nat.{ℕ, zero, suc}
 use mathlib.Core.Bool.{Bool, false, cond, not, _&&_, _||_}
 use mathlib.Core.List.{List, [], _∷_}
 use lib.Dec.{eqb, ltb}
 use Rattle.rings.specs.Count.{occ}
 use Rattle.job.specs.Limits as limit
+use Rattle.job.specs.Coordinate.{offTheTable}
 use Rattle.job.specs.declared.refusal.Refusal.the-variants.{Crowded, OffTheTable, NoSuch, Loose, Muddled}
 use Rattle.audit.specs.declared.Verdict.{Verdict}
 use Rattle.audit.specs.declared.Verdict.the-variants.{Passed, Refused}
-use Rattle.store.specs.Field.{pt, X, Y, NONE}
+use Rattle.store.specs.Field.{pt, X, Y, NEXT, NONE}
 use Rattle.store.specs.Words.{view}
 use Rattle.store.specs.Named.{pointsOf, recordsOf, nextOf, prevOf, recOf, ownerOf, firstOf, progressOf, presentOf}
 use Rattle.store.specs.Sound.{ringless, ringAt, isOpen}
@@ -24,7 +25,7 @@ anyBelow (suc n) q = anyBelow n q || q n
 
 -- ---- "all points reached along next from the first points, as far as a number names a point"
 
--- the points reached from a, of m points, beside those seen before; a walk ends at a number that names no point, or at a point seen. There are at most 2,048
+-- the points reached from a, of m points, beside those seen before; a walk ends at a number that names no point, or at a point seen
 unfoldable pub reach : ℕ → (ℕ → ℕ) → ℕ → List ℕ → ℕ → List ℕ
 reach zero next m seen a = seen
 reach (suc f) next m seen a =
@@ -34,7 +35,7 @@ reach (suc f) next m seen a =
 -- from the first points of the records below i
 unfoldable pub reachedBy : List ℕ → ℕ → List ℕ
 reachedBy w zero = []
-reachedBy w (suc i) = reach limit.POINTS (nextOf w) (pointsOf w) (reachedBy w i) (firstOf w i)
+reachedBy w (suc i) = reach limit.POINTS (view w (pt NEXT)) (pointsOf w) (reachedBy w i) (firstOf w i)
 
 -- a reached point fails the test
 abbrev pub anyReached : List ℕ → (ℕ → Bool) → Bool
@@ -50,20 +51,20 @@ anyRecord w q = anyBelow (recordsOf w) q
 abbrev pub crowded : List ℕ → Bool
 crowded w = ltb limit.POINTS (pointsOf w) || ltb limit.RECORDS (recordsOf w)
 
--- "coordinates (4)": a word is a coordinate raised by the limit
+-- "coordinates (4)"
 abbrev pub offTable : List ℕ → ℕ → Bool
-offTable w k = ltb (2 * limit.COORDINATE) (view w (pt X) k) || ltb (2 * limit.COORDINATE) (view w (pt Y) k)
+offTable w k = offTheTable (view w (pt X) k) || offTheTable (view w (pt Y) k)
 
 -- "numbers (5: next, prev and record"
 abbrev pub noSuch : List ℕ → ℕ → Bool
 noSuch w k = not (ltb (nextOf w k) (pointsOf w)) || (not (ltb (prevOf w k) (pointsOf w)) || not (ltb (recOf w k) (recordsOf w)))
 
--- "and every record's owner and first point)": none, or it names one
-abbrev pub namesNone : ℕ → ℕ → Bool
-namesNone n v = not (eqb v NONE) && not (ltb v n)
+-- "and every record's owner and first point)": a number that names nothing, none aside
+abbrev pub namesNothing : ℕ → ℕ → Bool
+namesNothing n v = not (eqb v NONE) && not (ltb v n)
 
 abbrev pub noSuchOf : List ℕ → ℕ → Bool
-noSuchOf w i = namesNone (recordsOf w) (ownerOf w i) || namesNone (pointsOf w) (firstOf w i)
+noSuchOf w i = namesNothing (recordsOf w) (ownerOf w i) || namesNothing (pointsOf w) (firstOf w i)
 
 -- "links (6)": "next of prev, or prev of next, isn't the point"
 abbrev pub loose : List ℕ → ℕ → Bool
@@ -85,7 +86,7 @@ misplaced w i =
 unfoldable pub testsOf : List ℕ → Verdict
 testsOf w =
     cond (crowded w) (Refused Crowded)
-    (cond (anyReached w (offTable w)) (Refused OffTheTable)
-    (cond (anyReached w (noSuch w) || anyRecord w (noSuchOf w)) (Refused NoSuch)
-    (cond (anyReached w (loose w)) (Refused Loose)
-    (cond (anyRecord w (shared w) || anyRecord w (misplaced w)) (Refused Muddled) Passed))))
+    (cond (anyReached w (λ k. offTable w k)) (Refused OffTheTable)
+    (cond (anyReached w (λ k. noSuch w k) || anyRecord w (λ i. noSuchOf w i)) (Refused NoSuch)
+    (cond (anyReached w (λ k. loose w k)) (Refused Loose)
+    (cond (anyRecord w (λ i. shared w i) || anyRecord w (λ i. misplaced w i)) (Refused Muddled) Passed))))

@@ -9,9 +9,10 @@ ghost use mathlib.Core.Path.{_≡_};
 ghost use mathlib.Core.Bool.{_&&_, _||_};
 ghost use Prim.Native.Nat.{_+_, _<_, _≤_};
 ghost use lib.ListN.{length};
+ghost use Rattle.job.specs.Limits as limit;
 ghost use Rattle.store.specs.Field.{LENGTH};
 ghost use Rattle.store.specs.Named.{pointsOf, recordsOf, nextOf, ringOf};
-ghost use Rattle.audit.specs.Tests.{isIn, anyBelow, offTable, noSuch, noSuchOf, namesNone, loose, misplaced, crowded, anyRecord, testsOf};
+ghost use Rattle.audit.specs.Tests.{isIn, anyBelow, offTable, noSuch, noSuchOf, namesNothing, loose, misplaced, crowded, anyRecord, testsOf};
 ghost use Rattle.audit.specs.declared.PointTest.the-variants.{Numbers};
 ghost use Rattle.audit.specs.Marks.{Counted, isMarked, markFrom, marksBy, AllMarked, fails, failsOf, anyMarked, linksOf, pointsTested};
 
@@ -50,7 +51,7 @@ fn crowded(w: &[u32]) -> bool
 // ---- the points reached along next from the first points
 
 // Whether a number is a marked point.
-fn is_marked(marks: &[u8; 2048], k: usize) -> bool
+fn is_marked(marks: &[u8; Job::POINTS], k: usize) -> bool
     ensures { λ r. ⌜ r ≡ isMarked (now (marks .entry)) k ⌝ }
 {
     if k < Job::POINTS {
@@ -60,9 +61,9 @@ fn is_marked(marks: &[u8; 2048], k: usize) -> bool
 }
 
 // Marks the points from a on, up to a number that names no point or to a marked one.
-fn mark_from(w: &[u32], marks: &mut [u8; 2048], a: usize)
+fn mark_from(w: &[u32], marks: &mut [u8; Job::POINTS], a: usize)
     requires { ⌜ Counted (now w) ⌝ }
-    ensures { λ _. ⌜ now (marks .exit) ≡ markFrom 2048 (nextOf (now (w .entry))) (pointsOf (now (w .entry))) (now (marks .entry)) a ⌝ }
+    ensures { λ _. ⌜ now (marks .exit) ≡ markFrom limit.POINTS (nextOf (now (w .entry))) (pointsOf (now (w .entry))) (now (marks .entry)) a ⌝ }
 {
     let m = get(w, Col::Points, 0);
     let mut p = a;
@@ -81,7 +82,7 @@ fn mark_from(w: &[u32], marks: &mut [u8; 2048], a: usize)
 }
 
 // Marks every reached point; answers whether a first point was marked from an earlier record's.
-fn mark_all(w: &[u32], marks: &mut [u8; 2048]) -> bool
+fn mark_all(w: &[u32], marks: &mut [u8; Job::POINTS]) -> bool
     requires { ⌜ Counted (now w) × (now marks ≡ marksBy (now w) 0) ⌝ }
     ensures { λ r. ⌜ AllMarked (now (w .entry)) (now (marks .exit)) r ⌝ }
 {
@@ -150,7 +151,7 @@ pub fn point_fails(w: &[u32], t: PointTest, k: usize) -> bool
 }
 
 // Whether the point is marked and fails the test.
-fn marked_fails(w: &[u32], marks: &[u8; 2048], t: PointTest, k: usize) -> bool
+fn marked_fails(w: &[u32], marks: &[u8; Job::POINTS], t: PointTest, k: usize) -> bool
     requires { ⌜ LENGTH ≤ length (now w) ⌝ }
     ensures { λ r. ⌜ r ≡ (isMarked (now (marks .entry)) k && fails t (now (w .entry)) k) ⌝ }
 {
@@ -162,7 +163,7 @@ fn marked_fails(w: &[u32], marks: &[u8; 2048], t: PointTest, k: usize) -> bool
 }
 
 // Whether a marked point fails the test.
-fn any_marked(w: &[u32], marks: &[u8; 2048], t: PointTest) -> bool
+fn any_marked(w: &[u32], marks: &[u8; Job::POINTS], t: PointTest) -> bool
     requires { ⌜ LENGTH ≤ length (now w) ⌝ }
     ensures { λ r. ⌜ r ≡ anyMarked (now (w .entry)) (now (marks .entry)) t ⌝ }
 {
@@ -180,8 +181,8 @@ fn any_marked(w: &[u32], marks: &[u8; 2048], t: PointTest) -> bool
 
 // ---- the tests of a record
 
-fn names_none(n: usize, v: usize) -> bool
-    ensures { λ r. ⌜ r ≡ namesNone n v ⌝ }
+fn names_nothing(n: usize, v: usize) -> bool
+    ensures { λ r. ⌜ r ≡ namesNothing n v ⌝ }
 {
     !(v == NONE) & !(v < n)
 }
@@ -194,8 +195,8 @@ fn no_such_of(w: &[u32], i: usize) -> bool
     let n = get(w, Col::Records, 0);
     let o = read(w, Col::Owner, i);
     let f = read(w, Col::First, i);
-    let a = names_none(n, o);
-    let b = names_none(m, f);
+    let a = names_nothing(n, o);
+    let b = names_nothing(m, f);
     a | b
 }
 
@@ -277,7 +278,7 @@ pub fn any_record(w: &[u32], t: RecordTest) -> bool
 // ---- all tests, in order
 
 // Whether a number names nothing: of a marked point, or of a record.
-fn any_no_such(w: &[u32], marks: &[u8; 2048]) -> bool
+fn any_no_such(w: &[u32], marks: &[u8; Job::POINTS]) -> bool
     requires { ⌜ LENGTH ≤ length (now w) ⌝ }
     ensures { λ r. ⌜ r ≡ (anyMarked (now (w .entry)) (now (marks .entry)) Numbers || anyRecord (now (w .entry)) (noSuchOf (now (w .entry)))) ⌝ }
 {
@@ -287,7 +288,7 @@ fn any_no_such(w: &[u32], marks: &[u8; 2048]) -> bool
 }
 
 // The tests after the coordinates: numbers, links, rings and progress.
-fn links_of(w: &[u32], marks: &[u8; 2048], shares: bool) -> Verdict
+fn links_of(w: &[u32], marks: &[u8; Job::POINTS], shares: bool) -> Verdict
     requires { ⌜ LENGTH ≤ length (now w) ⌝ }
     ensures { λ r. ⌜ r ≡ linksOf (now (w .entry)) (now (marks .entry)) shares ⌝ }
 {
@@ -314,7 +315,7 @@ fn points_of(w: &[u32]) -> Verdict
     requires { ⌜ Counted (now w) ⌝ }
     ensures { λ r. ⌜ r ≡ pointsTested (now (w .entry)) ⌝ }
 {
-    let mut marks = [0u8; 2048];
+    let mut marks = [0u8; Job::POINTS];
     let shares = mark_all(w, &mut marks);
     let a = any_marked(w, &marks, PointTest::Table);
     if a {

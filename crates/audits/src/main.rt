@@ -1,6 +1,7 @@
 // Runs the tests of a handed work space on a good one and on altered ones, and prints what each says.
 use audit::Verdict;
 use audit::tests_of;
+use job::Job;
 use libc::STDOUT_FILENO;
 use store::Col;
 use store::NONE;
@@ -8,12 +9,16 @@ use store::points::start_record;
 use store::set;
 ghost use Prim.Native.Nat.{_+_, _<_, _≤_, _^_};
 ghost use lib.ListN.{length};
+ghost use Rattle.job.specs.Limits as limit;
 ghost use Rattle.store.specs.Field.{size, LENGTH};
 ghost use Rattle.store.specs.Column.{fieldOf};
 
+// The word of the coordinate 0.
+const AT: usize = Job::COORDINATE as usize;
+
 // Point i at (x, y), by the words of its coordinates, between p and n, of record r.
 fn put_point(w: &mut [u32], i: usize, x: usize, y: usize, n: usize, p: usize, r: usize)
-    requires { ⌜ (LENGTH ≤ length (now w)) × (i < 2048) × (x < 2 ^ 32) × (y < 2 ^ 32) × (n < 2 ^ 32) × (p < 2 ^ 32) × (r < 2 ^ 32) ⌝ }
+    requires { ⌜ (LENGTH ≤ length (now w)) × (i < limit.POINTS) × (x < 2 ^ 32) × (y < 2 ^ 32) × (n < 2 ^ 32) × (p < 2 ^ 32) × (r < 2 ^ 32) ⌝ }
 {
     set(w, Col::X, i, x);
     set(w, Col::Y, i, y);
@@ -24,12 +29,12 @@ fn put_point(w: &mut [u32], i: usize, x: usize, y: usize, n: usize, p: usize, r:
 
 // A square of points a to a + 3, of record r.
 fn put_square(w: &mut [u32], a: usize, r: usize)
-    requires { ⌜ (LENGTH ≤ length (now w)) × (a < 2000) × (r < 512) ⌝ }
+    requires { ⌜ (LENGTH ≤ length (now w)) × (a + 3 < limit.POINTS) × (r < limit.RECORDS) ⌝ }
 {
-    put_point(w, a, 1048576, 1048576, a + 1, a + 3, r);
-    put_point(w, a + 1, 1048586, 1048576, a + 2, a, r);
-    put_point(w, a + 2, 1048586, 1048586, a + 3, a + 1, r);
-    put_point(w, a + 3, 1048576, 1048586, a, a + 2, r);
+    put_point(w, a, AT, AT, a + 1, a + 3, r);
+    put_point(w, a + 1, AT + 10, AT, a + 2, a, r);
+    put_point(w, a + 2, AT + 10, AT + 10, a + 3, a + 1, r);
+    put_point(w, a + 3, AT, AT + 10, a, a + 2, r);
 }
 
 // Two squares, each a closed ring at its start; record 1 is owned by record 0.
@@ -79,10 +84,10 @@ fn altered(w: &mut [u32], c: Col, i: usize, v: usize)
 fn alter_numbers(w: &mut [u32])
     requires { ⌜ LENGTH ≤ length (now w) ⌝ }
 {
-    altered(w, Col::Points, 0, 2049);
-    altered(w, Col::Records, 0, 513);
-    altered(w, Col::X, 2, 2097152);
-    altered(w, Col::X, 2, 2097153);
+    altered(w, Col::Points, 0, Job::POINTS + 1);
+    altered(w, Col::Records, 0, Job::RECORDS + 1);
+    altered(w, Col::X, 2, 2 * AT);
+    altered(w, Col::X, 2, 2 * AT + 1);
     altered(w, Col::Next, 1, 8);
     altered(w, Col::Prev, 5, 8);
     altered(w, Col::Rec, 0, 2);

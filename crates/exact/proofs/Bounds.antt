@@ -1,4 +1,4 @@
--- A rounded value stays between the whole numbers that its exact value lies between, and so does what it is cut to. Assumes nothing.
+-- A rounded value stays between the whole numbers that its exact value lies between, and so does what it is cut to.
 use mathlib.Core.Path.{_≡_, refl, sym, ap, subst, _∙_}
 use mathlib.Core.Bool.{Bool, true, false, not, cond, _&&_, _||_, true≢false}
 use Prim.Native.Nat.{ℕ, zero, suc, _+_, _-_, _*_, _/_, _≤_, _<_, _^_, min, zero-le, suc-le-suc}

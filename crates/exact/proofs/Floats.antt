@@ -1,4 +1,4 @@
--- Floats that hold whole numbers: a sum, a difference and a product of them is its exact value rounded once, and up to 2 ^ 53 it is exact. Assumes nothing.
+-- Floats that hold whole numbers: a sum, a difference and a product of them is its exact value rounded once, and up to 2 ^ 53 it is exact.
 use mathlib.Core.Path.{_≡_, refl, sym, ap, subst, _∙_}
 use mathlib.Core.Bool.{Bool, true, false, not, cond, true≢false}
 use Prim.Native.Nat.{ℕ, zero, suc, _+_, _-_, _*_, _≤_, _<_, _^_, zero-le, suc-le-suc}

@@ -1,4 +1,4 @@
--- Floats that are exactly a fraction z / k of whole numbers, up to the sign of a zero: what a sum, a product and a comparison make of two of them. Assumes nothing.
+-- Floats that are exactly a fraction z / k of whole numbers, up to the sign of a zero: what a sum, a product and a comparison make of two of them.
 use mathlib.Core.Logic.{inl, inr}
 use mathlib.Core.Path.{_≡_, refl, sym, ap, subst, _∙_}
 use mathlib.Core.Bool.{Bool, true, false, not, _&&_, _||_}

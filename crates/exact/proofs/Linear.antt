@@ -1,4 +1,4 @@
--- Equations and orders of polynomials over ℤ, by omega: an expression is the difference of two natural numbers, `P` and `N`, which omega multiplies out. Assumes nothing.
+-- Equations and orders of polynomials over ℤ, by omega: an expression is the difference of two natural numbers, `P` and `N`, which omega multiplies out.
 use mathlib.Core.Path.{_≡_, refl, ap}
 use Prim.Native.Nat.{ℕ, suc, _+_, _-_, _*_, _≤_}
 use native.Mathlib.Nat.{le-refl}

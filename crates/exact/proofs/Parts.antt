@@ -1,4 +1,4 @@
--- Linear arithmetic over ℤ by omega: a whole number is the difference of two naturals, its positive part `pp` and its negative part `np`. Assumes nothing.
+-- Linear arithmetic over ℤ by omega: a whole number is the difference of two naturals, its positive part `pp` and its negative part `np`.
 use mathlib.Core.Path.{_≡_, refl, sym, ap, _∙_}
 use mathlib.Core.Logic.{_⊎_, inl, inr}
 use mathlib.Core.Bool.{Bool, true, false, cond, not}

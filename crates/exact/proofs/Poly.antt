@@ -1,4 +1,4 @@
--- Equations of polynomials over ℤ, by a normal form that antt computes: `solve ρ e f refl`. Assumes nothing.
+-- Equations of polynomials over ℤ, by a normal form that antt computes: `solve ρ e f refl`.
 use mathlib.Core.Path.{_≡_, refl, sym, ap, _∙_}
 use mathlib.Core.Bool.{Bool, true, false, cond, _&&_, false≢true}
 use mathlib.Core.List.{List, [], _∷_}

@@ -1,4 +1,4 @@
--- The quotient of two floats that are whole numbers: its value, and how it compares with 0 and 1. Assumes nothing.
+-- The quotient of two floats that are whole numbers: its value, and how it compares with 0 and 1.
 use mathlib.Core.Path.{_≡_, refl, sym, ap, _∙_}
 use mathlib.Core.Logic.{_⊎_, inl, inr}
 use mathlib.Core.Bool.{Bool, true, false, _&&_, _||_, true≢false}
@@ -8,7 +8,7 @@ use native.Mathlib.Omega.{arith}
 use borrow.Author.Tests.{ltb-true, ltb-false, leb-false, ne-eqb, le-leb, lt-leb, lt-ltb, le-ltb}
 use lib.Dec.{T, ltb, leb, eqb, lit<}
 use lib.IntN.{ℤ, pos, negsuc, negℤ, natAbs, _*ℤ_}
-use lib.Signed.{leZ}
+use lib.Signed.{leZ, ltZ}
 use lib.Ieee.{Float, nan, inf, fin, Format, binary64, up, down, round, div, le, lt, eq, neg, unlike, ofBits}
 use lib.Ieee.Exact.{HasValue}
 use lib.Ieee.Back.{round-whole}
@@ -145,6 +145,10 @@ module _ (U D : ℕ) (D>0 : 0 < D) (D≤ : D ≤ 2 ^ 53) where
       near : (U D : ℕ) → U < D → D ≤ 2 ^ 53 → U * 2 ^ 53 ≤ (2 ^ 53 - 1) * D
       near U D h k = omega arith
 
+-- 0 over anything
+pub round-zero : (k : ℕ) → 0 < k → round binary64 false 0 k ≡ ofBits binary64 0
+round-zero k h = round-same binary64 false 0 k 0 1 h one-pos (zero-mul 1 ∙ sym (zero-mul k)) ∙ zero-round ∙ sym zero-lit
+
 -- ---- by the whole numbers
 record Found (x y : Float) (u v : ℤ) : Type 0 where
   sign : Bool
@@ -177,6 +181,20 @@ module _ {x y : Float} {u v : ℤ} (p : Whole x u) (q : Whole y v) (h : 0 < natA
       go : (s : Bool) → leZ (signed s (natAbs u * natAbs v)) (pos 0) ≡ false → s ≡ false
       go false e = refl
       go true e = absurd (true≢false (sym (minus-le (natAbs u * natAbs v)) ∙ e))
+
+  -- of numbers that are not 0 the quotient has the sign of their product
+  pub quotient-is : 0 < natAbs u → div binary64 x y ≡ round binary64 (ltZ (u *ℤ v) (pos 0)) (natAbs u) (natAbs v)
+  quotient-is n =
+      let r = found p q h in
+      r .is ∙ ap (λ (s : Bool). round binary64 s (natAbs u) (natAbs v)) (side (r .sign) (natAbs u * natAbs v) (mul-pos n h) ∙ ap (λ (z : ℤ). ltZ z (pos 0)) (r .value))
+    where
+      side : (s : Bool) (n : ℕ) → 0 < n → s ≡ ltZ (signed s n) (pos 0)
+      side false n k = sym (le-ltb n 0 zero-le)
+      side true zero k = absurd (no k)
+        where
+          no : 0 < 0 → ⊥
+          no k = omega arith
+      side true (suc n) k = refl
 
   pub end-is : leZ (u *ℤ v) (pos 0) ≡ false → le (ofBits binary64 0x3ff0_0000_0000_0000) (div binary64 x y) ≡ leb (natAbs v) (natAbs u)
   end-is e = rw (inside-is e) (end-at (natAbs u) (natAbs v) h b)

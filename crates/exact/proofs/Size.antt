@@ -1,4 +1,4 @@
--- Sizes of whole numbers: a sum, a difference and a product; what fits a width; the test of equality. Assumes nothing.
+-- Sizes of whole numbers: a sum, a difference and a product; what fits a width; the test of equality.
 use mathlib.Core.Path.{_≡_, refl, sym, ap, _∙_}
 use mathlib.Core.Bool.{Bool, true, false, cond, true≢false, false≢true}
 use Prim.Native.Nat.{ℕ, zero, suc, _+_, _-_, _*_, _≤_, _<_, _^_}

@@ -1,4 +1,4 @@
--- Whole numbers in words of 32 and 64 bits: what fits, and what a word holds after a sum, a difference or a product. Assumes nothing.
+-- Whole numbers in words of 32 and 64 bits: what fits, and what a word holds after a sum, a difference or a product.
 use mathlib.Core.Path.{_≡_, refl, sym, ap, _∙_}
 use mathlib.Core.Bool.{Bool, true, false}
 use Prim.Native.Nat.{ℕ, _+_, _*_, _≤_, _<_, _^_}

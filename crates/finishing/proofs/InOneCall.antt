@@ -7,14 +7,13 @@ use Rattle.job.specs.declared.refusal.Refusal.{Refusal}
 use Rattle.job.specs.declared.refusal.Refusal.the-variants as refusal
 use Rattle.store.specs.Words.{view}
 use Rattle.store.specs.Value.{preserveCollinear}
-use Rattle.acts.specs.Step.{Outcome, outcome}
 use Rattle.acts.proofs.Finished.{finish-done}
 use Rattle.turns.specs.Form.{raised, geometryOf}
-use Rattle.turns.specs.declared.Answer as code
-use Rattle.turns.specs.declared.Answer.the-variants.{Ok, Full, OutOfTurn}
-use Rattle.turns.specs.Code.{answerIs}
+use Rattle.turns.specs.declared.RingsEnd as code
+use Rattle.turns.specs.declared.RingsEnd.the-variants.{Done, Full}
+use Rattle.turns.specs.Code.{endIs}
 use Rattle.turns.proofs.Ready.{laws}
-use Rattle.acts.specs.Finish.{finishW}
+use Rattle.acts.specs.Finish.{RingsEnd, ringsDone, finishW}
 use Rattle.paths.specs.declared.Written.{Written}
 use Rattle.paths.specs.declared.Written.the-variants.{Paths, Refused}
 use Rattle.paths.specs.Walking.{Ready}
@@ -46,24 +45,27 @@ module _ (w t t₁ : List ℕ) (r : Written) (e : wrote r t₁ ≡ buildPaths64 
 
 -- ---- the rings are finished
 
-module _ (w w₁ t : List ℕ) (a : code.Answer) (e : outcome (answerIs a) w₁ ≡ finishW (geometryOf (view w)) raised w) where
-  stepped-as : afterSteps (outcome (answerIs a) w₁) t ≡ afterSteps (finishRings w) t
+-- rings that are done may be written out
+pub done-ready : (w w₁ : List ℕ) → OpeningLeft w → finishRings w ≡ ringsDone w₁ → Ready w₁
+unfolding finishRings
+done-ready w w₁ o e =
+    let r = finish-done (geometryOf (view w)) raised (laws (preserveCollinear (view w))) w _ w₁ (start-rep w o) e in
+    record { long = r .long; sound = r .rep .sound }
+
+module _ (w w₁ t : List ℕ) (a : code.RingsEnd) (e : endIs a w₁ ≡ finishW (geometryOf (view w)) raised w) where
+  stepped-as : afterSteps (endIs a w₁) t ≡ afterSteps (finishRings w) t
   unfolding finishRings
-  stepped-as = ap (λ (o : Outcome). afterSteps o t) e
+  stepped-as = ap (λ (o : RingsEnd). afterSteps o t) e
 
-  pub may-write : OpeningLeft w → a ≡ Ok → Ready w₁
-  may-write o h =
-      let r = finish-done (geometryOf (view w)) raised (laws (preserveCollinear (view w))) w _ w₁ (start-rep w o) (sym e ∙ ap (λ (b : code.Answer). outcome (answerIs b) w₁) h) in
-      record { long = r .long; sound = r .rep .sound }
+  pub may-write : OpeningLeft w → a ≡ Done → Ready w₁
+  unfolding finishRings
+  may-write o h = done-ready w w₁ o (sym e ∙ ap (λ (b : code.RingsEnd). endIs b w₁) h)
 
-  pub rings-done : (b : Written) (w′ t′ : List ℕ) → a ≡ Ok → finished b w′ t′ ≡ afterWriting w₁ (buildPaths64 (view w₁) t .answer) (buildPaths64 (view w₁) t .tray) → finished b w′ t′ ≡ afterSteps (finishRings w) t
-  rings-done b w′ t′ h g = g ∙ sym (ap (λ (c : code.Answer). afterSteps (outcome (answerIs c) w₁) t) h) ∙ stepped-as
+  pub rings-done : (b : Written) (w′ t′ : List ℕ) → a ≡ Done → finished b w′ t′ ≡ afterWriting w₁ (buildPaths64 (view w₁) t .answer) (buildPaths64 (view w₁) t .tray) → finished b w′ t′ ≡ afterSteps (finishRings w) t
+  rings-done b w′ t′ h g = g ∙ sym (ap (λ (c : code.RingsEnd). afterSteps (endIs c w₁) t) h) ∙ stepped-as
 
   pub rings-full : (b : Written) (w′ t′ : List ℕ) → a ≡ Full → finished b w′ t′ ≡ refused refusal.Full (length w₁) (length t) → finished b w′ t′ ≡ afterSteps (finishRings w) t
-  rings-full b w′ t′ h g = g ∙ sym (ap (λ (c : code.Answer). afterSteps (outcome (answerIs c) w₁) t) h) ∙ stepped-as
-
-  pub rings-out : (b : Written) (w′ t′ : List ℕ) → a ≡ OutOfTurn → finished b w′ t′ ≡ refused refusal.OutOfTurn (length w₁) (length t) → finished b w′ t′ ≡ afterSteps (finishRings w) t
-  rings-out b w′ t′ h g = g ∙ sym (ap (λ (c : code.Answer). afterSteps (outcome (answerIs c) w₁) t) h) ∙ stepped-as
+  rings-full b w′ t′ h g = g ∙ sym (ap (λ (c : code.RingsEnd). afterSteps (endIs c w₁) t) h) ∙ stepped-as
 
 -- ---- a job is opened
 

@@ -3,3 +3,4 @@ pub mod Entering
 pub mod Calls
 pub mod Starting
 pub mod InOneCall
+pub mod Refusals

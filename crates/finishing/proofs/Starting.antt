@@ -6,19 +6,17 @@ use mathlib.Core.List.{List, [], _∷_}
 use native.Mathlib.Omega.{arith}
 use native.Mathlib.Decide.{decLt}
 use lib.ListN.{length, length-map, List·getD-eq-default}
+use Rattle.job.specs.Limits.{POINTS}
 use Rattle.rings.specs.Progress.{Ring, gone, atStart, mapRing}
 use Rattle.rings.specs.Walk.{walk}
 use Rattle.rings.proofs.Counting.{pigeon}
 use Rattle.geometry.specs.declared.Point.{Point}
 use Rattle.lone.specs.Forest.{Entry, ringless, Forest, opening, at, OfClosed}
-use Rattle.lone.specs.Kept.{Held}
-use Rattle.lone.specs.Plane.{plane}
-use Rattle.lone.proofs.FinishingRings.{HeldIn}
+use Rattle.lone.specs.Kept.{Held, HeldIn}
 use Rattle.store.specs.Field.{rc, pt, NEXT, FIRST}
 use Rattle.store.specs.Words.{view}
 use Rattle.store.specs.Sound.{pts, recs, ringAt, dueAt, loneDue, loneAt}
 use Rattle.store.specs.Sound as store
-use Rattle.store.specs.Value.{preserveCollinear}
 use Rattle.store.proofs.Soundness.{whole, from-first}
 use Rattle.acts.specs.Opened.{records}
 use Rattle.acts.specs.Rep.{value, Shows, as-ringless, as-open, as-closed, RepW}
@@ -56,7 +54,7 @@ module _ (w : List ℕ) (o : OpeningLeft w) where
     held-shown e (as-open c a b d) = tt
     held-shown e (as-closed q L a b t m) = subst (Held (pts (view w))) (sym m) held-lone
 
-  pub held : HeldIn (plane (preserveCollinear (view w))) 2048 512 F₀
+  pub held : HeldIn POINTS F₀
   held = record { within = o .sound .few-points; every = λ i. each i (decLt i (recs (view w))) }
     where
       each : (i : ℕ) → Dec (i < recs (view w)) → OfClosed (Held (pts (view w))) (at (F₀ .entries) i)

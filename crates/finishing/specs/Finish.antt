@@ -2,12 +2,11 @@
 use Prim.Native.Nat.{ℕ, zero, suc}
 use mathlib.Core.List.{List, [], _∷_, _++_}
 use Rattle.store.specs.Words.{view}
-use Rattle.acts.specs.Step.{Outcome}
-use Rattle.acts.specs.Finish.{finishW}
+use Rattle.acts.specs.Finish.{RingsEnd, finishW}
 use Rattle.turns.specs.Form.{raised, geometryOf}
 
--- ok and the words left; or full, where a step was refused as full
-unfoldable pub finishRings : List ℕ → Outcome
+-- all done and the words left; or full, where a step was refused as full
+unfoldable pub finishRings : List ℕ → RingsEnd
 finishRings w = finishW (geometryOf (view w)) raised w
 
 -- n steps on record i

@@ -1,13 +1,12 @@
--- Finishing in one call: opening, then every ring stepped to done in rising record order, then writing out. "A refusal anywhere leaves tray and work
--- space all zero. After an accepted one the work space holds the finished rings."
+-- Finishing in one call: opening, then every ring stepped to done in rising record order, then writing out. A refusal anywhere leaves tray and work
+-- space all zero; after an accepted job the work space holds the finished rings. "opening, and finishing in one call, count as a job".
 use Prim.Native.Nat.{ℕ}
 use mathlib.Core.List.{List}
 use lib.ListN.{length, replicate}
 use Rattle.job.specs.declared.refusal.Refusal.{Refusal}
-use Rattle.job.specs.declared.refusal.Refusal.the-variants.{Full, OutOfTurn}
-use Rattle.lone.specs.Forest.{ok, full, outOfTurn}
+use Rattle.job.specs.declared.refusal.Refusal.the-variants.{Full}
 use Rattle.store.specs.Words.{view}
-use Rattle.acts.specs.Step.{Outcome, outcome}
+use Rattle.acts.specs.Finish.{RingsEnd, ringsDone, ringsFull}
 use Rattle.paths.specs.declared.Written.{Written}
 use Rattle.paths.specs.declared.Written.the-variants.{Paths, Refused}
 use Rattle.paths.specs.Wrote.{buildPaths64}
@@ -34,11 +33,10 @@ abbrev pub afterWriting : List ℕ → Written → List ℕ → Finished
 afterWriting w (Paths c o) t = finished (Paths c o) w t
 afterWriting w (Refused x) t = refused x (length w) (length t)
 
--- the rings are done, or a step was refused as full: row 10. (The third is never the outcome of all records.)
-abbrev pub afterSteps : Outcome → List ℕ → Finished
-afterSteps (outcome ok w) t = afterWriting w (buildPaths64 (view w) t .answer) (buildPaths64 (view w) t .tray)
-afterSteps (outcome full w) t = refused Full (length w) (length t)
-afterSteps (outcome outOfTurn w) t = refused OutOfTurn (length w) (length t)
+-- the rings are done, or a step was refused as full: row 10
+abbrev pub afterSteps : RingsEnd → List ℕ → Finished
+afterSteps (ringsDone w) t = afterWriting w (buildPaths64 (view w) t .answer) (buildPaths64 (view w) t .tray)
+afterSteps (ringsFull w) t = refused Full (length w) (length t)
 
 -- opening has ended: a refused one has left zeros
 abbrev pub afterOpening : End → List ℕ → Finished

@@ -24,7 +24,7 @@ pub record Left : Type 0 where
 abbrev pub left : Stepped → List ℕ → Left
 left a w = record { answer = a; words = w }
 
--- "Only then 12", and "12 precedes [10] in a step"
+-- which of the table's rows each answer is: carried out, 10, 12. ("12 precedes it in a step": `answerS` has that order)
 abbrev pub steppedAs : Answer → Stepped
 steppedAs ok = Done
 steppedAs full = Refused Full

@@ -5,7 +5,7 @@ use opening::open::Opened;
 use opening::open::open;
 use paths::Written;
 use paths::build_paths64;
-use turns::Answer;
+use turns::RingsEnd;
 use turns::finish::finish_records;
 ghost use mathlib.Core.Path.{_≡_};
 ghost use lib.ListN.{length};
@@ -42,11 +42,10 @@ fn finish_opened(work: &mut [u32], tray: &mut [u8]) -> Written
     requires { ⌜ OpeningLeft (now work) ⌝ }
     ensures { λ r. ⌜ finished r (now (work .exit)) (now (tray .exit)) ≡ afterSteps (finishRings (now (work .entry))) (now (tray .entry)) ⌝ }
 {
-    let a = finish_records(work);
-    match a {
-        Answer::Ok => write_finished(work, tray),
-        Answer::Full => refuse(Refusal::Full, work, tray),
-        Answer::OutOfTurn => refuse(Refusal::OutOfTurn, work, tray),
+    let e = finish_records(work);
+    match e {
+        RingsEnd::Done => write_finished(work, tray),
+        RingsEnd::Full => refuse(Refusal::Full, work, tray),
     }
 }
 

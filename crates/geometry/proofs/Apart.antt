@@ -1,4 +1,4 @@
--- The crossing test is false where two of its four points are one place, so a crossing's points are four places. Assumes nothing.
+-- The crossing test is false where two of its four points are one place, so a crossing's points are four places.
 use mathlib.Core.Path.{_≡_, refl, sym, ap, _∙_}
 use mathlib.Core.Bool.{Bool, true, false, not, cond, _&&_, true≢false}
 use mathlib.Core.List.{List, [], _∷_}

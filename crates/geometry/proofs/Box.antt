@@ -1,4 +1,4 @@
--- The crossing point lies in the first edge's box: a fraction of a difference, rounded, stays between the ends, and so does what is left of it. Assumes nothing.
+-- The crossing point lies in the first edge's box: a fraction of a difference, rounded, stays between the ends, and so does what is left of it.
 use mathlib.Core.Path.{_≡_, ap, _∙_}
 use mathlib.Core.Bool.{Bool, true, false, not, cond}
 use mathlib.Core.Logic.{inl, inr}

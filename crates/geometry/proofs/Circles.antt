@@ -1,4 +1,5 @@
--- The doubled area of a circle of points: the same from every place, negated the other way round, changed by a triangle where a point goes, and its size. Assumes nothing.
+-- The doubled area of a circle of points: the same from every place, negated the other way round, changed by a triangle where a point goes, and its size.
+-- Request 6 cites `area-turned` and `area-in-line`, request 10 `area-reversed`.
 use mathlib.Core.Path.{_≡_, refl, sym, ap, _∙_}
 use mathlib.Core.Bool.{true}
 use mathlib.Core.List.{List, [], _∷_, _++_, append-nil, reverse, reverse-cons}

@@ -1,4 +1,4 @@
--- Sums, differences and products of coordinates, as the code's words hold them; the test of closeness. Assumes nothing.
+-- Sums, differences and products of coordinates, as the code's words hold them; the test of closeness.
 use mathlib.Core.Path.{_≡_, refl, sym, _∙_}
 use mathlib.Core.Bool.{Bool, true, false, not, _&&_, _||_}
 use Prim.Native.Nat.{suc, _^_, _<_, _≤_}

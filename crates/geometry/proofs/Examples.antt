@@ -1,4 +1,4 @@
--- The definitions computed on document 01's listing: the crossing of its ring, and of the ring with (0,20) for (0,12). Assumes nothing.
+-- The definitions computed on document 01's listing: the crossing of its ring, and of the ring with (0,20) for (0,12).
 use mathlib.Core.Path.{_≡_, refl}
 use mathlib.Core.Bool.{true, false}
 use mathlib.Core.List.{[], _∷_}

@@ -1,7 +1,7 @@
 -- Laws of the definitions; the functions' own proofs stand in folders of their own.
 pub mod Examples
 pub mod Coordinates
-pub mod Edges
+pub mod Differences
 pub mod Fractions
 pub mod Box
 pub mod Crossings

@@ -1,4 +1,4 @@
--- The test of equality of points decides equality. Assumes nothing.
+-- The test of equality of points decides equality.
 use mathlib.Core.Path.{_≡_, refl, sym, ap, _∙_}
 use mathlib.Core.Bool.{Bool, true, false, _&&_, true≢false, false≢true}
 use lib.IntN.{ℤ}

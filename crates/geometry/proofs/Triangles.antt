@@ -1,4 +1,4 @@
--- The doubled area of three points: as a cross product, rotated, reversed, in line, and its size. Assumes nothing.
+-- The doubled area of three points: as a cross product, rotated, reversed, in line, and its size.
 use mathlib.Core.Path.{_≡_, refl, sym, ap, _∙_}
 use mathlib.Core.List.{[], _∷_}
 use Prim.Native.Nat.{_*_, _^_}

@@ -5,8 +5,8 @@ ghost use Prim.Native.Nat.{_^_};
 ghost use lib.IntN.{_+ℤ_, _-ℤ_, _*ℤ_};
 ghost use Rattle.exact.specs.Num.{Within};
 ghost use Rattle.geometry.specs.Plane.{InTable, samePoint, isCollinear, dotProductThreePoints, edgeArea, areaTriangle, closeBy, ptsReallyClose, isVerySmallTriangle, removable, segmentsIntersect};
-ghost use Rattle.geometry.specs.Crossing.{edgePair, crossing, getSegmentIntersectPt, Crossed, pointOf};
-ghost use Rattle.geometry.specs.Floats.{divisorF, alongF, strictlyWithinF, fractionF, Reach, steppedF, pairIntersectsF, Meets};
+ghost use Rattle.geometry.specs.Crossing.{edgePair, edgesOf, Paired, crossing, pointAt, MeetAt};
+ghost use Rattle.geometry.specs.Floats.{divisorF, alongF, strictlyWithinF, quotientF, fractionF, Reach, steppedF};
 
 // A point; its coordinates are micrometres.
 pub struct Point {
@@ -22,12 +22,22 @@ pub struct EdgePair {
     pub dy2: f64,
 }
 
-// Where the line of the second edge meets the first: nowhere, at or before its start, at or after its end, or at a fraction of it.
+// Two edges by value, the first from a to b, the second from c to d, with their differences, made once.
+pub struct Edges {
+    pub a: Point,
+    pub b: Point,
+    pub c: Point,
+    pub d: Point,
+    pub pair: EdgePair,
+}
+
+// Where the line of the second edge meets the first: nowhere, at or before its start, at or after its end, or inside, with the fractions
+// of the first edge and of the second at which they meet.
 pub enum Crossing {
     Parallel,
     Start,
     End,
-    Inside(f64),
+    Inside { first: f64, second: f64 },
 }
 
 // Equality of points: the only one.
@@ -132,7 +142,7 @@ pub fn removable(preserve: bool, prev: Point, pt: Point, next: Point) -> bool
 }
 
 // The differences of the edges from a to b and from c to d.
-pub fn edge_pair(a: Point, b: Point, c: Point, d: Point) -> EdgePair
+fn edge_pair(a: Point, b: Point, c: Point, d: Point) -> EdgePair
     requires { ⌜ InTable a ⌝ ∗ ⌜ InTable b ⌝ ∗ ⌜ InTable c ⌝ ∗ ⌜ InTable d ⌝ }
     ensures { λ r. ⌜ r ≡ edgePair a b c d ⌝ }
 {
@@ -142,6 +152,15 @@ pub fn edge_pair(a: Point, b: Point, c: Point, d: Point) -> EdgePair
         dx2: d.x as f64 - c.x as f64,
         dy2: d.y as f64 - c.y as f64,
     }
+}
+
+// The edges from a to b and from c to d.
+pub fn edges_of(a: Point, b: Point, c: Point, d: Point) -> Edges
+    requires { ⌜ InTable a ⌝ ∗ ⌜ InTable b ⌝ ∗ ⌜ InTable c ⌝ ∗ ⌜ InTable d ⌝ }
+    ensures { λ r. ⌜ r ≡ edgesOf a b c d ⌝ }
+{
+    let pair = edge_pair(a, b, c, d);
+    Edges { a, b, c, d, pair }
 }
 
 // The cross product of the two edges.
@@ -172,58 +191,55 @@ fn strictly_within(t: f64, cp: f64) -> bool
     false
 }
 
-// Whether the edges of a pair, which start at a and c, cross at an inner point of both.
-pub fn pair_intersects(e: EdgePair, a: Point, c: Point) -> bool
-    requires { ⌜ InTable a ⌝ ∗ ⌜ InTable c ⌝ }
-    ensures { λ r. ⌜ r ≡ pairIntersectsF e a c ⌝ }
+// Whether the two edges cross at an inner point of both.
+pub fn segments_intersect(e: Edges) -> bool
+    requires { ⌜ Paired e ⌝ }
+    ensures { λ r. ⌜ r ≡ segmentsIntersect (e .a) (e .b) (e .c) (e .d) ⌝ }
 {
-    let cp = divisor(e);
+    let cp = divisor(e.pair);
     if cp == 0.0 {
         return false;
     }
-    strictly_within(along(a, c, e.dx2, e.dy2), cp) & strictly_within(along(a, c, e.dx1, e.dy1), cp)
+    strictly_within(along(e.a, e.c, e.pair.dx2, e.pair.dy2), cp)
+        & strictly_within(along(e.a, e.c, e.pair.dx1, e.pair.dy1), cp)
 }
 
-// Whether the edges from a to b and from c to d cross at an inner point of both.
-pub fn segments_intersect(a: Point, b: Point, c: Point, d: Point) -> bool
-    requires { ⌜ InTable a ⌝ ∗ ⌜ InTable b ⌝ ∗ ⌜ InTable c ⌝ ∗ ⌜ InTable d ⌝ }
-    ensures { λ r. ⌜ r ≡ segmentsIntersect a b c d ⌝ }
+// num / det, rounded once; 0 is plus, also where num is -0.
+fn quotient(num: f64, det: f64) -> f64
+    ensures { λ r. ⌜ r ≡ quotientF num det ⌝ }
 {
-    let e = edge_pair(a, b, c, d);
-    pair_intersects(e, a, c)
+    if num == 0.0 {
+        return 0.0;
+    }
+    num / det
 }
 
-// num / det as a fraction of an edge.
-fn fraction(num: f64, det: f64) -> Crossing
-    ensures { λ r. ⌜ r ≡ fractionF num det ⌝ }
+// The crossing, by the numerators of both fractions and their divisor.
+fn fraction(num1: f64, num2: f64, det: f64) -> Crossing
+    ensures { λ r. ⌜ r ≡ fractionF num1 num2 det ⌝ }
 {
     if det == 0.0 {
         return Crossing::Parallel;
     }
-    let t = num / det;
-    if t <= 0.0 {
+    let first = num1 / det;
+    if first <= 0.0 {
         return Crossing::Start;
     }
-    if t >= 1.0 {
+    if first >= 1.0 {
         return Crossing::End;
     }
-    Crossing::Inside(t)
+    let second = quotient(num2, det);
+    Crossing::Inside { first, second }
 }
 
-// Where the second edge's line meets the first, by their differences and starts.
-pub fn crossing_at(e: EdgePair, a: Point, c: Point) -> Crossing
-    requires { ⌜ InTable a ⌝ ∗ ⌜ InTable c ⌝ }
-    ensures { λ r. ⌜ r ≡ fractionF (alongF (a .x) (a .y) (c .x) (c .y) (e .dx2) (e .dy2)) (divisorF e) ⌝ }
+// Where the second edge's line meets the first. The Rust's `ip` is what the split makes of the answer; its `false` is `Parallel`.
+pub fn get_segment_intersect_pt(e: Edges) -> Crossing
+    requires { ⌜ Paired e ⌝ }
+    ensures { λ r. ⌜ r ≡ crossing (e .a) (e .b) (e .c) (e .d) ⌝ }
 {
-    fraction(along(a, c, e.dx2, e.dy2), divisor(e))
-}
-
-// Where the line of the edge from c to d meets the edge from a to b.
-pub fn edge_crossing(a: Point, b: Point, c: Point, d: Point) -> Crossing
-    requires { ⌜ InTable a ⌝ ∗ ⌜ InTable b ⌝ ∗ ⌜ InTable c ⌝ ∗ ⌜ InTable d ⌝ }
-    ensures { λ r. ⌜ r ≡ crossing a b c d ⌝ }
-{
-    crossing_at(edge_pair(a, b, c, d), a, c)
+    let num1 = along(e.a, e.c, e.pair.dx2, e.pair.dy2);
+    let num2 = along(e.a, e.c, e.pair.dx1, e.pair.dy1);
+    fraction(num1, num2, divisor(e.pair))
 }
 
 // From a by the fraction t of the difference d: product and sum rounded once each, then dropped toward zero.
@@ -234,42 +250,13 @@ fn stepped(a: i32, d: f64, t: f64) -> i32
     std::num::truncating_f64_to_i64(a as f64 + t * d) as i32
 }
 
-// The point of the first edge, from a to b, at which a pair's edges meet, and ip where they are parallel.
-pub fn point_on(e: EdgePair, a: Point, b: Point, f: Crossing, ip: Point) -> Point
-    requires { ⌜ Meets e a b f ⌝ }
-    ensures { λ r. ⌜ r ≡ pointOf a b ip f ⌝ }
+// The point of the first edge at its fraction t, where the edges meet inside it: `ip` of `get_segment_intersect_pt`.
+pub fn point_inside(e: Edges, t: f64) -> Point
+    requires { ⌜ MeetAt e t ⌝ }
+    ensures { λ r. ⌜ r ≡ pointAt (e .a) (e .b) t ⌝ }
 {
-    match f {
-        Crossing::Parallel => ip,
-        Crossing::Start => a,
-        Crossing::End => b,
-        Crossing::Inside(t) => Point {
-            x: stepped(a.x, e.dx1, t),
-            y: stepped(a.y, e.dy1, t),
-        },
+    Point {
+        x: stepped(e.a.x, e.pair.dx1, t),
+        y: stepped(e.a.y, e.pair.dy1, t),
     }
-}
-
-// What `get_segment_intersect_pt` leaves in its `ip`, handed in and back by value: parallel edges leave it as it was.
-pub fn get_segment_intersect_pt(
-    ln1a: Point,
-    ln1b: Point,
-    ln2a: Point,
-    ln2b: Point,
-    ip: Point,
-) -> Point
-    requires { ⌜ InTable ln1a ⌝ ∗ ⌜ InTable ln1b ⌝ ∗ ⌜ InTable ln2a ⌝ ∗ ⌜ InTable ln2b ⌝ }
-    ensures { λ r. ⌜ r ≡ getSegmentIntersectPt ln1a ln1b ln2a ln2b ip ⌝ }
-{
-    let e = edge_pair(ln1a, ln1b, ln2a, ln2b);
-    let f = crossing_at(e, ln1a, ln2a);
-    point_on(e, ln1a, ln1b, f, ip)
-}
-
-// The crossing point of `do_split_op`, whose `ip` begins as the first edge's start.
-pub fn crossing_point(a: Point, b: Point, c: Point, d: Point) -> Point
-    requires { ⌜ InTable a ⌝ ∗ ⌜ InTable b ⌝ ∗ ⌜ InTable c ⌝ ∗ ⌜ InTable d ⌝ }
-    ensures { λ r. ⌜ Crossed a b c d r ⌝ }
-{
-    get_segment_intersect_pt(a, b, c, d, a)
 }

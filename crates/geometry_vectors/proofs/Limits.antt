@@ -1,4 +1,4 @@
--- A number that passed the two tests of `coordinate` is within the limit. Assumes nothing.
+-- A number that passed the two tests of `coordinate` is within the limit.
 use mathlib.Core.Path.{_≡_}
 use mathlib.Core.Bool.{false}
 use Prim.Native.Nat.{_≤_, _^_}

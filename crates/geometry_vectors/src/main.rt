@@ -1,13 +1,16 @@
-// Runs the stored cases on standard input, which the oracle made with the real Rust, and writes how many there are and how many differ.
-// `oracle vectors geometry 1 150` made them. A case is a line: the function's name, its points, ` = ` and what the Rust answered (tests/oracle/README.md has the format).
+// Runs the stored cases on standard input, which the oracle made with the real Rust, through the functions that a step calls, and writes
+// how many there are and how many differ. `oracle vectors geometry 1 150` made them. A case is a line: the function's name, its numbers, ` = ` and
+// what the Rust answered (tests/oracle/README.md has the format).
 
 use geometry::Crossing;
+use geometry::Edges;
 use geometry::Point;
 use libc::STDIN_FILENO;
 use libc::STDOUT_FILENO;
 ghost use Prim.Native.Nat.{_^_};
 ghost use Rattle.exact.specs.Num.{Within};
 ghost use Rattle.geometry.specs.Plane.{InTable};
+ghost use Rattle.geometry.specs.Crossing.{Paired, MeetAt};
 
 // The byte at a place, and 0 past the end.
 fn byte(s: &[u8], at: usize) -> u8 {
@@ -18,7 +21,7 @@ fn byte(s: &[u8], at: usize) -> u8 {
 }
 
 fn after(at: usize) -> usize {
-    if at < 65536 {
+    if at < 131072 {
         return at + 1;
     }
     at
@@ -149,91 +152,131 @@ fn sign(z: i64) -> i64 {
     0
 }
 
-// The first letter of the oracle's word for a crossing.
-fn letter(f: Crossing) -> u8 {
-    match f {
-        Crossing::Parallel => b'p',
-        Crossing::Start => b's',
-        Crossing::End => b'e',
-        Crossing::Inside(_t) => b'i',
-    }
-}
-
 // A case of two points: pts_really_close.
 fn two_agree(s: &[u8], at: usize) -> bool {
     let b = past_point(s, at);
     bit(geometry::pts_really_close(point(s, at), point(s, b))) == answer(s, past_point(s, b))
 }
 
-// What a function of three points answers.
-fn of_three(name: u8, a: Point, b: Point, c: Point) -> i64
+// What a function of three points answers, by a letter of its name.
+fn of_three(letter: u8, a: Point, b: Point, c: Point) -> i64
     requires { ⌜ InTable a ⌝ ∗ ⌜ InTable b ⌝ ∗ ⌜ InTable c ⌝ }
 {
-    if name == b'i' {
+    if letter == b'c' {
         return bit(geometry::is_collinear(a, b, c));
     }
-    if name == b'd' {
+    if letter == b'v' {
+        return bit(geometry::is_very_small_triangle(a, b, c));
+    }
+    if letter == b'd' {
         return sign(geometry::dot_product_three_points(a, b, c));
     }
     geometry::area_triangle(a, b, c)
 }
 
-// A case of three points: is_collinear, dot_product_three_points or area_triangle.
-fn three_agree(s: &[u8], name: u8, at: usize) -> bool {
+// A case of three points: is_collinear, is_very_small_triangle, dot_product_three_points or area_triangle.
+fn three_agree(s: &[u8], letter: u8, at: usize) -> bool {
     let b = past_point(s, at);
     let c = past_point(s, b);
-    of_three(name, point(s, at), point(s, b), point(s, c)) == answer(s, past_point(s, c))
+    of_three(letter, point(s, at), point(s, b), point(s, c)) == answer(s, past_point(s, c))
 }
 
-// Whether the crossing of the four points is what stands after `= `: a word and, where the edges are not parallel, a point.
-fn crossing_agrees(s: &[u8], at: usize, a: Point, b: Point, c: Point, d: Point) -> bool
-    requires { ⌜ InTable a ⌝ ∗ ⌜ InTable b ⌝ ∗ ⌜ InTable c ⌝ ∗ ⌜ InTable d ⌝ }
+// A case of the removal test: whether `preserve_collinear` is set, and three points.
+fn removable_agrees(s: &[u8], at: usize) -> bool {
+    let a = past_word(s, at);
+    let b = past_point(s, a);
+    let c = past_point(s, b);
+    let preserve = byte(s, at) == b'1';
+    bit(geometry::removable(preserve, point(s, a), point(s, b), point(s, c)))
+        == answer(s, past_point(s, c))
+}
+
+// The fraction M / 2^E at a place, which is a float.
+fn fraction(s: &[u8], at: usize) -> f64 {
+    let mut v = std::num::nearest_i64_to_f64(number(s, at));
+    let mut left = digits(s, past_word(s, at));
+    while left > 0 {
+        v = v * 0.5;
+        left -= 1;
+    }
+    v
+}
+
+// Whether the crossing inside is what stands at a place: its point, and the fractions of both edges.
+fn inside_agrees(s: &[u8], at: usize, e: Edges, first: f64, second: f64) -> bool
+    requires { ⌜ MeetAt e first ⌝ }
+{
+    let p = past_point(s, at);
+    let q = past_point(s, p);
+    geometry::same_point(geometry::point_inside(e, first), point(s, at))
+        & (fraction(s, p) == first)
+        & (fraction(s, q) == second)
+}
+
+// Whether the crossing of the edges is what stands after `= `: a word and, where they are not parallel, a point; inside, both fractions.
+fn crossing_agrees(s: &[u8], at: usize, e: Edges) -> bool
+    requires { ⌜ Paired e ⌝ }
 {
     let word = byte(s, at);
-    if letter(geometry::edge_crossing(a, b, c, d)) != word {
-        return false;
-    }
-    if word == b'p' {
-        return true;
-    }
     let p = past_word(s, at);
-    geometry::same_point(geometry::crossing_point(a, b, c, d), point(s, p))
+    let f = geometry::get_segment_intersect_pt(e);
+    match f {
+        Crossing::Parallel => {
+            return word == b'p';
+        }
+        Crossing::Start => {
+            return (word == b's') & geometry::same_point(e.a, point(s, p));
+        }
+        Crossing::End => {
+            return (word == b'e') & geometry::same_point(e.b, point(s, p));
+        }
+        Crossing::Inside { first, second } => {
+            return (word == b'i') & inside_agrees(s, p, e, first, second);
+        }
+    }
 }
 
 // What a case of four points says: segments_intersect or get_segment_intersect_pt.
-fn of_four(s: &[u8], name: u8, at: usize, a: Point, b: Point, c: Point, d: Point) -> bool
-    requires { ⌜ InTable a ⌝ ∗ ⌜ InTable b ⌝ ∗ ⌜ InTable c ⌝ ∗ ⌜ InTable d ⌝ }
+fn of_four(s: &[u8], name: u8, at: usize, e: Edges) -> bool
+    requires { ⌜ Paired e ⌝ }
 {
     if name == b's' {
-        return bit(geometry::segments_intersect(a, b, c, d)) == number(s, at);
+        return bit(geometry::segments_intersect(e)) == number(s, at);
     }
-    crossing_agrees(s, at, a, b, c, d)
+    crossing_agrees(s, at, e)
 }
 
-fn four_agree(s: &[u8], name: u8, at: usize) -> bool {
+// The edges of the four points at a place.
+fn edges(s: &[u8], at: usize) -> Edges
+    ensures { λ r. ⌜ Paired r ⌝ }
+{
     let b = past_point(s, at);
     let c = past_point(s, b);
     let d = past_point(s, c);
-    of_four(
-        s,
-        name,
-        past_word(s, past_point(s, d)),
-        point(s, at),
-        point(s, b),
-        point(s, c),
-        point(s, d),
-    )
+    geometry::edges_of(point(s, at), point(s, b), point(s, c), point(s, d))
 }
 
-// Whether the case on the line at a place agrees. The names differ in their first letters.
+fn four_agree(s: &[u8], name: u8, at: usize) -> bool {
+    let e = edges(s, at);
+    let last = past_point(s, past_point(s, past_point(s, past_point(s, at))));
+    of_four(s, name, past_word(s, last), e)
+}
+
+// Whether the case on the line at a place agrees. The names differ in their first letters, but for `is_`, after which they do.
 fn agrees(s: &[u8], at: usize) -> bool {
     let name = byte(s, at);
     let first = past_word(s, at);
     if name == b'p' {
         return two_agree(s, first);
     }
+    if name == b'r' {
+        return removable_agrees(s, first);
+    }
     if (name == b's') | (name == b'g') {
         return four_agree(s, name, first);
+    }
+    if name == b'i' {
+        return three_agree(s, byte(s, after(after(after(at)))), first);
     }
     three_agree(s, name, first)
 }
@@ -269,7 +312,7 @@ fn run(s: &[u8]) -> Counts {
 }
 
 fn main() {
-    let mut buf = io::large_buffer();
+    let mut buf = [0u8; 131072];
     let n = io::read_full(STDIN_FILENO, &mut buf);
     let c = run(&buf[..n]);
     io::print_decimal(STDOUT_FILENO, c.cases);

@@ -17,6 +17,9 @@ use Rattle.job.specs.Limits.{POINTS, RECORDS, SEGMENTS, JOINS}
 use Rattle.job.specs.Coordinate.{wordAt}
 
 -- "tag one byte, length two bytes, value"
+abbrev pub HEADER : ℕ
+HEADER = 3
+
 abbrev pub tagOf : List ℕ → ℕ
 tagOf s = getD s 0 0
 
@@ -24,7 +27,7 @@ abbrev pub lengthOf : List ℕ → ℕ
 lengthOf s = le 2 1 s
 
 abbrev pub valueOf : List ℕ → List ℕ
-valueOf s = drop 3 s
+valueOf s = drop HEADER s
 
 -- the kinds of field by their tags, 1 to 5 (asked of no other tag)
 abbrev pub kindOf : ℕ → Kind
@@ -43,17 +46,39 @@ sizeOf kind.Record = 5
 sizeOf kind.Segment = 2
 sizeOf kind.Join = 4
 
+-- where in a value its numbers stand: a point's, a record's, a join's. Each kind's first number stands at 0
+abbrev pub Y-AT : ℕ
+Y-AT = 4
+
+abbrev pub NEXT-AT : ℕ
+NEXT-AT = 8
+
+abbrev pub PREV-AT : ℕ
+PREV-AT = 10
+
+abbrev pub RECORD-AT : ℕ
+RECORD-AT = 12
+
+abbrev pub OWNER-AT : ℕ
+OWNER-AT = 1
+
+abbrev pub FIRST-AT : ℕ
+FIRST-AT = 3
+
+abbrev pub SECOND-AT : ℕ
+SECOND-AT = 2
+
 -- the numbers of each kind's value; a coordinate as its word
 abbrev pub fieldIn : Kind → List ℕ → Field
 fieldIn kind.Settings v = Settings (le 1 0 v)
-fieldIn kind.Point v = Point (wordAt 0 v) (wordAt 4 v) (le 2 8 v) (le 2 10 v) (le 2 12 v)
-fieldIn kind.Record v = Record (le 1 0 v) (le 2 1 v) (le 2 3 v)
+fieldIn kind.Point v = Point (wordAt 0 v) (wordAt Y-AT v) (le 2 NEXT-AT v) (le 2 PREV-AT v) (le 2 RECORD-AT v)
+fieldIn kind.Record v = Record (le 1 0 v) (le 2 OWNER-AT v) (le 2 FIRST-AT v)
 fieldIn kind.Segment v = Segment (le 2 0 v)
-fieldIn kind.Join v = Join (le 2 0 v) (le 2 2 v)
+fieldIn kind.Join v = Join (le 2 0 v) (le 2 SECOND-AT v)
 
 -- row 1: "under 3 bytes remain for a field"
 abbrev pub tornHeader : List ℕ → Bool
-tornHeader s = ltb (length s) 3
+tornHeader s = ltb (length s) HEADER
 
 -- row 2: "unknown, falling or misplaced tag", settings being "first, once"; the last tag is 0 before the first field
 abbrev pub strangeTag : ℕ → ℕ → Bool
@@ -62,7 +87,7 @@ strangeTag last tag =
 
 -- row 1: "the length isn't the tag's, or the value runs past the end"
 abbrev pub tornValue : Kind → List ℕ → Bool
-tornValue k s = not (eqb (lengthOf s) (sizeOf k)) || ltb (length s) (3 + sizeOf k)
+tornValue k s = not (eqb (lengthOf s) (sizeOf k)) || ltb (length s) (HEADER + sizeOf k)
 
 -- row 2: "an unused bit set": the settings and a record's flags use bits 0 and 1
 abbrev pub strangeBits : Field → Bool
@@ -86,7 +111,7 @@ bodyOf k j s =
     cond (tornValue k s) (Refused Torn)
     (cond (strangeBits (fieldIn k (valueOf s))) (Refused Strange)
     (cond (crowded k j) (Refused Crowded)
-    (Read (fieldIn k (valueOf s)) (3 + sizeOf k))))
+    (Read (fieldIn k (valueOf s)) (HEADER + sizeOf k))))
 
 -- "per field: 1 for the header, 2 for the tag", then the rest
 unfoldable pub fieldOf : Job → List ℕ → Reading

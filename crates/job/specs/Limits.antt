@@ -20,3 +20,7 @@ JOINS = 256
 -- the largest coordinate, and the largest negated; also what a coordinate's word is raised by
 abbrev pub COORDINATE : ℕ
 COORDINATE = 1048576
+
+-- no point, no record: the largest number of two bytes
+abbrev pub NONE : ℕ
+NONE = 65535

@@ -4,7 +4,25 @@ use crate::refusal::Refusal;
 ghost use mathlib.Core.Path.{_≡_};
 ghost use Prim.Native.Nat.{_+_, _≤_};
 ghost use lib.ListN.{length};
-ghost use Rattle.job.specs.Field.{kindOf, sizeOf, fieldIn, strangeTag, tornValue, strangeBits, crowded, bodyOf, fieldOf};
+ghost use Rattle.job.specs.Field.{HEADER, kindOf, sizeOf, fieldIn, strangeTag, tornValue, strangeBits, crowded, bodyOf, fieldOf};
+
+// Tag and length stand before a value.
+pub const HEADER: usize = 3;
+
+// Where in a value its numbers stand: a point's, a record's, a join's.
+pub const Y_AT: usize = 4;
+
+pub const NEXT_AT: usize = 8;
+
+pub const PREV_AT: usize = 10;
+
+pub const RECORD_AT: usize = 12;
+
+pub const OWNER_AT: usize = 1;
+
+pub const FIRST_AT: usize = 3;
+
+pub const SECOND_AT: usize = 2;
 
 pub enum Kind {
     Settings,
@@ -58,8 +76,9 @@ fn kind_of(tag: u8) -> Kind
     }
 }
 
-fn size_of(k: Kind) -> usize
-    ensures { λ r. ⌜ (r ≡ sizeOf k) × (r ≤ 14) ⌝ }
+// How many bytes a kind's value has.
+pub fn size_of(k: Kind) -> usize
+    ensures { λ r. ⌜ (r ≡ sizeOf k) × (r ≤ sizeOf Kind.Point) ⌝ }
 {
     match k {
         Kind::Settings => 1,
@@ -71,15 +90,15 @@ fn size_of(k: Kind) -> usize
 }
 
 fn read_point(v: &[u8]) -> Field
-    requires { ⌜ 14 ≤ length (now v) ⌝ }
+    requires { ⌜ sizeOf Kind.Point ≤ length (now v) ⌝ }
     ensures { λ r. ⌜ r ≡ fieldIn Kind.Point (now (v .entry)) ⌝ }
 {
     Field::Point {
         x: numbers::read_raised(v, 0, Job::COORDINATE),
-        y: numbers::read_raised(v, 4, Job::COORDINATE),
-        next: numbers::read_u16(v, 8),
-        prev: numbers::read_u16(v, 10),
-        record: numbers::read_u16(v, 12),
+        y: numbers::read_raised(v, Y_AT, Job::COORDINATE),
+        next: numbers::read_u16(v, NEXT_AT),
+        prev: numbers::read_u16(v, PREV_AT),
+        record: numbers::read_u16(v, RECORD_AT),
     }
 }
 
@@ -94,15 +113,15 @@ fn read_value(k: Kind, v: &[u8]) -> Field
         Kind::Point => read_point(v),
         Kind::Record => Field::Record {
             flags: numbers::byte(v, 0),
-            owner: numbers::read_u16(v, 1),
-            first: numbers::read_u16(v, 3),
+            owner: numbers::read_u16(v, OWNER_AT),
+            first: numbers::read_u16(v, FIRST_AT),
         },
         Kind::Segment => Field::Segment {
             point: numbers::read_u16(v, 0),
         },
         Kind::Join => Field::Join {
             first: numbers::read_u16(v, 0),
-            second: numbers::read_u16(v, 2),
+            second: numbers::read_u16(v, SECOND_AT),
         },
     }
 }
@@ -114,12 +133,12 @@ fn strange_tag(last: u8, tag: u8) -> bool
 }
 
 fn torn_value(k: Kind, part: &[u8]) -> bool
-    requires { ⌜ 3 ≤ length (now part) ⌝ }
+    requires { ⌜ HEADER ≤ length (now part) ⌝ }
     ensures { λ r. ⌜ r ≡ tornValue k (now (part .entry)) ⌝ }
 {
     let size = size_of(k);
     let says = numbers::read_u16(part, 1) as usize;
-    (says != size) | (part.len() < 3 + size)
+    (says != size) | (part.len() < HEADER + size)
 }
 
 fn strange_bits(f: Field) -> bool
@@ -160,13 +179,13 @@ fn crowded(k: Kind, job: Job) -> bool
 }
 
 fn read_body(k: Kind, job: Job, part: &[u8]) -> Reading
-    requires { ⌜ 3 ≤ length (now part) ⌝ }
+    requires { ⌜ HEADER ≤ length (now part) ⌝ }
     ensures { λ r. ⌜ r ≡ bodyOf k job (now (part .entry)) ⌝ }
 {
     if torn_value(k, part) {
         return Reading::Refused(Refusal::Torn);
     }
-    let field = read_value(k, numbers::from(part, 3));
+    let field = read_value(k, numbers::from(part, HEADER));
     if strange_bits(field) {
         return Reading::Refused(Refusal::Strange);
     }
@@ -175,7 +194,7 @@ fn read_body(k: Kind, job: Job, part: &[u8]) -> Reading
     }
     Reading::Read {
         field,
-        length: 3 + size_of(k),
+        length: HEADER + size_of(k),
     }
 }
 
@@ -183,7 +202,7 @@ fn read_body(k: Kind, job: Job, part: &[u8]) -> Reading
 pub fn read_field(part: &[u8], job: Job) -> Reading
     ensures { λ r. ⌜ r ≡ fieldOf job (now (part .entry)) ⌝ }
 {
-    if part.len() < 3 {
+    if part.len() < HEADER {
         return Reading::Refused(Refusal::Torn);
     }
     let tag = part[0];

@@ -31,6 +31,8 @@ impl Job {
 
     pub const COORDINATE: u32 = 1048576;
 
+    pub const NONE: usize = 65535;
+
     pub fn fresh() -> Job
         ensures { λ r. ⌜ r ≡ fresh ⌝ }
     {
@@ -102,4 +104,5 @@ fn limits_agree()
     ensures { λ _. do ⌜ (← ⟦Job::SEGMENTS⟧ .entry) ≡ limit.SEGMENTS ⌝ }
     ensures { λ _. do ⌜ (← ⟦Job::JOINS⟧ .entry) ≡ limit.JOINS ⌝ }
     ensures { λ _. do ⌜ (← ⟦Job::COORDINATE⟧ .entry) ≡ limit.COORDINATE ⌝ }
+    ensures { λ _. do ⌜ (← ⟦Job::NONE⟧ .entry) ≡ limit.NONE ⌝ }
 {}

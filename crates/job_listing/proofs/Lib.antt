@@ -1,3 +1,5 @@
 -- Laws of the listing of a job.
 pub mod Listing
+pub mod Fits
+pub mod Paper
 pub mod Decided

@@ -7,12 +7,7 @@ use Rattle.job.specs.Refusal.{numberOf}
 use Rattle.job.specs.declared.refusal.Refusal.{Refusal}
 use Rattle.store.specs.Words.{view}
 use Rattle.store.specs.Sound.{Sound}
-use Rattle.store.specs.Value.{preserveCollinear}
-use Rattle.lone.specs.Forest.{ok, full, outOfTurn}
-use Rattle.acts.specs.Step.{Outcome, outcome}
-use Rattle.acts.proofs.Finished.{finish-done}
-use Rattle.turns.specs.Form.{raised, geometryOf}
-use Rattle.turns.proofs.Ready.{laws}
+use Rattle.acts.specs.Finish.{RingsEnd, ringsDone, ringsFull}
 use Rattle.paths.specs.declared.Written.{Written}
 use Rattle.paths.specs.declared.Written.the-variants.{Paths, Refused}
 use Rattle.paths.specs.Wrote.{Wrote, wrote, buildPaths64}
@@ -22,13 +17,12 @@ use Rattle.opening.specs.Open.{End, end, openOf}
 use Rattle.finishing.specs.Opened.{OpeningLeft}
 use Rattle.finishing.specs.Finish.{finishRings}
 use Rattle.finishing.specs.InOneCall.{Finished, finished, afterWriting, afterSteps, afterOpening, finishOf}
-use Rattle.finishing.proofs.Starting.{start-rep}
-use Rattle.finishing.proofs.InOneCall.{opening-left}
-use Rattle.listing.specs.Told.{Listable, told, tell}
+use Rattle.finishing.proofs.InOneCall.{done-ready, opening-left}
+use Rattle.listing.specs.Told.{Listable, Told, told, tell}
 use Rattle.listing.specs.Lines.{listingOf, refusedLine}
 use Rattle.listing.specs.declared.Listed.{Listed}
 use Rattle.listing.proofs.Answers.{answer-listable}
-use Rattle.job_listing.specs.Cutlist.{listedAs, listedFrom, cutlistOf}
+use Rattle.job_listing.specs.Cutlist.{listedAs, listedJob, listedOut, listJobOf}
 
 never : {A : Type 0} (c o : ℕ) (x : Refusal) (w t w′ t′ : List ℕ) → finished (Paths c o) w t ≡ finished (Refused x) w′ t′ → A
 never c o x w t w′ t′ e =
@@ -48,12 +42,9 @@ module _ (c o : ℕ) (w′ t′ t : List ℕ) where
           answer-listable (view w) c o t t′ s (y ∙ sym h)
       go (Refused x) f g = never c o x _ _ _ _ g
 
-  after-steps : (w : List ℕ) → OpeningLeft w → (r : Outcome) → finishRings w ≡ r → finished (Paths c o) w′ t′ ≡ afterSteps r t → Listable c o t′
-  unfolding finishRings
-  after-steps w l (outcome ok w₁) h e =
-      after-writing w₁ (finish-done (geometryOf (view w)) raised (laws (preserveCollinear (view w))) w _ w₁ (start-rep w l) h .rep .sound) (buildPaths64 (view w₁) t) refl e
-  after-steps w l (outcome full w₁) h e = never c o _ _ _ _ _ e
-  after-steps w l (outcome outOfTurn w₁) h e = never c o _ _ _ _ _ e
+  after-steps : (w : List ℕ) → OpeningLeft w → (r : RingsEnd) → finishRings w ≡ r → finished (Paths c o) w′ t′ ≡ afterSteps r t → Listable c o t′
+  after-steps w l (ringsDone w₁) h e = after-writing w₁ (done-ready w w₁ l h .sound) (buildPaths64 (view w₁) t) refl e
+  after-steps w l (ringsFull w₁) h e = never c o _ _ _ _ _ e
 
   -- what finishing leaves in the tray can be listed
   pub finish-listable : (bytes : List ℕ) (n : ℕ) → finished (Paths c o) w′ t′ ≡ finishOf bytes n t → Listable c o t′
@@ -65,15 +56,19 @@ module _ (c o : ℕ) (w′ t′ t : List ℕ) where
       go (end (opened.Refused x) w) h g = never c o x _ _ _ _ g
 
 module _ (bytes : List ℕ) (n : ℕ) (t w′ t′ : List ℕ) (r : Written) (e : finished r w′ t′ ≡ finishOf bytes n t) where
-  is-listed : listedAs r t′ ≡ cutlistOf bytes n t
-  unfolding cutlistOf
-  is-listed = ap listedFrom e
+  is-listed : (out : List ℕ) → listedJob (tell (listedAs r t′) out) w′ t′ ≡ listJobOf bytes n t out
+  unfolding listJobOf
+  is-listed out = ap (λ (f : Finished). listedOut f out) e
 
   pub may-list : (c o : ℕ) → r ≡ Paths c o → Listable c o t′
   may-list c o h = finish-listable c o w′ t′ t bytes n (subst (λ (z : Written). finished z w′ t′ ≡ finishOf bytes n t) h e)
 
-  pub all-listed : (c o : ℕ) (out out′ : List ℕ) (a : Listed) → r ≡ Paths c o → told a out′ ≡ tell (listingOf c o t′) out → told a out′ ≡ tell (cutlistOf bytes n t) out
-  all-listed c o out out′ a h g = g ∙ ap (λ (s : List ℕ). tell s out) (sym (ap (λ (z : Written). listedAs z t′) h) ∙ is-listed)
+  module _ (out out′ : List ℕ) (a : Listed) where
+    as-listed : (text : List ℕ) → listedAs r t′ ≡ text → told a out′ ≡ tell text out → listedJob (told a out′) w′ t′ ≡ listJobOf bytes n t out
+    as-listed text h g = ap (λ (x : Told). listedJob x w′ t′) (g ∙ ap (λ (s : List ℕ). tell s out) (sym h)) ∙ is-listed out
 
-  pub refusal-listed : (x : Refusal) (k : ℕ) (out out′ : List ℕ) (a : Listed) → r ≡ Refused x → k ≡ numberOf x → told a out′ ≡ tell (refusedLine k) out → told a out′ ≡ tell (cutlistOf bytes n t) out
-  refusal-listed x k out out′ a h i g = g ∙ ap (λ (m : ℕ). tell (refusedLine m) out) i ∙ ap (λ (s : List ℕ). tell s out) (sym (ap (λ (z : Written). listedAs z t′) h) ∙ is-listed)
+    pub all-listed : (c o : ℕ) → r ≡ Paths c o → told a out′ ≡ tell (listingOf c o t′) out → listedJob (told a out′) w′ t′ ≡ listJobOf bytes n t out
+    all-listed c o h g = as-listed (listingOf c o t′) (ap (λ (z : Written). listedAs z t′) h) g
+
+    pub refusal-listed : (x : Refusal) (k : ℕ) → r ≡ Refused x → k ≡ numberOf x → told a out′ ≡ tell (refusedLine k) out → listedJob (told a out′) w′ t′ ≡ listJobOf bytes n t out
+    refusal-listed x k h i g = as-listed (refusedLine k) (ap (λ (z : Written). listedAs z t′) h ∙ ap refusedLine (sym i)) g

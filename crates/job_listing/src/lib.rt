@@ -4,12 +4,13 @@ use listing::Listed;
 use paths::Written;
 ghost use mathlib.Core.Path.{_≡_};
 ghost use lib.ListN.{length};
-ghost use Rattle.listing.specs.Told.{told, tell};
-ghost use Rattle.job_listing.specs.Cutlist.{cutlistOf};
+ghost use Rattle.listing.specs.Told.{told};
+ghost use Rattle.job_listing.specs.Cutlist.{listedJob, listJobOf};
 
-// The listing of a job, in a lent slice. The first 42,005 bytes of an input are enough: `cutlist-decided` (proofs/Decided.antt).
+// The listing of a job, in a lent slice: the answer, every word and every byte left. `listing::TEXT` bytes are always room enough (`cutlist-fits`), and the first
+// `deciding::DECIDES` bytes of an input are enough (`cutlist-decided`).
 pub fn list_job(bytes: &[u8], work: &mut [u32], tray: &mut [u8], out: &mut [u8]) -> Listed
-    ensures { λ r. ⌜ told r (now (out .exit)) ≡ tell (cutlistOf (now (bytes .entry)) (length (now (work .entry))) (now (tray .entry))) (now (out .entry)) ⌝ }
+    ensures { λ r. ⌜ listedJob (told r (now (out .exit))) (now (work .exit)) (now (tray .exit)) ≡ listJobOf (now (bytes .entry)) (length (now (work .entry))) (now (tray .entry)) (now (out .entry)) ⌝ }
 {
     let r = finish(bytes, work, tray);
     match r {

@@ -1,13 +1,19 @@
--- Joins by evaluation: document 01's bench examples with joins, and the knots of one, two and repeated joins, as rows of one table.
-use Prim.Native.Nat.{ℕ, _+_}
+-- Joins by evaluation, as rows of one table: document 01's bench examples with joins, knots, and the rings and owners that joins leave. The answers are the real Rust's, by `oracle opened`.
+use Prim.Native.Nat.{ℕ, zero, suc, _+_}
 use mathlib.Core.Path.{_≡_, refl}
 use mathlib.Core.List.{List, [], _∷_, _++_}
+use mathlib.Core.Option.{Option, none, some}
 use lib.ListN.{replicate}
 use Rattle.store.specs.Field.{pt, rc, ct, NEXT, PREV, REC, OWNER, FIRST, POINTS, RECORDS, LENGTH, NONE}
-use Rattle.store.specs.Words.{cell, put, Write, write, onWords}
+use Rattle.store.specs.Words.{cell, put, Write, write, onWords, view}
+use Rattle.store.specs.Named.{ownerOf, recordsOf}
+use Rattle.store.specs.Sound.{ringAt}
 use Rattle.rings.specs.Walk.{run}
+use Rattle.job.specs.declared.refusal.Refusal.{Refusal}
+use Rattle.job.specs.Refusal.{numberOf}
 use Rattle.joins.specs.Resolve.{realOf, getRealOutrec, homeOf}
-use Rattle.joins.specs.Join.{End, end, number, relinkOf, newOutRec, nameAll, fixOutrecPts, settleOf, cutOf, splitOf, mergeOf, byRecords, joinOf, joinsFrom, processHorzJoins}
+use Rattle.joins.specs.Join.{End, end, refusalOf, relinkOf, newOutRec, nameAll, fixOutrecPts, settleOf, splitRing, splitOf, mergeOf, byRecords, joinOf, joinsFrom, processHorzJoins}
+use Rattle.joins.specs.AsRings.{goes, stays, seenFrom, firstLeft, spliced}
 
 -- from point c of record r's ring on by l, and back to f
 abbrev pub linked : ℕ → ℕ → ℕ → List ℕ → List Write
@@ -20,19 +26,41 @@ rings r [] = write (ct RECORDS) 0 r ∷ []
 rings r ([] ∷ ls) = write (rc FIRST) r NONE ∷ write (rc OWNER) r NONE ∷ rings (r + 1) ls
 rings r ((a ∷ l) ∷ ls) = write (rc FIRST) r a ∷ write (rc OWNER) r NONE ∷ linked r a a l ++ rings (r + 1) ls
 
+-- a record: its owner, and its ring from the first point in walk order
+pub record Left : Type 0 where
+  pub owner : ℕ
+  pub ring : List ℕ
+
+abbrev pub left : ℕ → List ℕ → Left
+left o c = record { owner = o; ring = c }
+
+-- a refusal's number; or the records
+pub data Answer : Type 0 where
+  refused : ℕ → Answer
+  joined : List Left → Answer
+
+-- records i to i + n - 1
+abbrev pub leftFrom : List ℕ → ℕ → ℕ → List Left
+leftFrom w i zero = []
+leftFrom w i (suc n) = left (ownerOf w i) (ringAt (view w) i) ∷ leftFrom w (i + 1) n
+
+abbrev pub answerBy : List ℕ → Option Refusal → Answer
+answerBy w none = joined (leftFrom w 0 (recordsOf w))
+answerBy w (some r) = refused (numberOf r)
+
+abbrev pub answerOf : End → Answer
+answerOf (end t w) = answerBy w (refusalOf t)
+
 -- a job of rings with `points` points, its joins two by two, and the answer
 pub record Example : Type 0 where
   pub points : ℕ
   pub job : List (List ℕ)
   pub joins : List ℕ
   pub many : ℕ
-  pub answer : ℕ
+  pub answer : Answer
 
-abbrev pub numberOf : End → ℕ
-numberOf (end t w) = number t
-
-unfoldable pub answered : Example → ℕ
-answered e = numberOf (processHorzJoins (e .many) (e .joins) (onWords (replicate LENGTH 0) (write (ct POINTS) 0 (e .points) ∷ rings 0 (e .job))))
+unfoldable pub answered : Example → Answer
+answered e = answerOf (processHorzJoins (e .many) (e .joins) (onWords (replicate LENGTH 0) (write (ct POINTS) 0 (e .points) ∷ rings 0 (e .job))))
 
 abbrev pub Holds : List Example → Type 0
 Holds [] = Unit {0}
@@ -41,22 +69,39 @@ Holds (e ∷ l) = (answered e ≡ e .answer) × Holds l
 abbrev pub triangle : List ℕ
 triangle = 0 ∷ 1 ∷ 2 ∷ []
 
+abbrev pub other : List ℕ
+other = 3 ∷ 4 ∷ 5 ∷ []
+
+abbrev pub hexagon : List ℕ
+hexagon = 0 ∷ 1 ∷ 2 ∷ 3 ∷ 4 ∷ 5 ∷ []
+
 unfoldable pub examples : List Example
 examples =
     -- "join of a point with its next: 9"
-    record { points = 3; job = triangle ∷ []; joins = 0 ∷ 1 ∷ []; many = 1; answer = 9 }
+    record { points = 3; job = triangle ∷ []; joins = 0 ∷ 1 ∷ []; many = 1; answer = refused 9 }
     -- "with itself, on three points: accepted"
-    ∷ record { points = 3; job = triangle ∷ []; joins = 0 ∷ 0 ∷ []; many = 1; answer = 0 }
+    ∷ record { points = 3; job = triangle ∷ []; joins = 0 ∷ 0 ∷ []; many = 1; answer = joined (left NONE (0 ∷ []) ∷ left 0 (1 ∷ 2 ∷ []) ∷ []) }
     -- a one-point ring joined with itself
-    ∷ record { points = 1; job = (0 ∷ []) ∷ []; joins = 0 ∷ 0 ∷ []; many = 1; answer = 9 }
+    ∷ record { points = 1; job = (0 ∷ []) ∷ []; joins = 0 ∷ 0 ∷ []; many = 1; answer = refused 9 }
     -- a two-point ring joined with itself
-    ∷ record { points = 2; job = (0 ∷ 1 ∷ []) ∷ []; joins = 0 ∷ 0 ∷ []; many = 1; answer = 0 }
+    ∷ record { points = 2; job = (0 ∷ 1 ∷ []) ∷ []; joins = 0 ∷ 0 ∷ []; many = 1; answer = joined (left NONE (0 ∷ []) ∷ left 0 (1 ∷ []) ∷ []) }
+    -- two points of one ring, whose first point stays
+    ∷ record { points = 6; job = hexagon ∷ []; joins = 1 ∷ 4 ∷ []; many = 1; answer = joined (left NONE (0 ∷ 1 ∷ 4 ∷ 5 ∷ []) ∷ left 0 (2 ∷ 3 ∷ []) ∷ []) }
+    -- whose first point goes, so that op1 is the first
+    ∷ record { points = 6; job = hexagon ∷ []; joins = 4 ∷ 2 ∷ []; many = 1; answer = joined (left NONE (4 ∷ 2 ∷ 3 ∷ []) ∷ left 0 (5 ∷ 0 ∷ 1 ∷ []) ∷ []) }
     -- two rings
-    ∷ record { points = 6; job = triangle ∷ (3 ∷ 4 ∷ 5 ∷ []) ∷ []; joins = 0 ∷ 4 ∷ []; many = 1; answer = 0 }
+    ∷ record { points = 6; job = triangle ∷ other ∷ []; joins = 0 ∷ 4 ∷ []; many = 1; answer = joined (left NONE (0 ∷ 4 ∷ 5 ∷ 3 ∷ 1 ∷ 2 ∷ []) ∷ left 0 [] ∷ []) }
+    -- two rings, then the one that they have become
+    ∷ record { points = 6; job = triangle ∷ other ∷ []; joins = 0 ∷ 4 ∷ 5 ∷ 2 ∷ []; many = 2; answer = joined (left NONE (0 ∷ 4 ∷ 5 ∷ 2 ∷ []) ∷ left 0 [] ∷ left 0 (3 ∷ 1 ∷ []) ∷ []) }
     -- the same join twice
-    ∷ record { points = 6; job = triangle ∷ (3 ∷ 4 ∷ 5 ∷ []) ∷ []; joins = 0 ∷ 4 ∷ 0 ∷ 4 ∷ []; many = 2; answer = 9 }
+    ∷ record { points = 6; job = triangle ∷ other ∷ []; joins = 0 ∷ 4 ∷ 0 ∷ 4 ∷ []; many = 2; answer = refused 9 }
     ∷ []
 
 pub bench : Holds examples
-unfolding examples answered number joinsFrom joinOf byRecords splitOf cutOf settleOf fixOutrecPts nameAll newOutRec relinkOf mergeOf homeOf getRealOutrec realOf run cell put
-bench = (refl, (refl, (refl, (refl, (refl, (refl, tt))))))
+unfolding examples answered joinsFrom joinOf byRecords splitOf splitRing settleOf fixOutrecPts nameAll newOutRec relinkOf mergeOf homeOf getRealOutrec realOf run cell put
+bench = (refl, (refl, (refl, (refl, (refl, (refl, (refl, (refl, (refl, tt)))))))))
+
+-- ---- the same by lists alone: what goes, what stays, what is spliced
+
+pub listed : (goes 1 4 hexagon ≡ 2 ∷ 3 ∷ []) × (seenFrom 0 (stays 1 4 hexagon) ≡ 0 ∷ 1 ∷ 4 ∷ 5 ∷ []) × (goes 4 2 hexagon ≡ 5 ∷ 0 ∷ 1 ∷ []) × (seenFrom 4 (stays 4 2 hexagon) ≡ 4 ∷ 2 ∷ 3 ∷ []) × (firstLeft 4 (goes 4 2 hexagon) 0 ≡ 4) × (spliced 0 4 triangle other ≡ 0 ∷ 4 ∷ 5 ∷ 3 ∷ 1 ∷ 2 ∷ [])
+listed = (refl, refl, refl, refl, refl, refl)

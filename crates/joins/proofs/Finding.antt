@@ -5,6 +5,7 @@ use mathlib.Core.Logic.{_≢_}
 use mathlib.Core.List.{List, [], _∷_}
 use native.Mathlib.Omega.{arith}
 use lib.ListN.{length}
+use Rattle.job.specs.Limits as limit
 use Rattle.rings.specs.Links.{All}
 use Rattle.store.specs.Field.{NONE, LENGTH}
 use Rattle.store.specs.Words.{view}
@@ -18,14 +19,14 @@ use Rattle.joins.proofs.Homes.{home-of}
 -- resolving is a function of the words
 pub real-res : (w : List ℕ) → Ready w → (r q : ℕ) → Resolves (view w) r q → getRealOutrec w r ≡ q
 unfolding getRealOutrec
-real-res w o r q z = real-is (firstOf w) (ownerOf w) 513 r (z .via) q (z .path) (z .some) (omega (arith, res-short (view w) r q z, o .resolved .few-records))
+real-res w o r q z = real-is (firstOf w) (ownerOf w) (suc limit.RECORDS) r (z .via) q (z .path) (z .some) (omega (arith, res-short (view w) r q z, o .resolved .few-records))
 
 pub record Going (w : List ℕ) (r q f : ℕ) : Type 0 where
   pub at : Resolving w q
   pub is : f ≡ firstOf w q
   pub goal : getRealOutrec w r ≡ at .to
 
-pub low : (w : List ℕ) (r : ℕ) → Resolving w r → r < 512
+pub low : (w : List ℕ) (r : ℕ) → Resolving w r → r < limit.RECORDS
 low w r z = omega (arith, res-low (view w) r (z .to) (z .res), z .ready .resolved .few-records)
 
 pub long : (w : List ℕ) (r : ℕ) → Resolving w r → LENGTH ≤ length w
@@ -46,31 +47,31 @@ module _ (w : List ℕ) (q p : ℕ) (z : Resolving w q) (e : firstOf w q ≡ NON
       let g : All (λ x. x < recordsOf w) (q ∷ h .0) = rw (h .1) at (z .res .low) in
       rw d (record { via = h .0; path = h .2; low = g .1; real = z .res .real; some = z .res .some })
 
-  fewer : hops (firstOf w) (ownerOf w) 513 p < hops (firstOf w) (ownerOf w) 513 q
+  fewer : hops (firstOf w) (ownerOf w) (suc limit.RECORDS) p < hops (firstOf w) (ownerOf w) (suc limit.RECORDS) q
   fewer =
       let h = hop (firstOf w) (ownerOf w) q (z .to) (z .res .via) (z .res .path) (z .res .some) e in
       let s = res-short (view w) q (z .to) (z .res) in
-      let k : recordsOf w ≤ 512 = z .ready .resolved .few-records in
-      let a = hops-is (firstOf w) (ownerOf w) 513 q (z .res .via) (z .to) (z .res .path) (z .res .some) (omega arith) in
+      let k : recordsOf w ≤ limit.RECORDS = z .ready .resolved .few-records in
+      let a = hops-is (firstOf w) (ownerOf w) (suc limit.RECORDS) q (z .res .via) (z .to) (z .res .path) (z .res .some) (omega arith) in
       let n : length (z .res .via) ≡ suc (length (h .0)) = ap length (h .1) in
-      let b = hops-is (firstOf w) (ownerOf w) 513 (ownerOf w q) (h .0) (z .to) (h .2) (z .res .some) (omega arith) in
+      let b = hops-is (firstOf w) (ownerOf w) (suc limit.RECORDS) (ownerOf w q) (h .0) (z .to) (h .2) (z .res .some) (omega arith) in
       rw d (omega arith)
 
 module _ (w : List ℕ) (r q f p : ℕ) (g : Going w r q f) (e : f ≡ NONE) (d : p ≡ ownerOf w q) where
   next : Resolving w p
   next = record { ready = g .at .ready; to = g .at .to; res = on w q p (g .at) (sym (g .is) ∙ e) d }
 
-  pub next-low : p < 512
+  pub next-low : p < limit.RECORDS
   next-low = low w p next
 
   pub again : (h : ℕ) → h ≡ firstOf w p → Going w r p h
   unfolding next
   again h i = record { at = next; is = i; goal = g .goal }
 
-  pub falls : hops (firstOf w) (ownerOf w) 513 p < hops (firstOf w) (ownerOf w) 513 q
+  pub falls : hops (firstOf w) (ownerOf w) (suc limit.RECORDS) p < hops (firstOf w) (ownerOf w) (suc limit.RECORDS) q
   falls = fewer w q p (g .at) (sym (g .is) ∙ e) d
 
-pub going-low : (w : List ℕ) (r q f : ℕ) → Going w r q f → q < 512
+pub going-low : (w : List ℕ) (r q f : ℕ) → Going w r q f → q < limit.RECORDS
 going-low w r q f g = low w q (g .at)
 
 pub done : (w : List ℕ) (r q f : ℕ) → Going w r q f → f ≢ NONE → q ≡ getRealOutrec w r
@@ -82,7 +83,7 @@ done w r q f g e = go (g .at .res .via) (g .at .res .path)
 
 -- ---- the record of a point
 
-pub point-low : (w : List ℕ) (p : ℕ) → Point w p → p < 2048
+pub point-low : (w : List ℕ) (p : ℕ) → Point w p → p < limit.POINTS
 point-low w p t = omega (arith, t .low, t .ready .resolved .few-points)
 
 pub point-long : (w : List ℕ) (p : ℕ) → Point w p → LENGTH ≤ length w

@@ -1,11 +1,12 @@
 -- A new point keeps the invariant: the next free place goes in before q, with the coordinates and the record of a point of q's ring.
-use Prim.Native.Nat.{ℕ, suc, _+_, _≤_, _<_}
+use Prim.Native.Nat.{ℕ, suc, _+_, _*_, _≤_, _<_}
 use mathlib.Core.Path.{_≡_, ap, _∙_, sym, subst}
 use mathlib.Core.Logic.{_≢_}
 use mathlib.Core.List.{List, _∷_}
 use native.Mathlib.Omega.{arith}
 use native.Mathlib.Decide.{ℕ-discrete, decLt}
 use borrow.Author.Tests.{eq-eqb, ne-eqb}
+use Rattle.job.specs.Limits as limit
 use Rattle.rings.specs.Count.{one, occ}
 use Rattle.rings.specs.Relink.{Inserted}
 use Rattle.rings.specs.Table.{Table, with, Starts, nowhere, on-it}
@@ -34,7 +35,7 @@ pub record Grown (s u : Store) (q like : ℕ) : Type 0 where
   pub y-new : u (pt Y) (pts s) ≡ s (pt Y) like
   pub y-else : (x : ℕ) → x ≢ pts s → u (pt Y) x ≡ s (pt Y) x
 
-module _ (s u : Store) (o : Resolved s) (i q like : ℕ) (room : pts s < 2048) (a : Lives s i q) (b : Lives s i like) (c : Grown s u q like) where
+module _ (s u : Store) (o : Resolved s) (i q like : ℕ) (room : pts s < limit.POINTS) (a : Lives s i q) (b : Lives s i like) (c : Grown s u q like) where
   pub grown-res : (x t : ℕ) → Resolves s x t → Resolves u x t
   grown-res x t z =
       record {
@@ -108,12 +109,12 @@ module _ (s u : Store) (o : Resolved s) (i q like : ℕ) (room : pts s < 2048) (
       spots k h (yes e) = omega (arith, subst (λ (x : ℕ). one k x ≡ 1) e (one-here k))
       spots k h (no d) = omega (arith, o .placed k (omega arith))
 
-      xs : (k : ℕ) → k < suc (pts s) → Dec (k ≡ pts s) → u (pt X) k ≤ 2097152
-      xs k h (yes e) = subst (λ (x : ℕ). u (pt X) x ≤ 2097152) (sym e) (rw (c .x-new) (o .x-in like (b .bound)))
+      xs : (k : ℕ) → k < suc (pts s) → Dec (k ≡ pts s) → u (pt X) k ≤ 2 * limit.COORDINATE
+      xs k h (yes e) = subst (λ (x : ℕ). u (pt X) x ≤ 2 * limit.COORDINATE) (sym e) (rw (c .x-new) (o .x-in like (b .bound)))
       xs k h (no d) = rw (c .x-else k d) (o .x-in k (omega arith))
 
-      ys : (k : ℕ) → k < suc (pts s) → Dec (k ≡ pts s) → u (pt Y) k ≤ 2097152
-      ys k h (yes e) = subst (λ (x : ℕ). u (pt Y) x ≤ 2097152) (sym e) (rw (c .y-new) (o .y-in like (b .bound)))
+      ys : (k : ℕ) → k < suc (pts s) → Dec (k ≡ pts s) → u (pt Y) k ≤ 2 * limit.COORDINATE
+      ys k h (yes e) = subst (λ (x : ℕ). u (pt Y) x ≤ 2 * limit.COORDINATE) (sym e) (rw (c .y-new) (o .y-in like (b .bound)))
       ys k h (no d) = rw (c .y-else k d) (o .y-in k (omega arith))
 
       homes : (j k : ℕ) → j < recs s → 0 < occ k (ringAt u j) → Resolves u (u (pt REC) k) j

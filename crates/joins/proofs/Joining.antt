@@ -7,6 +7,7 @@ use mathlib.Core.List.{List, [], _∷_, _++_}
 use native.Mathlib.Omega.{arith}
 use native.Mathlib.Decide.{ℕ-discrete, decLt}
 use borrow.Author.Tests.{eq-eqb, ne-eqb}
+use Rattle.job.specs.Limits as limit
 use Rattle.rings.specs.Count.{occ}
 use Rattle.rings.specs.Walk.{walk, Whole}
 use Rattle.rings.specs.Relink.{Crossed}
@@ -16,7 +17,7 @@ use Rattle.rings.proofs.Counting.{all-in, in-all}
 use Rattle.rings.proofs.Members.{one-is, occ-append}
 use Rattle.rings.proofs.Walking.{run-agree}
 use Rattle.rings.proofs.Splicing.{occ-halves, occ-spliced}
-use Rattle.rings.proofs.Tables.{table-cut, total-cut, table-splice, total-splice, walked, table-walked, total-walked, elsewhere}
+use Rattle.rings.proofs.Tables.{with-here, with-else, table-cut, total-cut, table-splice, total-splice, walked, table-walked, total-walked, elsewhere}
 use Rattle.store.specs.Field.{pt, rc, X, Y, NEXT, PREV, REC, FLAGS, OWNER, FIRST, NONE}
 use Rattle.store.specs.Words.{Store}
 use Rattle.store.specs.Sound.{pts, recs, ringless, ringAt, isOpen, total}
@@ -78,7 +79,7 @@ ring-kept s u j e f = rw e (go (ringless s j) refl)
   where
     go : (z : Bool) → ringless s j ≡ z → cond z [] (walk (u (pt NEXT)) (s (rc FIRST) j)) ≡ cond z [] (walk (s (pt NEXT)) (s (rc FIRST) j))
     go true d = refl
-    go false d = run-agree (s (pt NEXT)) (u (pt NEXT)) (s (rc FIRST) j) 2048 (s (rc FIRST) j) (λ k p. f k (rw d p))
+    go false d = run-agree (s (pt NEXT)) (u (pt NEXT)) (s (rc FIRST) j) limit.POINTS (s (rc FIRST) j) (λ k p. f k (rw d p))
 
 -- a point that lives on a closed ring lives on no open one
 shut-by : (u : Store) (i k : ℕ) → Lives u i k → isOpen u i ≡ false → Shut u k
@@ -87,7 +88,11 @@ shut-by u i k z e j y = subst (λ (x : ℕ). isOpen u x ≡ false) (res-same u (
 differ : (s : Store) (i j : ℕ) → isOpen s i ≡ true → isOpen s j ≡ false → i ≢ j
 differ s i j a b e = let z : _≡_ {A = Bool} true false = sym a ∙ ap (isOpen s) e ∙ b in let y : _≡_ {A = ℕ} 0 1 = cc in omega arith
 
-module _ (s u : Store) (o : Resolved s) (a b i : ℕ) (l r : List ℕ) (hi : i < recs s) (room : recs s < 512) (fi : s (rc FIRST) i ≢ NONE)
+-- points of two rings differ
+apart : (s : Store) → Resolved s → (m t : ℕ) → m < recs s → t < recs s → t ≢ m → (k x : ℕ) → 0 < occ k (ringAt s t) → 0 < occ x (ringAt s m) → k ≢ x
+apart s o m t hm ht d k x p y e = omega (arith, subst (λ (v : ℕ). occ v (ringAt s t) ≡ 0) (sym e) (elsewhere (s (pt NEXT)) (s (pt PREV)) (pts s) (recs s) (ringAt s) (table s o) m t x hm ht (λ v. d (sym v)) y))
+
+module _ (s u : Store) (o : Resolved s) (a b i : ℕ) (l r : List ℕ) (hi : i < recs s) (room : recs s < limit.RECORDS) (fi : s (rc FIRST) i ≢ NONE)
     (w : Whole (s (pt NEXT)) (s (pt PREV)) (pts s) (a ∷ l ++ b ∷ r)) (occs : (k : ℕ) → occ k (a ∷ l ++ b ∷ r) ≡ occ k (ringAt s i)) (c : Split s u a b i l r) where
   halves : (k : ℕ) → occ k (a ∷ l ++ b ∷ r) ≡ occ k (b ∷ l) + occ k (a ∷ r)
   halves k = occ-halves (s (pt NEXT)) (s (pt PREV)) (u (pt NEXT)) (u (pt PREV)) a b (c .crossed) (pts s) k l r
@@ -214,6 +219,12 @@ module _ (s u : Store) (o : Resolved s) (a b i : ℕ) (l r : List ℕ) (hi : i <
           more (inl e) = inl e
           more (inr e) = inr (omega (arith, c .records))
 
+  -- every other ring stays
+  pub split-others : (j : ℕ) → j < recs s → j ≢ i → ringAt u j ≡ ringAt s j
+  split-others j h d =
+      ring-kept s u j (c .first-else j d (λ z. omega arith))
+      (λ k p. c .crossed .next-else k (apart s o i j hi h d k a p (omega (arith, occs a, one-is a a refl))) (apart s o i j hi h d k b p (omega (arith, occs b, halves b, one-is b b refl))))
+
   -- where record i is closed
   pub split-opened : isOpen s i ≡ false → Opened s u
   split-opened shut =
@@ -222,9 +233,7 @@ module _ (s u : Store) (o : Resolved s) (a b i : ℕ) (l r : List ℕ) (hi : i <
         points = omega (arith, c .points);
         flags = λ j h. c .flags-else j (λ z. omega arith);
         new = λ j h g. let e : j ≡ recs s = omega (arith, c .records) in rw (e, c .flags-new);
-        rings = λ j h g.
-            let d : j ≢ i = differ s j i g shut in
-            ring-kept s u j (c .first-else j d (λ z. omega arith)) (λ k p. c .crossed .next-else k (off j h d k a p (omega (arith, occs a, one-is a a refl))) (off j h d k b p (omega (arith, occs b, halves b, one-is b b refl))));
+        rings = λ j h g. split-others j h (differ s j i g shut);
         xs = λ k h. c .xs k;
         ys = λ k h. c .ys k;
         shut = λ k h g.
@@ -232,9 +241,6 @@ module _ (s u : Store) (o : Resolved s) (a b i : ℕ) (l r : List ℕ) (hi : i <
             go k (z .0) (z .1) (g (z .0) (z .1)) (ℕ-discrete (z .0) i);
       }
     where
-      off : (j : ℕ) → j < recs s → j ≢ i → (k x : ℕ) → 0 < occ k (ringAt s j) → 0 < occ x (ringAt s i) → k ≢ x
-      off j h d k x p y e = omega (arith, subst (λ (v : ℕ). occ v (ringAt s j) ≡ 0) (sym e) (elsewhere (s (pt NEXT)) (s (pt PREV)) (pts s) (recs s) (ringAt s) (table s o) i j x hi h (λ v. d (sym v)) y))
-
       closed : (j : ℕ) → j < recs s → isOpen s j ≡ false → isOpen u j ≡ false
       closed j h e = rw (c .flags-else j (λ z. omega arith)) e
 
@@ -352,6 +358,17 @@ module _ (s u : Store) (o : Resolved s) (a b i j : ℕ) (l r : List ℕ) (ij : i
       owners t h (yes e) = inr (subst (λ (x : ℕ). u (rc OWNER) x < recs s) (sym e) (rw (c .owner-gone) hi))
       owners t h (no d) = rw (c .owner-else t d) (o .owner-in t h)
 
+  -- the ring of both
+  pub merge-whole : Whole (u (pt NEXT)) (u (pt PREV)) (pts s) (a ∷ r ++ b ∷ l)
+  unfolding joined
+  merge-whole = subst (Whole (u (pt NEXT)) (u (pt PREV)) (pts s)) (with-else (with (ringAt s) i (a ∷ r ++ b ∷ l)) j [] i ij ∙ with-here (ringAt s) i (a ∷ r ++ b ∷ l)) (splice .whole i hi)
+
+  -- every other ring stays
+  pub merge-others : (t : ℕ) → t < recs s → t ≢ i → t ≢ j → ringAt u t ≡ ringAt s t
+  merge-others t h d e =
+      ring-kept s u t (c .first-else t e)
+      (λ k p. c .crossed .next-else k (apart s o i t hi h d k a p (omega (arith, ones a, one-is a a refl))) (apart s o j t hj h e k b p (omega (arith, twos b, one-is b b refl))))
+
   -- where both records are closed
   pub merge-opened : isOpen s i ≡ false → isOpen s j ≡ false → Opened s u
   merge-opened shut-i shut-j =
@@ -360,11 +377,7 @@ module _ (s u : Store) (o : Resolved s) (a b i j : ℕ) (l r : List ℕ) (ij : i
         points = omega (arith, c .points);
         flags = λ t h. c .flags t;
         new = λ t h g. absurd (omega (arith, c .records));
-        rings = λ t h g.
-            let d : t ≢ i = differ s t i g shut-i in
-            let e : t ≢ j = differ s t j g shut-j in
-            ring-kept s u t (c .first-else t e)
-            (λ k p. c .crossed .next-else k (off i t hi h d k a p (omega (arith, ones a, one-is a a refl))) (off j t hj h e k b p (omega (arith, twos b, one-is b b refl))));
+        rings = λ t h g. merge-others t h (differ s t i g shut-i) (differ s t j g shut-j);
         xs = λ k h. c .xs k;
         ys = λ k h. c .ys k;
         shut = λ k h g.
@@ -372,9 +385,6 @@ module _ (s u : Store) (o : Resolved s) (a b i j : ℕ) (l r : List ℕ) (ij : i
             go k (z .0) (z .1) (g (z .0) (z .1)) (ℕ-discrete (z .0) j);
       }
     where
-      off : (m t : ℕ) → m < recs s → t < recs s → t ≢ m → (k x : ℕ) → 0 < occ k (ringAt s t) → 0 < occ x (ringAt s m) → k ≢ x
-      off m t hm ht d k x p y e = omega (arith, subst (λ (v : ℕ). occ v (ringAt s t) ≡ 0) (sym e) (elsewhere (s (pt NEXT)) (s (pt PREV)) (pts s) (recs s) (ringAt s) (table s o) m t x hm ht (λ v. d (sym v)) y))
-
       closed : (t : ℕ) → isOpen s t ≡ false → isOpen u t ≡ false
       closed t e = rw (c .flags t) e
 

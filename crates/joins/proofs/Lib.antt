@@ -4,10 +4,11 @@ pub mod Homes
 pub mod Joining
 pub mod Growing
 pub mod Naming
-pub mod Cutting
+pub mod Cases
 pub mod Finding
 pub mod Renaming
 pub mod Turns
 pub mod Open
-pub mod Tested
+pub mod AsRings
+pub mod Sounding
 pub mod Bench

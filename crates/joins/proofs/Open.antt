@@ -8,15 +8,16 @@ use lib.Dec.{eqb, ltb}
 use lib.ListN.{getD}
 use native.Mathlib.Decide.{decLt}
 use borrow.Author.Tests.{eqb-true, eqb-false, ltb-true}
+use Rattle.job.specs.Limits as limit
 use Rattle.store.specs.Words.{Store, view}
 use Rattle.store.specs.Named.{nextOf, recordsOf}
 use Rattle.store.specs.Sound.{recs, isOpen}
 use Rattle.joins.specs.declared.Joined.the-variants.{Done, Knot, Full}
 use Rattle.joins.specs.Resolve.{homeOf}
-use Rattle.joins.specs.Join.{End, end, cutOf, splitOf, mergeOf, byRecords, joinOf, follow, joinsFrom, processHorzJoins}
+use Rattle.joins.specs.Join.{End, end, splitRing, splitOf, mergeOf, byRecords, joinOf, follow, joinsFrom, processHorzJoins}
 use Rattle.joins.specs.Needs.{Points, Pair, Joins}
 use Rattle.joins.proofs.Joining.{Shut, Opened}
-use Rattle.joins.proofs.Cutting.{merge-open, cut-open}
+use Rattle.joins.proofs.Cases.{merge-open, split-ring-open}
 use Rattle.joins.proofs.Turns.{Still, words, pair-same, points-pair, join-kept}
 
 pub opened-self : (s : Store) → Opened s s
@@ -51,10 +52,10 @@ opened-on s u v a b =
 
 split-open : (w : List ℕ) (a c i : ℕ) → Pair w a c i i → isOpen (view w) i ≡ false → Opened (view w) (view (words (splitOf w a c i)))
 unfolding splitOf
-split-open w a c i t e = go (ltb (recordsOf w) 512) refl
+split-open w a c i t e = go (ltb (recordsOf w) limit.RECORDS) refl
   where
-    go : (b : Bool) → ltb (recordsOf w) 512 ≡ b → Opened (view w) (view (words (cond b (end Done (cutOf w a c i (recordsOf w))) (end Full w))))
-    go true f = cut-open w a c i (recordsOf w) t refl (ltb-true _ _ f) e
+    go : (b : Bool) → ltb (recordsOf w) limit.RECORDS ≡ b → Opened (view w) (view (words (cond b (end Done (splitRing w a c i (recordsOf w))) (end Full w))))
+    go true f = split-ring-open w a c i (recordsOf w) t refl (ltb-true _ _ f) e
     go false f = opened-self (view w)
 
 by-open : (w : List ℕ) (a c i j : ℕ) → Pair w a c i j → isOpen (view w) i ≡ false → isOpen (view w) j ≡ false → Opened (view w) (view (words (byRecords w a c i j)))

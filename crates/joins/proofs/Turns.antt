@@ -8,17 +8,18 @@ use native.Mathlib.Omega.{arith}
 use lib.Dec.{eqb, ltb}
 use lib.ListN.{length, getD}
 use borrow.Author.Tests.{eq-eqb, ne-eqb, eqb-true, eqb-false, lt-ltb, le-ltb, ltb-true}
-use Rattle.store.specs.Field.{pt, rc, REC, FIRST, LENGTH}
+use Rattle.job.specs.Limits as limit
+use Rattle.store.specs.Field.{pt, rc, REC, OWNER, FIRST, NONE, LENGTH}
 use Rattle.store.specs.Words.{put}
 use Rattle.store.specs.Named.{nextOf, recOf, firstOf, pointsOf, recordsOf}
 use Rattle.joins.specs.declared.Joined.{Joined}
 use Rattle.joins.specs.declared.Joined.the-variants.{Done, Knot, Full}
 use Rattle.joins.specs.Resolve.{homeOf}
 use Rattle.joins.specs.Resolved.{Ready}
-use Rattle.joins.specs.Join.{End, end, relinkOf, newOutRec, fixOutrecPts, settleOf, cutOf, splitOf, mergeOf, byRecords, joinOf, follow, joinsFrom, processHorzJoins}
+use Rattle.joins.specs.Join.{End, end, relinkOf, newOutRec, fixOutrecPts, settleOf, splitRing, splitOf, mergeOf, byRecords, joinOf, follow, joinsFrom, processHorzJoins}
 use Rattle.joins.specs.Needs.{Point, Points, Four, Ringed, Pair, Joins}
 use Rattle.joins.proofs.Finding.{at-home}
-use Rattle.joins.proofs.Cutting.{four, low-one, low-two, merge-ready, merge-points, parts, new-ring, first-low, cut-ready, cut-points}
+use Rattle.joins.proofs.Cases.{four, low-one, low-two, merge-ready, merge-points, parts, new-ring, first-low, split-ring-ready, split-ring-points}
 
 pub settle-yes : (w x y : List ℕ) (i k a f r : ℕ) → f ≡ firstOf w i → r ≡ recOf w f → r ≡ k → x ≡ put (rc FIRST) w i a → y ≡ put (pt REC) x a i → y ≡ settleOf w i k a
 unfolding settleOf
@@ -36,45 +37,51 @@ module _ (w : List ℕ) (a c i j : ℕ) (t : Pair w a c i j) where
   pub pair-four : Four w a c
   pair-four = four w a c i j t
 
-  pub pair-one : a < 2048
+  pub pair-one : a < limit.POINTS
   pair-one = four w a c i j t .one
 
   pub pair-long : LENGTH ≤ length w
   pair-long = t .ready .long
 
-  pub pair-next : (n : ℕ) → n ≡ nextOf w a → n < 2048
+  pub pair-next : (n : ℕ) → n ≡ nextOf w a → n < limit.POINTS
   pair-next n e = rw e (four w a c i j t .next)
 
-  pub pair-low-one : i < 512
+  pub pair-low-one : i < limit.RECORDS
   pair-low-one = low-one w a c i j t
 
-  pub pair-low-two : j < 512
+  pub pair-low-two : j < limit.RECORDS
   pair-low-two = low-two w a c i j t
 
 -- ---- one record
 
-module _ (w x y : List ℕ) (a c i k n : ℕ) (t : Pair w a c i i) (kn : k ≡ recordsOf w) (kf : k < 512) (ne : n ≡ nextOf w a) (xe : x ≡ relinkOf w a c) (ye : y ≡ newOutRec x k n i) where
-  pub cut-ring : Ringed y k
-  cut-ring = rw (ye, xe, ne) (new-ring w a c i k t kn kf (parts w a c i t))
+module _ (w x y : List ℕ) (a c i k n : ℕ) (t : Pair w a c i i) (kn : k ≡ recordsOf w) (kf : k < limit.RECORDS) (ne : n ≡ nextOf w a) (xe : x ≡ relinkOf w a c) (ye : y ≡ newOutRec x k n i) where
+  pub split-ring-new : Ringed y k
+  split-ring-new = rw (ye, xe, ne) (new-ring w a c i k t kn kf (parts w a c i t))
 
-  pub cut-first : (z : List ℕ) → z ≡ fixOutrecPts y k → firstOf z i < 2048
-  cut-first z e = rw (e, ye, xe, ne) (first-low w a c i k t kn kf (parts w a c i t))
+  pub split-ring-first : (z : List ℕ) → z ≡ fixOutrecPts y k → firstOf z i < limit.POINTS
+  split-ring-first z e = rw (e, ye, xe, ne) (first-low w a c i k t kn kf (parts w a c i t))
 
-  pub cut-done : (z u : List ℕ) → z ≡ fixOutrecPts y k → u ≡ settleOf z i k a → u ≡ cutOf w a c i k
-  unfolding cutOf
-  cut-done z u e f = cc
+  pub split-ring-done : (z u : List ℕ) → z ≡ fixOutrecPts y k → u ≡ settleOf z i k a → u ≡ splitRing w a c i k
+  unfolding splitRing
+  split-ring-done z u e f = cc
 
-pub split-yes : (w x : List ℕ) (a c i k : ℕ) → k ≡ recordsOf w → k < 512 → x ≡ cutOf w a c i k → end Done x ≡ splitOf w a c i
+pub split-yes : (w x : List ℕ) (a c i k : ℕ) → k ≡ recordsOf w → k < limit.RECORDS → x ≡ splitRing w a c i k → end Done x ≡ splitOf w a c i
 unfolding splitOf
 split-yes w x a c i k e h f =
-    let t : ltb (recordsOf w) 512 ≡ true = lt-ltb (recordsOf w) 512 (omega arith) in
+    let t : ltb (recordsOf w) limit.RECORDS ≡ true = lt-ltb (recordsOf w) limit.RECORDS (omega arith) in
     cc
 
-pub split-no : (w : List ℕ) (a c i k : ℕ) → k ≡ recordsOf w → 512 ≤ k → end Full w ≡ splitOf w a c i
+pub split-no : (w : List ℕ) (a c i k : ℕ) → k ≡ recordsOf w → limit.RECORDS ≤ k → end Full w ≡ splitOf w a c i
 unfolding splitOf
 split-no w a c i k e h =
-    let t : ltb (recordsOf w) 512 ≡ false = le-ltb (recordsOf w) 512 (omega arith) in
+    let t : ltb (recordsOf w) limit.RECORDS ≡ false = le-ltb (recordsOf w) limit.RECORDS (omega arith) in
     cc
+
+-- ---- two records
+
+pub merge-done : (w x y z : List ℕ) (a c i j : ℕ) → x ≡ relinkOf w a c → y ≡ put (rc FIRST) x j NONE → z ≡ put (rc OWNER) y j i → z ≡ mergeOf w a c i j
+unfolding mergeOf
+merge-done w x y z a c i j e f g = cc
 
 -- ---- by records
 
@@ -102,7 +109,7 @@ module _ (w : List ℕ) (a c : ℕ) (t : Points w a c) where
   pub points-two : Point w c
   points-two = record { ready = t .ready; low = t .two }
 
-  pub points-low : a < 2048
+  pub points-low : a < limit.POINTS
   points-low = omega (arith, t .one, t .ready .resolved .few-points)
 
   pub points-long : LENGTH ≤ length w
@@ -134,10 +141,10 @@ words (end u x) = x
 
 split-kept : (w : List ℕ) (a c i : ℕ) → Pair w a c i i → Still w (words (splitOf w a c i))
 unfolding splitOf
-split-kept w a c i t = go (ltb (recordsOf w) 512) refl
+split-kept w a c i t = go (ltb (recordsOf w) limit.RECORDS) refl
   where
-    go : (b : Bool) → ltb (recordsOf w) 512 ≡ b → Still w (words (cond b (end Done (cutOf w a c i (recordsOf w))) (end Full w)))
-    go true e = record { ready = cut-ready w a c i (recordsOf w) t refl (ltb-true _ _ e); points = cut-points w a c i (recordsOf w) t refl (ltb-true _ _ e) }
+    go : (b : Bool) → ltb (recordsOf w) limit.RECORDS ≡ b → Still w (words (cond b (end Done (splitRing w a c i (recordsOf w))) (end Full w)))
+    go true e = record { ready = split-ring-ready w a c i (recordsOf w) t refl (ltb-true _ _ e); points = split-ring-points w a c i (recordsOf w) t refl (ltb-true _ _ e) }
     go false e = record { ready = t .ready; points = refl }
 
 by-kept : (w : List ℕ) (a c i j : ℕ) → Pair w a c i j → Still w (words (byRecords w a c i j))

@@ -2,12 +2,15 @@
 use Prim.Native.Nat.{ℕ, zero, suc, _+_, _*_}
 use mathlib.Core.Bool.{cond}
 use mathlib.Core.List.{List, [], _∷_}
+use mathlib.Core.Option.{Option, none, some}
 use lib.Dec.{ltb, eqb}
 use lib.ListN.{getD}
 use Rattle.job.specs.Limits as limit
-use Rattle.store.specs.Field.{rc, FLAGS, NONE}
-use Rattle.store.specs.Words.{view, put}
-use Rattle.store.specs.Named.{nextOf, prevOf, recOf, firstOf, recordsOf, setNext, setPrev, setRec, setFirst, setOwner, setRecords}
+use Rattle.job.specs.declared.refusal.Refusal.{Refusal}
+use Rattle.job.specs.declared.refusal.Refusal.the-variants as refusal
+use Rattle.store.specs.Field.{pt, rc, ct, NEXT, PREV, REC, FLAGS, OWNER, FIRST, RECORDS, NONE}
+use Rattle.store.specs.Words.{Store, view, Write, write, onWords}
+use Rattle.store.specs.Named.{nextOf, recOf, firstOf, recordsOf, setRec}
 use Rattle.store.specs.Sound.{ringAt}
 use Rattle.joins.specs.declared.Joined.{Joined}
 use Rattle.joins.specs.declared.Joined.the-variants.{Done, Knot, Full}
@@ -17,19 +20,40 @@ use Rattle.joins.specs.Resolve.{homeOf}
 pub data End : Type 0 where
   end : Joined → List ℕ → End
 
--- the table's number of a refusal; 0 is none
-unfoldable pub number : Joined → ℕ
-number Done = 0
-number Knot = 9
-number Full = 10
+-- the row of document 01's table that an answer is, if any
+abbrev pub refusalOf : Joined → Option Refusal
+refusalOf Done = none
+refusalOf Knot = some refusal.Knot
+refusalOf Full = some refusal.Full
+
+-- ---- what is written, in the program's order, every value read before the first write
 
 -- op1.next = op2, op2.prev = op1, op1b.prev = op2b, op2b.next = op1b
-unfoldable pub relinkOf : List ℕ → ℕ → ℕ → List ℕ
-relinkOf w a c = setNext (setPrev (setPrev (setNext w a c) c a) (nextOf w a) (prevOf w c)) (prevOf w c) (nextOf w a)
+abbrev pub relinkWrites : Store → ℕ → ℕ → List Write
+relinkWrites s a c =
+    write (pt NEXT) a c ∷ write (pt PREV) c a ∷ write (pt PREV) (s (pt NEXT) a) (s (pt PREV) c) ∷ write (pt NEXT) (s (pt PREV) c) (s (pt NEXT) a) ∷ []
 
--- new_out_rec, record k: closed, no front edge, first point n, owner i
+-- record k, the next free one: closed, no front edge, first point n, owner i
+abbrev pub madeWrites : ℕ → ℕ → ℕ → List Write
+madeWrites k n i = write (ct RECORDS) 0 (k + 1) ∷ write (rc FLAGS) k 0 ∷ write (rc FIRST) k n ∷ write (rc OWNER) k i ∷ []
+
+-- record j is emptied, and owned by i
+abbrev pub emptyWrites : ℕ → ℕ → List Write
+emptyWrites j i = write (rc FIRST) j NONE ∷ write (rc OWNER) j i ∷ []
+
+-- the first point of record i is a, which names it
+abbrev pub firstWrites : ℕ → ℕ → List Write
+firstWrites i a = write (rc FIRST) i a ∷ write (pt REC) a i ∷ []
+
+-- ---- the functions
+
+-- the four links of a join
+unfoldable pub relinkOf : List ℕ → ℕ → ℕ → List ℕ
+relinkOf w a c = onWords w (relinkWrites (view w) a c)
+
+-- new_out_rec, as a join fills it
 unfoldable pub newOutRec : List ℕ → ℕ → ℕ → ℕ → List ℕ
-newOutRec w k n i = setOwner (setFirst (put (rc FLAGS) (setRecords w (k + 1)) k 0) k n) k i
+newOutRec w k n i = onWords w (madeWrites k n i)
 
 -- the points of l name record k
 unfoldable pub nameAll : List ℕ → ℕ → List ℕ → List ℕ
@@ -42,18 +66,19 @@ fixOutrecPts w k = nameAll w k (ringAt (view w) k)
 
 -- the first point of record i, if it went to record k, is a
 unfoldable pub settleOf : List ℕ → ℕ → ℕ → ℕ → List ℕ
-settleOf w i k a = cond (eqb (recOf w (firstOf w i)) k) (setRec (setFirst w i a) a i) w
+settleOf w i k a = cond (eqb (recOf w (firstOf w i)) k) (onWords w (firstWrites i a)) w
 
--- "one record for both points gives a new record owned by the first": record k takes the ring that starts at op1b
-unfoldable pub cutOf : List ℕ → ℕ → ℕ → ℕ → ℕ → List ℕ
-cutOf w a c i k = settleOf (fixOutrecPts (newOutRec (relinkOf w a c) k (nextOf w a) i) k) i k a
+-- "one record for both points gives a new record owned by the first": the ring is split, and record k takes the part that starts at op1b
+unfoldable pub splitRing : List ℕ → ℕ → ℕ → ℕ → ℕ → List ℕ
+splitRing w a c i k = settleOf (fixOutrecPts (newOutRec (relinkOf w a c) k (nextOf w a) i) k) i k a
 
+-- if there is room for a record
 unfoldable pub splitOf : List ℕ → ℕ → ℕ → ℕ → End
-splitOf w a c i = cond (ltb (recordsOf w) limit.RECORDS) (end Done (cutOf w a c i (recordsOf w))) (end Full w)
+splitOf w a c i = cond (ltb (recordsOf w) limit.RECORDS) (end Done (splitRing w a c i (recordsOf w))) (end Full w)
 
 -- "two records empty the second, now owned by the first"
 unfoldable pub mergeOf : List ℕ → ℕ → ℕ → ℕ → ℕ → List ℕ
-mergeOf w a c i j = setOwner (setFirst (relinkOf w a c) j NONE) j i
+mergeOf w a c i j = onWords (relinkOf w a c) (emptyWrites j i)
 
 unfoldable pub byRecords : List ℕ → ℕ → ℕ → ℕ → ℕ → End
 byRecords w a c i j = cond (eqb i j) (splitOf w a c i) (end Done (mergeOf w a c i j))

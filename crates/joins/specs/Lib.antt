@@ -3,3 +3,4 @@ pub mod Resolve
 pub mod Resolved
 pub mod Join
 pub mod Needs
+pub mod AsRings

@@ -3,6 +3,7 @@ use Prim.Native.Nat.{ℕ, _*_, _<_, _≤_}
 use mathlib.Core.Logic.{_≢_}
 use mathlib.Core.List.{List, _∷_}
 use lib.ListN.{length, getD}
+use Rattle.job.specs.Limits as limit
 use Rattle.rings.specs.Walk.{Whole}
 use Rattle.store.specs.Field.{LENGTH}
 use Rattle.store.specs.Words.{view}
@@ -30,17 +31,17 @@ pub record Points (w : List ℕ) (a c : ℕ) : Type 0 where
 -- the four points of a relink
 pub record Four (w : List ℕ) (a c : ℕ) : Type 0 where
   pub long : LENGTH ≤ length w
-  pub one : a < 2048
-  pub two : c < 2048
-  pub next : nextOf w a < 2048
-  pub prev : prevOf w c < 2048
+  pub one : a < limit.POINTS
+  pub two : c < limit.POINTS
+  pub next : nextOf w a < limit.POINTS
+  pub prev : prevOf w c < limit.POINTS
 
 -- record k has a ring
 pub record Ringed (w : List ℕ) (k : ℕ) : Type 0 where
   pub long : LENGTH ≤ length w
-  pub low : k < 512
+  pub low : k < limit.RECORDS
   pub others : List ℕ
-  pub whole : Whole (nextOf w) (prevOf w) 2048 (firstOf w k ∷ others)
+  pub whole : Whole (nextOf w) (prevOf w) limit.POINTS (firstOf w k ∷ others)
 
 -- a join that is no knot, by the records of its two points
 pub record Pair (w : List ℕ) (a c i j : ℕ) : Type 0 where

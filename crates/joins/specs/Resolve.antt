@@ -5,20 +5,21 @@ use mathlib.Core.Logic.{_≢_}
 use mathlib.Core.Bool.{cond}
 use mathlib.Core.List.{List, [], _∷_}
 use lib.Dec.{eqb}
+use Rattle.job.specs.Limits as limit
 use Rattle.rings.specs.Links.{All}
 use Rattle.store.specs.Field.{pt, rc, REC, OWNER, FIRST, NONE}
 use Rattle.store.specs.Words.{Store}
 use Rattle.store.specs.Named.{firstOf, ownerOf, recOf}
 use Rattle.store.specs.Sound.{pts, recs}
 
--- the first with points among r and its owners, after at most f of them; there are at most 512 records, so that 513 are never looked at
+-- the first with points among r and its owners, f of them looked at at most. On an owner chain that ends every record comes once, so that one more than all records is never looked at
 unfoldable pub realOf : ℕ → (ℕ → ℕ) → (ℕ → ℕ) → ℕ → ℕ
 realOf zero first owner r = r
 realOf (suc f) first owner r = cond (eqb (first r) NONE) (realOf f first owner (owner r)) r
 
 -- get_real_outrec
 unfoldable pub getRealOutrec : List ℕ → ℕ → ℕ
-getRealOutrec w r = realOf 513 (firstOf w) (ownerOf w) r
+getRealOutrec w r = realOf (suc limit.RECORDS) (firstOf w) (ownerOf w) r
 
 -- the record that a point resolves to
 unfoldable pub homeOf : List ℕ → ℕ → ℕ

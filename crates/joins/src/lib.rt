@@ -1,4 +1,4 @@
-// Level segments and joins: document 01, "Segment and join".
+// Joins (`process_horz_joins`): document 01, "Segment and join". A join at its turn is refused (9, 10), splits one ring in two, or makes one ring of two.
 use job::Job;
 use store::Col;
 use store::NONE;
@@ -7,11 +7,12 @@ use store::set;
 ghost use mathlib.Core.Path.{_≡_};
 ghost use Prim.Native.Nat.{_+_, _<_, _≤_};
 ghost use lib.ListN.{length, getD};
+ghost use Rattle.job.specs.Limits as limit;
 ghost use Rattle.store.specs.Field.{LENGTH};
 ghost use Rattle.store.specs.Named.{recordsOf, firstOf};
 ghost use Rattle.joins.specs.Resolve.{getRealOutrec, homeOf};
 ghost use Rattle.joins.specs.Needs.{Resolving, Point, Points, Four, Ringed, Pair, Joins};
-ghost use Rattle.joins.specs.Join.{end, relinkOf, newOutRec, fixOutrecPts, settleOf, cutOf, splitOf, mergeOf, byRecords, joinOf, processHorzJoins};
+ghost use Rattle.joins.specs.Join.{end, relinkOf, newOutRec, fixOutrecPts, settleOf, splitRing, splitOf, mergeOf, byRecords, joinOf, processHorzJoins};
 
 // How a join, or the list of them, ends: done, or refused as a knot (9) or full (10).
 pub enum Joined {
@@ -21,7 +22,7 @@ pub enum Joined {
 }
 
 // The first with points among r and its owners.
-pub fn get_real_outrec(w: &[u32], r: usize) -> usize
+fn get_real_outrec(w: &[u32], r: usize) -> usize
     requires { ⌜ Resolving (now w) r ⌝ }
     ensures { λ q. ⌜ q ≡ getRealOutrec (now (w .entry)) r ⌝ }
 {
@@ -58,7 +59,7 @@ fn relink(w: &mut [u32], op1: usize, op2: usize)
 
 // Record k is new: its first point is n, its owner i.
 fn new_out_rec(w: &mut [u32], k: usize, n: usize, i: usize)
-    requires { ⌜ (LENGTH ≤ length (now w)) × (k < 512) × (n < 2048) × (i < 512) ⌝ }
+    requires { ⌜ (LENGTH ≤ length (now w)) × (k < limit.RECORDS) × (n < limit.POINTS) × (i < limit.RECORDS) ⌝ }
     ensures { λ _. ⌜ now (w .exit) ≡ newOutRec (now (w .entry)) k n i ⌝ }
 {
     set(w, Col::Records, 0, k + 1);
@@ -85,7 +86,7 @@ fn fix_outrec_pts(w: &mut [u32], k: usize)
 
 // The first point of record i, if it went to record k, is now a.
 fn settle(w: &mut [u32], i: usize, k: usize, a: usize)
-    requires { ⌜ (LENGTH ≤ length (now w)) × (i < 512) × (a < 2048) × (firstOf (now w) i < 2048) ⌝ }
+    requires { ⌜ (LENGTH ≤ length (now w)) × (i < limit.RECORDS) × (a < limit.POINTS) × (firstOf (now w) i < limit.POINTS) ⌝ }
     ensures { λ _. ⌜ now (w .exit) ≡ settleOf (now (w .entry)) i k a ⌝ }
 {
     let f = get(w, Col::First, i);
@@ -106,10 +107,10 @@ fn merge(w: &mut [u32], op1: usize, op2: usize, i: usize, j: usize)
     set(w, Col::Owner, j, i);
 }
 
-// One record for both points: record k is new.
-fn cut(w: &mut [u32], op1: usize, op2: usize, i: usize, k: usize)
-    requires { ⌜ Pair (now w) op1 op2 i i × (k ≡ recordsOf (now w)) × (k < 512) ⌝ }
-    ensures { λ _. ⌜ now (w .exit) ≡ cutOf (now (w .entry)) op1 op2 i k ⌝ }
+// One record for both points: its ring is split, and record k is new.
+fn split_ring(w: &mut [u32], op1: usize, op2: usize, i: usize, k: usize)
+    requires { ⌜ Pair (now w) op1 op2 i i × (k ≡ recordsOf (now w)) × (k < limit.RECORDS) ⌝ }
+    ensures { λ _. ⌜ now (w .exit) ≡ splitRing (now (w .entry)) op1 op2 i k ⌝ }
 {
     let n = get(w, Col::Next, op1);
     relink(w, op1, op2);
@@ -118,13 +119,14 @@ fn cut(w: &mut [u32], op1: usize, op2: usize, i: usize, k: usize)
     settle(w, i, k, op1);
 }
 
+// The same, if there is room for a record.
 fn split(w: &mut [u32], op1: usize, op2: usize, i: usize) -> Joined
     requires { ⌜ Pair (now w) op1 op2 i i ⌝ }
     ensures { λ r. ⌜ end r (now (w .exit)) ≡ splitOf (now (w .entry)) op1 op2 i ⌝ }
 {
     let k = get(w, Col::Records, 0);
     if k < Job::RECORDS {
-        cut(w, op1, op2, i, k);
+        split_ring(w, op1, op2, i, k);
         return Joined::Done;
     }
     Joined::Full

@@ -1,27 +1,24 @@
--- How many bytes a listing has: 150,000 always suffice for a tray that was written from a sound store.
+-- How many bytes a listing has: `TEXT` always suffice for a tray that was written from a sound store, and for a refusal.
 use Prim.Native.Nat.{ℕ, zero, suc, _+_, _*_, _/_, _%_, _≤_}
 use mathlib.Core.Path.{_≡_, refl, ap}
-use mathlib.Core.Bool.{Bool, true, false, cond}
+use mathlib.Core.Bool.{Bool, true, false, cond, Bool·beq}
 use mathlib.Core.List.{List, [], _∷_, _++_}
 use mathlib.Core.Option.{Option, none, some}
 use native.Mathlib.Omega.{arith}
 use lib.Dec.{ltb}
 use lib.IntN.{ℤ, pos, negsuc}
 use lib.ListN.{length, length-append}
-use borrow.Author.Tests.{le-leb}
-use Rattle.rings.specs.Count.{sumBy}
+use Rattle.rings.specs.Count.{sumTo}
 use Rattle.geometry.specs.declared.Point.{Point}
 use Rattle.geometry.specs.Plane.{areaOutpt}
 use Rattle.store.specs.Words.{Store}
-use Rattle.store.specs.Sound.{recs, Sound}
-use Rattle.paths.specs.Path.{pathIf, listed, pathsBelow, closedPaths, openPaths}
-use Rattle.paths.specs.Tray.{pathField, tagOf, fields, fieldsOf, padded}
-use Rattle.paths.proofs.Counts.{length-pathField}
-use Rattle.paths.proofs.Bound.{always-suffice}
-use Rattle.listing.specs.declared.Listed.the-variants.{Bytes}
-use Rattle.listing.specs.Text.{SPACE, COMMA, NEWLINE, digit, digits, decimal, signedText, CLOSED, OPEN, LINE}
-use Rattle.listing.specs.Lines.{wordOf, pointText, pointsText, headOf, lineOf, linesOf, firstLine, listingOf}
-use Rattle.listing.specs.Told.{tell}
+use Rattle.store.specs.Sound.{recs, ringAt, isOpen, Sound}
+use Rattle.paths.specs.Path.{pathIf, listed, pathsBelow, closedPaths, openPaths, sizeOf}
+use Rattle.paths.specs.Tray.{fieldsOf, padded}
+use Rattle.paths.proofs.Counts.{size-le}
+use Rattle.paths.proofs.Bound.{rings-few}
+use Rattle.listing.specs.Text.{SPACE, COMMA, NEWLINE, digit, digits, decimal, signedText, CLOSED, OPEN, LINE, REFUSED}
+use Rattle.listing.specs.Lines.{wordOf, pointText, pointsText, headOf, lineOf, linesOf, firstLine, listingOf, TEXT, refusedLine}
 use Rattle.listing.proofs.Trays.{written-listing}
 
 -- ---- numbers
@@ -75,13 +72,9 @@ head-le true path = omega (arith, length-append (LINE ++ (SPACE ∷ [])) (decima
 line-le : (o : Bool) (path : List Point) → length (lineOf o path) ≤ 49 + 44 * length path
 line-le o path = omega (arith, length-append (headOf o path ++ pointsText path) (NEWLINE ∷ []), length-append (headOf o path) (pointsText path), head-le o path, points-le path)
 
--- how many points the paths have
-abbrev points : List (List Point) → ℕ
-points ps = sumBy length ps
-
-lines-le : (o : Bool) (ps : List (List Point)) → length (linesOf o ps) ≤ 49 * length ps + 44 * points ps
-lines-le o [] = omega arith
-lines-le o (p ∷ ps) = omega (arith, length-append (lineOf o p) (linesOf o ps), line-le o p, lines-le o ps)
+lines-append : (o : Bool) (a b : List (List Point)) → length (linesOf o (a ++ b)) ≡ length (linesOf o a) + length (linesOf o b)
+lines-append o [] b = omega arith
+lines-append o (p ∷ a) b = omega (arith, length-append (lineOf o p) (linesOf o (a ++ b)), length-append (lineOf o p) (linesOf o a), lines-append o a b)
 
 first-le : (c o : ℕ) → length (firstLine c o) ≤ 54
 first-le c o =
@@ -98,49 +91,58 @@ first-le c o =
       digits-le 20 o,
     )
 
--- ---- the paths of a store
+-- ---- the paths of a store: a record has one line at most
 
-fields-points : (tag : ℕ) (ps : List (List Point)) → length (fields tag ps) ≡ 3 * length ps + 8 * points ps
-fields-points tag [] = refl
-fields-points tag (p ∷ ps) = omega (arith, length-append (pathField tag p) (fields tag ps), length-pathField tag p, fields-points tag ps)
+line-of : (o : Bool) (x : Option (List Point)) → length (linesOf o (listed x)) ≤ 49 + 44 * sizeOf x
+line-of o none = omega arith
+line-of o (some p) = omega (arith, length-append (lineOf o p) [], line-le o p)
 
-paths-few : (s : Store) (o : Bool) (n : ℕ) → length (pathsBelow n o s) ≤ n
-paths-few s o zero = omega arith
-paths-few s o (suc n) = omega (arith, length-append (pathsBelow n o s) (listed (pathIf s o n)), paths-few s o n, one (pathIf s o n))
-  where
-    one : (x : Option (List Point)) → length (listed x) ≤ 1
-    one none = omega arith
-    one (some p) = omega arith
+module _ (s : Store) where
+  none-of : (o : Bool) (i : ℕ) → Bool·beq (isOpen s i) o ≡ false → length (linesOf o (listed (pathIf s o i))) ≡ 0
+  unfolding pathIf
+  none-of o i e = rw e
 
-module _ (s : Store) (o : Sound s) (n : ℕ) where
-  fields-are : length (fieldsOf s) ≡ length (fields (tagOf false) (closedPaths s)) + length (fields (tagOf true) (openPaths s))
-  unfolding fieldsOf
-  fields-are = length-append (fields (tagOf false) (closedPaths s)) (fields (tagOf true) (openPaths s))
+  one-line : (i : ℕ) → length (linesOf false (listed (pathIf s false i))) + length (linesOf true (listed (pathIf s true i))) ≤ 49 + 44 * length (ringAt s i)
+  one-line i = go (isOpen s i) refl
+    where
+      go : (b : Bool) → isOpen s i ≡ b → length (linesOf false (listed (pathIf s false i))) + length (linesOf true (listed (pathIf s true i))) ≤ 49 + 44 * length (ringAt s i)
+      go true e = omega (arith, none-of false i (rw e), line-of true (pathIf s true i), size-le s true i)
+      go false e = omega (arith, none-of true i (rw e), line-of false (pathIf s false i), size-le s false i)
 
-  pub listing-le : length (listingOf (length (closedPaths s)) (length (openPaths s)) (padded n (fieldsOf s))) ≤ 150000
-  listing-le =
-      let c = closedPaths s in
-      let p = openPaths s in
-      let a = firstLine (length c) (length p) in
+  all-lines : (n : ℕ) → length (linesOf false (pathsBelow n false s)) + length (linesOf true (pathsBelow n true s)) ≤ 49 * n + 44 * sumTo n (λ i. length (ringAt s i))
+  all-lines zero = omega arith
+  all-lines (suc n) =
       omega (
         arith,
-        ap length (written-listing s o n),
-        length-append (a ++ linesOf false c) (linesOf true p),
-        length-append a (linesOf false c),
-        first-le (length c) (length p),
-        lines-le false c,
-        lines-le true p,
-        fields-points (tagOf false) c,
-        fields-points (tagOf true) p,
-        fields-are,
-        always-suffice s o,
-        paths-few s false (recs s),
-        paths-few s true (recs s),
-        o .few-records,
+        all-lines n,
+        one-line n,
+        lines-append false (pathsBelow n false s) (listed (pathIf s false n)),
+        lines-append true (pathsBelow n true s) (listed (pathIf s true n)),
       )
 
-  -- so there is room for it in a slice of that length
-  pub listing-fits : (out : List ℕ) → 150000 ≤ length out
-      → tell (listingOf (length (closedPaths s)) (length (openPaths s)) (padded n (fieldsOf s))) out .answer ≡ Bytes (length (listingOf (length (closedPaths s)) (length (openPaths s)) (padded n (fieldsOf s))))
-  unfolding tell
-  listing-fits out h = rw (le-leb (length (listingOf (length (closedPaths s)) (length (openPaths s)) (padded n (fieldsOf s)))) (length out) (omega (arith, listing-le)))
+  module _ (o : Sound s) (n : ℕ) where
+    pub listing-le : length (listingOf (length (closedPaths s)) (length (openPaths s)) (padded n (fieldsOf s))) ≤ TEXT
+    listing-le =
+        let c = closedPaths s in
+        let p = openPaths s in
+        let a = firstLine (length c) (length p) in
+        omega (
+          arith,
+          ap length (written-listing s o n),
+          length-append (a ++ linesOf false c) (linesOf true p),
+          length-append a (linesOf false c),
+          first-le (length c) (length p),
+          all-lines (recs s),
+          rings-few s o,
+          o .few-records,
+          o .few-points,
+        )
+
+pub refusal-le : (n : ℕ) → length (refusedLine n) ≤ TEXT
+refusal-le n =
+    omega (
+      arith,
+      length-append (REFUSED ++ (SPACE ∷ []) ++ decimal n) (NEWLINE ∷ []),
+      length-append (REFUSED ++ (SPACE ∷ [])) (decimal n),
+      digits-le 20 n,
+    )

@@ -1,10 +1,11 @@
--- The listing: document 01, "First line: the two counts. Then word, points in the path, doubled area, points".
-use Prim.Native.Nat.{ℕ, zero, suc, _+_}
+-- The listing: document 01's section of that name. A line with the two counts, then a line for each path, closed ones first; or a refusal's line.
+use Prim.Native.Nat.{ℕ, zero, suc, _+_, _*_}
 use mathlib.Core.Path.{_≡_}
 use mathlib.Core.Bool.{Bool, true, false}
 use mathlib.Core.List.{List, [], _∷_, _++_}
 use lib.IntN.{ℤ, pos, negsuc}
 use lib.ListN.{length}
+use Rattle.job.specs.Limits.{POINTS, RECORDS}
 use Rattle.geometry.specs.declared.Point.{Point}
 use Rattle.geometry.specs.Plane.{areaOutpt}
 use Rattle.listing.specs.Text.{SPACE, COMMA, NEWLINE, decimal, signedText, CLOSED, OPEN, PIECE, HOLE, FLAT, LINE, REFUSED}
@@ -52,6 +53,10 @@ firstLine closed open′ = CLOSED ++ (SPACE ∷ []) ++ decimal closed ++ (SPACE 
 -- the listing of a tray that begins with so many closed and then so many open paths
 unfoldable pub listingOf : ℕ → ℕ → List ℕ → List ℕ
 listingOf closed open′ t = firstLine closed open′ ++ linesOf false (pathsIn t closed 0) ++ linesOf true (pathsIn t open′ (fieldAfter t closed 0))
+
+-- no listing of a job is longer: the first line; the head and end of a line for each record; the text of each point. (Twenty digits a number.)
+abbrev pub TEXT : ℕ
+TEXT = 54 + 49 * RECORDS + 44 * POINTS
 
 -- "A refusal prints `refused` and its number only"
 abbrev pub refusedLine : ℕ → List ℕ

@@ -1,5 +1,5 @@
 -- What listing answers and leaves, for every text and every lent slice; and the trays that can be listed.
-use Prim.Native.Nat.{ℕ}
+use Prim.Native.Nat.{ℕ, _≤_}
 use mathlib.Core.Bool.{cond}
 use mathlib.Core.List.{List, _++_}
 use lib.Dec.{leb}
@@ -22,6 +22,11 @@ answerAt at out = cond (leb at (length out)) (Bytes at) NoRoom
 -- the text, as far as there is room, and then what was there; how long the text is, or that there is no room for all of it
 unfoldable pub tell : List ℕ → List ℕ → Told
 tell text out = told (answerAt (length text) out) (take (length out) text ++ drop (length text) out)
+
+-- there was room for all of the text, in a slice of n bytes
+abbrev pub Whole : Listed → ℕ → Type 0
+Whole (Bytes m) n = m ≤ n
+Whole NoRoom n = ⊥
 
 -- a tray that begins with fields of so many closed and then so many open paths, their points within the limit
 pub record Listable (closed open′ : ℕ) (t : List ℕ) : Type 0 where

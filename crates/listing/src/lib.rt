@@ -13,7 +13,16 @@ ghost use Rattle.listing.specs.Pour.{poured, pour};
 ghost use Rattle.listing.specs.Text.{SPACE, decimal, signedText};
 ghost use Rattle.listing.specs.Fields.{pointIn, Held, pointsIn, Run, Sized, valueLength, pathIn, FieldIn, pathsIn, fieldAfter, FieldsIn};
 ghost use Rattle.listing.specs.Lines.{wordOf, pointText, pointsText, closedHead, headOf, lineOf, linesOf, firstLine, listingOf, refusedLine};
+ghost use Rattle.listing.specs.Lines as lines;
 ghost use Rattle.listing.specs.Told.{told, answerAt, tell, Listable};
+
+// A slice of so many bytes has room for the listing of any job.
+pub const TEXT: usize = 54 + 49 * Job::RECORDS + 44 * Job::POINTS;
+
+// The number that definitions cite is the code's.
+fn text_agrees()
+    ensures { λ _. do ⌜ (← ⟦TEXT⟧ .entry) ≡ lines.TEXT ⌝ }
+{}
 
 // One byte, if there is room; answers where the next one goes.
 fn put(out: &mut [u8], at: usize, b: u8) -> usize

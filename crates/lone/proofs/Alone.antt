@@ -15,7 +15,7 @@ use lib.Dec.{eqb}
 use borrow.Author.Tests.{eq-eqb, ne-eqb}
 use Rattle.rings.specs.Count.{sumBy}
 use Rattle.rings.proofs.Counting.{sumBy-append, sumBy-set}
-use Rattle.lone.specs.Forest.{Machine, State, initial, toList, Entry, ringless, openRing, closedRing, Opened, leftRingless, leftOpen, leftClosed, Forest, names, naming, isOk}
+use Rattle.lone.specs.Forest.{ok, full, outOfTurn, Machine, State, initial, toList, Entry, ringless, openRing, closedRing, Opened, leftRingless, leftOpen, leftClosed, Forest, names, naming, isOk}
 use Rattle.lone.specs.Forest.{enter, opening, newEntry, at, OfClosed, cutFrom, offcutsOf, takenBy, rank, allTaken, allCut, stepState, stepsState, stepsEntry, stepEntries, carryOut, answerTo, answer, stepForest, runForest, accepted}
 use Rattle.lone.specs.Order.{IsOffcut, Alone, Exactly, Independent}
 use Rattle.lone.proofs.Stepping.{step-length, step-here, step-other, Accepted, Refused, view, exactly}
@@ -252,7 +252,7 @@ module _ {S X : Type 0} (M : Machine S) (lp lr : ℕ) where
   answers-by os p₀ F h k i = cc
 
   exactly-by : (os : List (Opened S X)) (p₀ : ℕ) (F : Forest S X) → F .points ≡ p₀ + allTaken (F .entries) → length (F .entries) ≡ length os + allCut (F .entries)
-      → (i : ℕ) → Exactly M lp lr (answer M lp lr F i) (at (F .entries) i) (p₀ + allTaken (F .entries)) (length os + allCut (F .entries))
+      → (i : ℕ) → Exactly M lp lr ok full outOfTurn (answer M lp lr F i) (at (F .entries) i) (p₀ + allTaken (F .entries)) (length os + allCut (F .entries))
   exactly-by os p₀ F h k i = rw (answers-by os p₀ F h k i) (exactly M lp lr (at (F .entries) i) (p₀ + allTaken (F .entries)) (length os + allCut (F .entries)))
 
   make : (os : List (Opened S X)) (p₀ : ℕ) (F : Forest S X) (g : ℕ → ℕ) → Alone M os (F .entries) g → F .points ≡ p₀ + allTaken (F .entries) → length (F .entries) ≡ length os + allCut (F .entries) → Independent M lp lr os p₀ F g

@@ -14,7 +14,7 @@ use Rattle.rings.specs.Count.{sumBy}
 use Rattle.rings.proofs.Counting.{sumBy-append, sumBy-set}
 use Rattle.lone.specs.Forest.{Machine, State, toList, Entry, ringless, openRing, closedRing, ok, full, Forest, isOk}
 use Rattle.lone.specs.Forest.{newEntry, at, Every, stepState, carryOut, answer, stepForest, runForest}
-use Rattle.lone.specs.Order.{AllDone, Fits, NeverEnds}
+use Rattle.lone.specs.Order.{AllDone, ForestFits, ForestNeverEnds}
 use Rattle.lone.proofs.Stepping.{Accepted, Refused, view}
 use Rattle.lone.proofs.Alone.{at-closed}
 use Rattle.lone.proofs.Every.{every-carry}
@@ -89,10 +89,10 @@ module _ {S X : Type 0} (M : Machine S) (lp lr : ℕ) where
     outer (suc f) F a h k = inner f (outer f) (suc (sumBy weightOf (F .entries))) F a h k (omega arith)
 
     -- the dichotomy
-    pub dichotomy : (F : Forest S X) → Every Inv (F .entries) → F .points ≤ lp → length (F .entries) ≤ lr → Fits M lp lr F ⊎ NeverEnds M lp lr F
+    pub dichotomy : (F : Forest S X) → Every Inv (F .entries) → F .points ≤ lp → length (F .entries) ≤ lr → ForestFits M lp lr F ⊎ ForestNeverEnds M lp lr F
     unfolding Found
     dichotomy F a h k = go (outer (suc lp) F a h (omega arith))
       where
-        go : Found F → Fits M lp lr F ⊎ NeverEnds M lp lr F
+        go : Found F → ForestFits M lp lr F ⊎ ForestNeverEnds M lp lr F
         go (inl r) = inl (fits-of-end M lp lr F (r .0) h k (r .1))
         go (inr r) = inr (never-of-full M lp lr F (r .0) (r .1) h k (r .2))

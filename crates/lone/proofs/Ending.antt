@@ -10,7 +10,7 @@ use lib.ListN.{length}
 use borrow.Author.Tests.{le-leb}
 use Rattle.lone.specs.Forest.{Machine, State, toList, Entry, ringless, openRing, closedRing, ok, full, outOfTurn, Forest, isOk}
 use Rattle.lone.specs.Forest.{at, stepEntries, carryOut, answer, stepForest, runForest}
-use Rattle.lone.specs.Order.{NoneOrDone, AllDone, Fits, NeverEnds}
+use Rattle.lone.specs.Order.{NoneOrDone, AllDone, ForestFits, ForestNeverEnds}
 use Rattle.lone.proofs.Stepping.{step-length, Accepted, Refused, view}
 use Rattle.lone.proofs.Costs.{Costs, AfterStep, cost-after, cost-before, done-costs, costs-one}
 
@@ -163,14 +163,14 @@ module _ {S X : Type 0} (M : Machine S) where
         let w = run-within s F h k in
         (b .n, record { points-due = b .p; records-due = b .r; costs = b .costs; fits-points = omega (arith, b .sum-p, w .0); fits-records = omega (arith, b .sum-r, w .1) })
 
-    pub fits-of-end : (F : Forest S X) (s : List ℕ) → F .points ≤ lp → length (F .entries) ≤ lr → AllDone M (runForest M lp lr F s .entries) → Fits M lp lr F
+    pub fits-of-end : (F : Forest S X) (s : List ℕ) → F .points ≤ lp → length (F .entries) ≤ lr → AllDone M (runForest M lp lr F s .entries) → ForestFits M lp lr F
     fits-of-end F s h k a = let g = room-of-end F s h k a in record {
       never-full = λ s′ i. let r = run-room s′ F (g .0) (g .1) in room-not-full (runForest M lp lr F s′) (r .0) i (r .1);
       goes-on = λ s′. let r = run-room s′ F (g .0) (g .1) in let u = finish (r .0) (runForest M lp lr F s′) (r .1) in (u .0, rw (run-append s′ (u .0) F) (u .1));
     }
 
     -- a step refused as full, after any list, and no list ends the forest
-    pub never-of-full : (F : Forest S X) (s : List ℕ) (i : ℕ) → F .points ≤ lp → length (F .entries) ≤ lr → answer M lp lr (runForest M lp lr F s) i ≡ full → NeverEnds M lp lr F
+    pub never-of-full : (F : Forest S X) (s : List ℕ) (i : ℕ) → F .points ≤ lp → length (F .entries) ≤ lr → answer M lp lr (runForest M lp lr F s) i ≡ full → ForestNeverEnds M lp lr F
     never-of-full F s i h k e t a = fits-of-end F t h k a .never-full s i e
 
     -- two lists that end the forest take as many points and records

@@ -14,7 +14,7 @@ use Rattle.rings.proofs.Circles.{length-turn, length-spin, length-initOf}
 use Rattle.lone.specs.Ring.{Act, discard, dropPoint, moveOn, toFirst, cut, apply, offcut, takesPoints}
 use Rattle.lone.specs.Lone.{Geo, isDone, isZero, decide, actOf, stepRing, offcutRing, takesRing}
 use Rattle.lone.specs.Forest.{Opened, opening, enter, Every}
-use Rattle.lone.specs.Order.{machine, Fits, NeverEnds}
+use Rattle.lone.specs.Order.{machine, ForestFits, ForestNeverEnds}
 use Rattle.lone.specs.Kept.{HasStart}
 use Rattle.lone.specs.Measure.{walkLeft, rounds, weigh, weight}
 use Rattle.lone.proofs.Dichotomy.{dichotomy}
@@ -126,5 +126,5 @@ module _ {P : Type 0} where
       next-start R h = start-kept G R h
 
       -- rings at their start, or anywhere with the start that a removal turn has
-      pub rings-end : Every (λ (R : Ring P). HasStart (R .due) (R .start)) (map (enter {S = Ring P} {X = X}) os) → p₀ ≤ lp → length os ≤ lr → Fits (machine G) lp lr (opening os p₀) ⊎ NeverEnds (machine G) lp lr (opening os p₀)
+      pub rings-end : Every (λ (R : Ring P). HasStart (R .due) (R .start)) (map (enter {S = Ring P} {X = X}) os) → p₀ ≤ lp → length os ≤ lr → ForestFits (machine G) lp lr (opening os p₀) ⊎ ForestNeverEnds (machine G) lp lr (opening os p₀)
       rings-end a h k = dichotomy (machine G) lp lr (λ (R : Ring P). HasStart (R .due) (R .start)) (λ R v g. next-start R g) (λ R O v g e. offcut-start R O e) weight falls (opening os p₀) a h (rw (length-map os enter) k)

@@ -8,7 +8,7 @@ use native.Mathlib.Omega.{arith}
 use native.Mathlib.Decide.{decLt}
 use lib.ListN.{length, List·getD-eq-default}
 use Rattle.lone.specs.Forest.{Machine, ringless, Answer, ok, full, outOfTurn, Forest, at, answer, stepForest, runForest}
-use Rattle.lone.specs.Order.{NoneOrDone, AllDone, Fits, NeverEnds}
+use Rattle.lone.specs.Order.{NoneOrDone, AllDone, ForestFits, ForestNeverEnds}
 use Rattle.lone.specs.Finish.{stepsBy, stepsOn, finishFrom}
 use Rattle.lone.proofs.Stepping.{at-closed, step-other, Accepted, Refused, view, exactly}
 use Rattle.lone.proofs.Ending.{run-append, run-within, fits-of-end, never-of-full}
@@ -78,7 +78,7 @@ module _ {S X : Type 0} (M : Machine S) (lp lr : ℕ) where
         below : DoneBelow i F
 
       -- record i's turn
-      turn : (F : Forest S X) (i : ℕ) → Reached i F → Reached (suc i) (stepsOn M lp lr f F i) ⊎ NeverEnds M lp lr F₀
+      turn : (F : Forest S X) (i : ℕ) → Reached i F → Reached (suc i) (stepsOn M lp lr f F i) ⊎ ForestNeverEnds M lp lr F₀
       unfolding stepsOn
       turn F i r = go (refused-is E i (refused f F i (answer M lp lr F i) refl (r .inv) (bound F i (r .inv))))
         where
@@ -95,21 +95,21 @@ module _ {S X : Type 0} (M : Machine S) (lp lr : ℕ) where
               pick (yes l) = steps-below f F i j (answer M lp lr F i) l (r .below j l)
               pick (no l) = let e : i ≡ j = omega arith in subst (λ (k : ℕ). NoneOrDone M (at (E .entries) k)) e d
 
-          go : (answer M lp lr E i ≡ full) ⊎ NoneOrDone M (at (E .entries) i) → Reached (suc i) E ⊎ NeverEnds M lp lr F₀
+          go : (answer M lp lr E i ≡ full) ⊎ NoneOrDone M (at (E .entries) i) → Reached (suc i) E ⊎ ForestNeverEnds M lp lr F₀
           go (inl e) = inr (never-of-full M lp lr F₀ (run-E .steps) i points records (rw (run-E .is) e))
           go (inr d) = inl (record { run = run-E; inv = inv-steps f F i (answer M lp lr F i) (r .inv); below = upto d })
 
-      turns : (n : ℕ) (F : Forest S X) (i : ℕ) → Reached i F → Reached (i + n) (finishFrom M lp lr f n F i) ⊎ NeverEnds M lp lr F₀
+      turns : (n : ℕ) (F : Forest S X) (i : ℕ) → Reached i F → Reached (i + n) (finishFrom M lp lr f n F i) ⊎ ForestNeverEnds M lp lr F₀
       turns zero F i r = inl (rw (add-zero i) r)
       turns (suc n) F i r = go (turn F i r) (λ E q. turns n E (suc i) q)
         where
-          go : Reached (suc i) (stepsOn M lp lr f F i) ⊎ NeverEnds M lp lr F₀ → ((E : Forest S X) → Reached (suc i) E → Reached (suc i + n) (finishFrom M lp lr f n E (suc i)) ⊎ NeverEnds M lp lr F₀)
-              → Reached (i + suc n) (finishFrom M lp lr f (suc n) F i) ⊎ NeverEnds M lp lr F₀
+          go : Reached (suc i) (stepsOn M lp lr f F i) ⊎ ForestNeverEnds M lp lr F₀ → ((E : Forest S X) → Reached (suc i) E → Reached (suc i + n) (finishFrom M lp lr f n E (suc i)) ⊎ ForestNeverEnds M lp lr F₀)
+              → Reached (i + suc n) (finishFrom M lp lr f (suc n) F i) ⊎ ForestNeverEnds M lp lr F₀
           go (inl q) rec = rw (← (suc-add i n ∙ sym (add-suc i n))) (rec (stepsOn M lp lr f F i) q)
           go (inr q) rec = inr q
 
       -- finishing ends in all done, and then no list has a full refusal and each can be carried on so far; or no list gets so far
-      pub finish-decides : Inv F₀ → (AllDone M (finishFrom M lp lr f lr F₀ 0 .entries) × Fits M lp lr F₀) ⊎ NeverEnds M lp lr F₀
+      pub finish-decides : Inv F₀ → (AllDone M (finishFrom M lp lr f lr F₀ 0 .entries) × ForestFits M lp lr F₀) ⊎ ForestNeverEnds M lp lr F₀
       finish-decides v = go (turns lr F₀ 0 (record { run = record { steps = []; is = refl }; inv = v; below = λ j h. absurd (not-suc-le-zero h) }))
         where
           E : Forest S X
@@ -122,6 +122,6 @@ module _ {S X : Type 0} (M : Machine S) (lp lr : ℕ) where
               pick (yes h) = r .below i (omega arith)
               pick (no h) = let w = run-within M lp lr (r .run .steps) F₀ points records in let l : length (E .entries) ≤ lr = (rw (r .run .is) at (w .1)) in rw (List·getD-eq-default (E .entries) ringless {n = i} (omega arith)) tt
 
-          go : Reached (0 + lr) E ⊎ NeverEnds M lp lr F₀ → (AllDone M (E .entries) × Fits M lp lr F₀) ⊎ NeverEnds M lp lr F₀
+          go : Reached (0 + lr) E ⊎ ForestNeverEnds M lp lr F₀ → (AllDone M (E .entries) × ForestFits M lp lr F₀) ⊎ ForestNeverEnds M lp lr F₀
           go (inl r) = inl (all r, fits-of-end M lp lr F₀ (r .run .steps) points records (rw (r .run .is) (all r)))
           go (inr n) = inr n

@@ -12,8 +12,8 @@ use Rattle.rings.specs.Progress.{Ring, atStart}
 use Rattle.lone.specs.Ring.{Act, stay, discard, dropPoint, moveOn, toFirst, double, cut, offcut, takesPoints}
 use Rattle.lone.specs.Lone.{Geo, actOf, offcutRing, takesRing}
 use Rattle.lone.specs.Forest.{Entry, ringless, openRing, closedRing, ok, Forest, isOk, at, Every, stepState, carryOut, answer, stepForest}
-use Rattle.lone.specs.Order.{machine, AllDone, Fits, NeverEnds}
-use Rattle.lone.specs.Kept.{OnRing, HasStart, Held}
+use Rattle.lone.specs.Order.{machine, AllDone, ForestFits, ForestNeverEnds}
+use Rattle.lone.specs.Kept.{OnRing, HasStart, Held, HeldIn}
 use Rattle.lone.specs.Measure.{heaviest, measure}
 use Rattle.lone.specs.Finish.{finishForest, enough}
 use Rattle.lone.proofs.Stepping.{at-closed, step-here, Accepted, Refused, view}
@@ -47,11 +47,6 @@ scale-le (suc a) zero k h = absurd (not-suc-le-zero h)
 scale-le (suc a) (suc b) k h = omega (arith, scale-le a b k (omega arith), suc-mul a k, suc-mul b k)
 
 module _ {P X : Type 0} (G : Geo P) (lp lr : ℕ) where
-  -- what steps keep of a forest
-  pub record HeldIn (F : Forest (Ring P) X) : Type 0 where
-    pub within : F .points ≤ lp
-    pub every : Every (Held (F .points)) (F .entries)
-
   -- with `free` points left
   unfoldable pub leftOf : ℕ → Entry (Ring P) X → ℕ
   leftOf free ringless = 0
@@ -62,7 +57,7 @@ module _ {P X : Type 0} (G : Geo P) (lp lr : ℕ) where
   unfolding leftOf
   left F i = leftOf (lp - F .points) (at (F .entries) i)
 
-  kept-carry : (F : Forest (Ring P) X) (i : ℕ) (y : Accepted (machine G) lp lr F i) → HeldIn F → HeldIn (carryOut (machine G) F i (y .who) (y .state))
+  kept-carry : (F : Forest (Ring P) X) (i : ℕ) (y : Accepted (machine G) lp lr F i) → HeldIn lp F → HeldIn lp (carryOut (machine G) F i (y .who) (y .state))
   unfolding machine offcutRing takesRing
   kept-carry F i y v = record {
     within = y .fits-points;
@@ -85,18 +80,18 @@ module _ {P X : Type 0} (G : Geo P) (lp lr : ℕ) where
           on-start [] = (omega arith, tt)
           on-start (x ∷ c) = (omega arith, tt)
 
-  pub kept : (F : Forest (Ring P) X) (i : ℕ) → HeldIn F → HeldIn (stepForest (machine G) lp lr F i)
+  pub kept : (F : Forest (Ring P) X) (i : ℕ) → HeldIn lp F → HeldIn lp (stepForest (machine G) lp lr F i)
   kept F i v = go (view (machine G) lp lr F i)
     where
-      go : Accepted (machine G) lp lr F i ⊎ Refused (machine G) lp lr F i → HeldIn (stepForest (machine G) lp lr F i)
+      go : Accepted (machine G) lp lr F i ⊎ Refused (machine G) lp lr F i → HeldIn lp (stepForest (machine G) lp lr F i)
       go (inl y) = rw (y .becomes) (kept-carry F i y v)
       go (inr z) = rw (z .becomes) v
 
-  pub falls : (F : Forest (Ring P) X) (i : ℕ) → HeldIn F → answer (machine G) lp lr F i ≡ ok → left (stepForest (machine G) lp lr F i) i < left F i
+  pub falls : (F : Forest (Ring P) X) (i : ℕ) → HeldIn lp F → answer (machine G) lp lr F i ≡ ok → left (stepForest (machine G) lp lr F i) i < left F i
   unfolding left leftOf
   falls F i v e = go (view (machine G) lp lr F i)
     where
-      less : (y : Accepted (machine G) lp lr F i) → HeldIn (carryOut (machine G) F i (y .who) (y .state)) → left (carryOut (machine G) F i (y .who) (y .state)) i < left F i
+      less : (y : Accepted (machine G) lp lr F i) → HeldIn lp (carryOut (machine G) F i (y .who) (y .state)) → left (carryOut (machine G) F i (y .who) (y .state)) i < left F i
       less y w =
           let R : Ring P = y .state .now in
           let k : ℕ = machine G .takes R in
@@ -110,7 +105,7 @@ module _ {P X : Type 0} (G : Geo P) (lp lr : ℕ) where
       go (inl y) = rw (y .becomes) (less y (kept-carry F i y v))
       go (inr z) = absurd (true≢false (sym (ap isOk e) ∙ z .says))
 
-  pub bound : (F : Forest (Ring P) X) (i : ℕ) → HeldIn F → left F i < enough lp
+  pub bound : (F : Forest (Ring P) X) (i : ℕ) → HeldIn lp F → left F i < enough lp
   unfolding left leftOf
   bound F i v = go (at (F .entries) i) refl
     where
@@ -122,6 +117,6 @@ module _ {P X : Type 0} (G : Geo P) (lp lr : ℕ) where
           omega (arith, suc-mul lp (suc (heaviest lp)), scale-le (lp - F .points) lp (suc (heaviest lp)) (omega arith), weight-le lp (L .now) (w .on-ring) (omega (arith, w .short, v .within)))
 
   -- finishing a forest of rings: all are done after it, and then no list has a full refusal and each can be carried on so far; or none can
-  pub rings-finish : (F : Forest (Ring P) X) → HeldIn F → length (F .entries) ≤ lr → (AllDone (machine G) (finishForest (machine G) lp lr F .entries) × Fits (machine G) lp lr F) ⊎ NeverEnds (machine G) lp lr F
+  pub rings-finish : (F : Forest (Ring P) X) → HeldIn lp F → length (F .entries) ≤ lr → (AllDone (machine G) (finishForest (machine G) lp lr F .entries) × ForestFits (machine G) lp lr F) ⊎ ForestNeverEnds (machine G) lp lr F
   unfolding finishForest
-  rings-finish F v h = finish-decides (machine G) lp lr HeldIn left kept falls (enough lp) bound F (v .within) h v
+  rings-finish F v h = finish-decides (machine G) lp lr (HeldIn lp) left kept falls (enough lp) bound F (v .within) h v

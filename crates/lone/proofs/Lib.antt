@@ -18,4 +18,4 @@ pub mod Trees
 pub mod Paths
 pub mod Finishing
 pub mod FinishingRings
-pub mod Theorems
+pub mod Coming

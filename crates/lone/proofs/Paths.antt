@@ -19,7 +19,7 @@ length-order true [] = refl
 length-order true (q ∷ qs) = ap suc (length-reverse qs)
 
 module _ {P : Type 0} (G : Geo P) where
-  dropped : (l : P) (c : List P) → length (dropEquals G l c) ≤ length c
+  pub dropped : (l : P) (c : List P) → length (dropEquals G l c) ≤ length c
   dropped l [] = omega arith
   dropped l (q ∷ qs) = go (G .samePoint q l) (dropped l qs) (dropped q qs)
     where

@@ -74,17 +74,17 @@ module _ {S X : Type 0} (M : Machine S) (lp lr : ℕ) where
 
   -- the three answers, each with what it says of the entry
   module _ (a : Answer) (e : Entry S X) (p r : ℕ) where
-    says-out : a ≡ outOfTurn → NoneOrDone M e → Exactly M lp lr a e p r
+    says-out : a ≡ outOfTurn → NoneOrDone M e → Exactly M lp lr ok full outOfTurn a e p r
     says-out h d = record { twelve = (λ k. d, λ k. h); ten = (λ k. let z : _≡_ {A = ℕ} 0 1 = cc in absurd (omega arith), λ k. absurd (k .0 d)); neither = (λ k. let z : _≡_ {A = ℕ} 0 1 = cc in absurd (omega arith), λ k. absurd (k .0 d)) }
 
-    says-full : a ≡ full → ¬ NoneOrDone M e → TakesPast M lp lr e p r → Exactly M lp lr a e p r
+    says-full : a ≡ full → ¬ NoneOrDone M e → TakesPast M lp lr e p r → Exactly M lp lr ok full outOfTurn a e p r
     says-full h n t = record { twelve = (λ k. let z : _≡_ {A = ℕ} 0 1 = cc in absurd (omega arith), λ k. absurd (n k)); ten = (λ k. (n, t), λ k. h); neither = (λ k. let z : _≡_ {A = ℕ} 0 1 = cc in absurd (omega arith), λ k. absurd (k .1 t)) }
 
-    says-ok : a ≡ ok → ¬ NoneOrDone M e → ¬ TakesPast M lp lr e p r → Exactly M lp lr a e p r
+    says-ok : a ≡ ok → ¬ NoneOrDone M e → ¬ TakesPast M lp lr e p r → Exactly M lp lr ok full outOfTurn a e p r
     says-ok h n t = record { twelve = (λ k. let z : _≡_ {A = ℕ} 0 1 = cc in absurd (omega arith), λ k. absurd (n k)); ten = (λ k. let z : _≡_ {A = ℕ} 0 1 = cc in absurd (omega arith), λ k. absurd (t (k .1))); neither = (λ k. (n, t), λ k. h) }
 
   -- the answers are what document 01 says, exactly
-  pub exactly : (e : Entry S X) (p r : ℕ) → Exactly M lp lr (answerTo M lp lr e p r) e p r
+  pub exactly : (e : Entry S X) (p r : ℕ) → Exactly M lp lr ok full outOfTurn (answerTo M lp lr e p r) e p r
   exactly ringless p r = says-out outOfTurn ringless p r refl tt
   exactly (openRing x) p r = says-out outOfTurn (openRing x) p r refl tt
   exactly (closedRing q L) p r = go _ _ _ refl refl refl
@@ -96,7 +96,7 @@ module _ {S X : Type 0} (M : Machine S) (lp lr : ℕ) where
       live : M .over (L .now) ≡ false → ¬ (M .over (L .now) ≡ true)
       live v e = true≢false (sym e ∙ v)
 
-      go : (a b c : Bool) → M .over (L .now) ≡ a → leb (p + M .takes (L .now)) lp ≡ b → leb (r + length (toList (M .cuts (L .now)))) lr ≡ c → Exactly {X = X} M lp lr (answerTo {X = X} M lp lr (closedRing q L) p r) (closedRing q L) p r
+      go : (a b c : Bool) → M .over (L .now) ≡ a → leb (p + M .takes (L .now)) lp ≡ b → leb (r + length (toList (M .cuts (L .now)))) lr ≡ c → Exactly {X = X} M lp lr ok full outOfTurn (answerTo {X = X} M lp lr (closedRing q L) p r) (closedRing q L) p r
       go true b c v h k = says-out _ (closedRing q L) p r (rw v) v
       go false true true v h k = says-ok _ (closedRing q L) p r (rw (v, h, k)) (live v) (fits v (leb-true _ _ h) (leb-true _ _ k))
       go false true false v h k = says-full _ (closedRing q L) p r (rw (v, h, k)) (live v) (inr (leb-false _ _ k))

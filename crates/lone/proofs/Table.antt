@@ -7,10 +7,9 @@ use native.Mathlib.Nat.{add-suc, add-zero, zero-add, suc-add, le-of-lt, not-suc-
 use native.Mathlib.Omega.{arith}
 use lib.ListN.{length, take, drop, getElem?, length-map, drop-of-length-le, List·getD-map}
 use lib.Seq.{take-all, take-suc, drop-cons, getD-take, length-take-le, ext-getD}
-use Rattle.lone.specs.Forest.{Machine, Entry, ringless, Opened, naming, enter, opening, at, cutFrom, offcutsOf, stepsEntry, runForest, accepted}
+use Rattle.lone.specs.Forest.{Machine, Entry, ringless, Opened, naming, enter, at, cutFrom, offcutsOf, stepsEntry}
 use Rattle.lone.specs.Order.{IsOffcut, Alone}
 use Rattle.lone.specs.Table.{openedEntries, nextEntry, addOffcuts, loneTable}
-use Rattle.lone.proofs.Alone.{independent}
 
 map-take : {A B : Type 0} (f : A → B) (k : ℕ) (l : List A) → map f (take k l) ≡ take k (map f l)
 map-take f zero l = refl
@@ -56,8 +55,3 @@ module _ {S X : Type 0} (M : Machine S) where
       where
         go : length os ≤ length es → addOffcuts M g (take (length os) es) (drop (length os) (map cutFrom es)) ≡ es
         go h = add-is (length es - length os) (length os) (omega arith) (omega arith)
-
-  -- after every list of steps
-  pub forest-is : (lp lr : ℕ) (os : List (Opened S X)) (p₀ : ℕ) (s : List ℕ)
-      → runForest M lp lr (opening os p₀) s .entries ≡ loneTable M os (accepted M lp lr (opening os p₀) s) (drop (length os) (map cutFrom (runForest M lp lr (opening os p₀) s .entries)))
-  forest-is lp lr os p₀ s = table os _ _ (independent M lp lr os p₀ s .alone)

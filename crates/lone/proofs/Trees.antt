@@ -12,39 +12,15 @@ use lib.Seq.{take-all, take-suc, drop-cons}
 use borrow.Author.Tests.{eqb-true}
 use Rattle.rings.proofs.Counting.{sumBy-append}
 use Rattle.lone.specs.Forest.{Machine, initial, Entry, ringless, closedRing, Opened, leftRingless, leftOpen, leftClosed, isNamed, names, naming}
-use Rattle.lone.specs.Forest.{enter, opening, at, cutFrom, offcutsOf, rank, stepsState, stepsEntry, runForest}
+use Rattle.lone.specs.Forest.{enter, opening, at, cutFrom, offcutsOf, rank, stepsState, stepsEntry}
 use Rattle.lone.specs.Order.{IsOffcut, Alone, AllDone}
 use Rattle.lone.specs.Tree.{Trees, nothing, ended, Finishes, no-more, and, offcutsFrom, Holds, seeds, roots}
-use Rattle.lone.proofs.Alone.{at-closed, independent}
+use Rattle.lone.proofs.Alone.{at-closed}
 
 drop-here : {A : Type 0} (l : List A) (r : ℕ) (a : A) → getElem? l r ≡ some a → drop r l ≡ a ∷ drop (suc r) l
 drop-here [] r a h = let z : _≡_ {A = ℕ} 0 1 = cc in absurd (omega arith)
 drop-here (x ∷ l) zero a h = let e : x ≡ a = cc in ap (λ (y : _). y ∷ l) e
 drop-here (x ∷ l) (suc r) a h = drop-here l r a h
-
-module _ {S : Type 0} (M : Machine S) where
-  -- what lone machines end in is one
-  same-count : (s : S) (m n : ℕ) → ((k : ℕ) → k < m → M .over (stepsState M k (initial s) .now) ≡ false) → M .over (stepsState M n (initial s) .now) ≡ true → m ≤ n
-  same-count s m n f e = go (decLt n m)
-    where
-      go : Dec (n < m) → m ≤ n
-      go (yes h) = absurd (true≢false (sym e ∙ f n h))
-      go (no h) = omega arith
-
-  pub one-end : (ss : List S) (t u : Trees S) → Finishes M ss t → Finishes M ss u → t ≡ u
-  one-end ss t u no-more g = none-left u g
-    where
-      none-left : (u : Trees S) → Finishes M [] u → nothing ≡ u
-      none-left u no-more = refl
-  one-end ss t u (and {s = s} {ss = r} {ts = ts} {us = us} n f o c d) g = split u g (λ v h. one-end (stepsState M n (initial s) .offcuts) ts v c h) (λ v h. one-end r us v d h)
-    where
-      split : (u : Trees S) → Finishes M (s ∷ r) u → ((v : Trees S) → Finishes M (stepsState M n (initial s) .offcuts) v → ts ≡ v)
-          → ((v : Trees S) → Finishes M r v → us ≡ v) → ended (stepsState M n (initial s) .now) ts us ≡ u
-      split u (and {ts = ts′} {us = us′} n′ f′ o′ c′ d′) on-offcuts on-rest =
-          let e : n′ ≡ n = omega (arith, same-count s n n′ f o′, same-count s n′ n f′ o) in
-          let a : ts ≡ ts′ = on-offcuts ts′ (subst (λ (k : ℕ). Finishes M (stepsState M k (initial s) .offcuts) ts′) e c′) in
-          let b : us ≡ us′ = on-rest us′ d′ in
-          cc
 
 -- ---- what the table holds, once all are done
 
@@ -150,15 +126,3 @@ module _ {S X : Type 0} (M : Machine S) (os : List (Opened S X)) (es : List (Ent
   -- the table holds what the lone machines end in
   pub holds-end : (ts : Trees S) × Finishes M (seeds os) ts × Holds es (roots 0 os) ts
   holds-end = from-roots os 0 (omega arith) (λ i. ap (at (map enter os)) (zero-add i))
-
-module _ {S X : Type 0} (M : Machine S) (lp lr : ℕ) (os : List (Opened S X)) (p₀ : ℕ) where
-  pub end-of : (s : List ℕ) → AllDone M (runForest M lp lr (opening os p₀) s .entries) → (ts : Trees S) × Finishes M (seeds os) ts × Holds (runForest M lp lr (opening os p₀) s .entries) (roots 0 os) ts
-  end-of s h = holds-end M os _ _ (independent M lp lr os p₀ s .alone) h
-
-  -- two lists that finish everything end in the same rings, up to numbering
-  pub same-end : (s t : List ℕ) → AllDone M (runForest M lp lr (opening os p₀) s .entries) → AllDone M (runForest M lp lr (opening os p₀) t .entries)
-      → (ts : Trees S) × Holds (runForest M lp lr (opening os p₀) s .entries) (roots 0 os) ts × Holds (runForest M lp lr (opening os p₀) t .entries) (roots 0 os) ts
-  same-end s t h k =
-      let u = end-of s h in
-      let v = end-of t k in
-      (u .0, u .2, subst (λ (ts : Trees S). Holds (runForest M lp lr (opening os p₀) t .entries) (roots 0 os) ts) (one-end M (seeds os) (v .0) (u .0) (v .1) (u .1)) (v .2))

@@ -1,18 +1,27 @@
--- Document 01's bench rings as rows of one table: a setting, one closed ring, and the paths that it and its offcuts end in.
+-- Rings as rows of tables: the settings, one closed ring, and the paths that it and its offcuts end in. Document 01's bench rings, rings at the rules' edges, a ring
+-- for each rule that a table of simple rings would not see, and rules that only the ring itself shows.
 use mathlib.Core.Bool.{Bool, true, false}
 use mathlib.Core.List.{List, [], _∷_}
-use Prim.Native.Nat.{ℕ}
-use lib.IntN.{pos}
+use Prim.Native.Nat.{ℕ, zero, suc}
+use lib.IntN.{ℤ, pos, negℤ}
 use lib.ListN.{length}
 use Rattle.geometry.specs.declared.Point.{Point}
 use Rattle.rings.specs.Progress.{Ring, atStart}
+use Rattle.lone.specs.Lone.{fromFirst}
 use Rattle.lone.specs.Forest.{Entry, leftClosed, opening}
 use Rattle.lone.specs.Plane.{plane, loneRing}
 use Rattle.lone.specs.Finish.{finishForest}
 use Rattle.lone.specs.Writing.{isAllDone, closedPaths}
 
+abbrev pub point : ℤ → ℤ → Point
+point a b = record { x = a; y = b }
+
+-- one that is nowhere left of or below the origin
 abbrev pub pt : ℕ → ℕ → Point
-pt a b = record { x = pos a; y = pos b }
+pt a b = point (pos a) (pos b)
+
+abbrev pub minus : ℕ → ℤ
+minus n = negℤ (pos n)
 
 -- the two settings, the ring, and its paths
 pub record Row : Type 0 where
@@ -24,6 +33,10 @@ pub record Row : Type 0 where
 -- a row with settings 0
 abbrev pub row : List Point → List (List Point) → Row
 row ring paths = record { preserve = false; reversed = false; ring = ring; paths = paths }
+
+-- one with bit 0
+abbrev pub rowKept : List Point → List (List Point) → Row
+rowKept ring paths = record { preserve = true; reversed = false; ring = ring; paths = paths }
 
 -- what a row's forest ends in: whether all are done, and the paths, records ascending
 pub record Outcome : Type 0 where
@@ -66,3 +79,126 @@ edges =
     ∷ row (pt 0 4 ∷ pt 3 1 ∷ pt 2 1 ∷ pt 3 3 ∷ pt 0 0 ∷ []) ((pt 3 3 ∷ pt 3 1 ∷ pt 2 1 ∷ pt 3 3 ∷ pt 0 0 ∷ pt 0 4 ∷ []) ∷ [])
     ∷ row (pt 3 2 ∷ pt 2 4 ∷ pt 3 0 ∷ pt 2 1 ∷ pt 1 4 ∷ []) ((pt 2 2 ∷ pt 3 0 ∷ pt 2 1 ∷ pt 1 4 ∷ []) ∷ [])
     ∷ []
+
+-- ---- a ring for each rule, with the Rust's own answers. Another rule there ends otherwise
+
+-- a doubling at the ring's first point ends the loop
+abbrev pub doubledAtFirst : Row
+doubledAtFirst = row (pt 2 0 ∷ pt 2 3 ∷ pt 0 1 ∷ pt 0 2 ∷ pt 3 0 ∷ pt 1 2 ∷ []) ((pt 0 1 ∷ pt 3 0 ∷ pt 1 2 ∷ pt 2 0 ∷ pt 3 0 ∷ pt 2 3 ∷ []) ∷ [])
+
+-- the loop's start is kept through a cut that leaves it on the ring
+abbrev pub startKept : Row
+startKept = rowKept (pt 1 4 ∷ pt 2 0 ∷ pt 4 2 ∷ pt 1 3 ∷ pt 2 2 ∷ []) ((pt 1 2 ∷ pt 1 4 ∷ pt 1 3 ∷ pt 2 0 ∷ pt 4 2 ∷ []) ∷ [])
+
+-- a start that was cut away is none: nothing meets it
+abbrev pub startCutAway : Row
+startCutAway = row (pt 1 4 ∷ pt 2 2 ∷ pt 0 1 ∷ pt 4 1 ∷ pt 0 4 ∷ []) []
+
+-- the crossing is the second point after: no point is put in
+abbrev pub crossingAfter : Row
+crossingAfter = rowKept (pt 0 0 ∷ pt 1 3 ∷ pt 3 1 ∷ pt 0 1 ∷ []) ((pt 1 3 ∷ pt 3 1 ∷ pt 0 1 ∷ []) ∷ [])
+
+-- the crossing is the point before: no point is put in
+abbrev pub crossingBefore : Row
+crossingBefore = row (pt 2 3 ∷ pt 0 2 ∷ pt 3 3 ∷ pt 0 0 ∷ pt 1 3 ∷ []) ((pt 3 3 ∷ pt 0 0 ∷ pt 0 2 ∷ []) ∷ [])
+
+-- an offcut whose `area_triangle` is 1.0, the least that is kept
+abbrev pub leastOffcut : Row
+leastOffcut = row (pt 5 1 ∷ pt 0 4 ∷ pt 4 3 ∷ pt 2 4 ∷ []) ((pt 5 1 ∷ pt 0 4 ∷ pt 2 3 ∷ []) ∷ [])
+
+-- an offcut that is not larger than the ring is kept for having its sign
+abbrev pub sameSign : Row
+sameSign = row (point (minus 2) (minus 3) ∷ point (pos 1) (minus 1) ∷ point (minus 3) (minus 2) ∷ point (minus 1) (minus 3) ∷ [])
+    ((point (pos 1) (minus 1) ∷ point (minus 3) (minus 2) ∷ point (minus 1) (minus 2) ∷ []) ∷ [])
+
+-- after a drop the removal loop's start is the point then present: else the last stray point is never met
+abbrev pub startAfterDrop : Row
+startAfterDrop = row (pt 2 0 ∷ pt 2 1 ∷ pt 3 2 ∷ pt 2 3 ∷ pt 2 0 ∷ []) []
+
+-- and so the points before it are met again: (2,0), which lies in line once the spike is gone
+abbrev pub startMovesOn : Row
+startMovesOn = row (pt 0 4 ∷ pt 0 0 ∷ pt 2 0 ∷ pt 2 3 ∷ pt 2 0 ∷ pt 4 0 ∷ pt 4 4 ∷ []) ((pt 0 0 ∷ pt 4 0 ∷ pt 4 4 ∷ pt 0 4 ∷ []) ∷ [])
+
+-- a first point that is dropped goes back by one
+abbrev pub firstGoesBack : Row
+firstGoesBack = row (pt 3 2 ∷ pt 3 0 ∷ pt 0 1 ∷ pt 3 3 ∷ []) ((pt 3 0 ∷ pt 0 1 ∷ pt 3 3 ∷ []) ∷ [])
+
+-- a ring of area 1.5 goes at its split
+abbrev pub areaUnderTwo : Row
+areaUnderTwo = row (pt 0 0 ∷ pt 2 0 ∷ pt 2 3 ∷ pt 3 3 ∷ []) []
+
+-- the crossing (-0.6, 1.2) drops toward zero, to (0, 1)
+abbrev pub towardZero : Row
+towardZero = row (point (pos 1) (minus 2) ∷ point (minus 1) (pos 2) ∷ point (minus 3) (pos 0) ∷ pt 1 2 ∷ []) []
+
+-- with bit 0, too, a spike goes
+abbrev pub spikeGoes : Row
+spikeGoes = rowKept (point (minus 3) (minus 3) ∷ point (minus 3) (pos 1) ∷ point (minus 3) (minus 1) ∷ []) []
+
+-- and so do equal neighbours
+abbrev pub equalsGo : Row
+equalsGo = rowKept (pt 3 1 ∷ pt 2 0 ∷ pt 2 2 ∷ pt 3 1 ∷ []) []
+
+unfoldable pub rules : List Row
+rules =
+    doubledAtFirst
+    ∷ startKept
+    ∷ startCutAway
+    ∷ crossingAfter
+    ∷ crossingBefore
+    ∷ leastOffcut
+    ∷ sameSign
+    ∷ startAfterDrop
+    ∷ startMovesOn
+    ∷ firstGoesBack
+    ∷ areaUnderTwo
+    ∷ towardZero
+    ∷ spikeGoes
+    ∷ equalsGo
+    ∷ []
+
+-- ---- rules that no path shows, only what the ring itself is in the end and how many steps it took
+
+-- a lone ring alone, with settings 0: its points, the steps until it is done, and its points then from the first
+pub record LoneRow : Type 0 where
+  pub ring : List Point
+  pub steps : ℕ
+  pub left : List Point
+
+abbrev pub loneRow : List Point → ℕ → List Point → LoneRow
+loneRow ring steps left = record { ring = ring; steps = steps; left = left }
+
+-- steps until it is done, over: whether it is; f: more than are needed
+abbrev pub goesOn : ℕ → Bool → ℕ → Ring Point → LoneRow
+goesOn zero over n R = loneRow [] n (fromFirst R)
+goesOn (suc f) true n R = loneRow [] n (fromFirst R)
+goesOn (suc f) false n R = goesOn f (loneRing false .over (loneRing false .next R)) (suc n) (loneRing false .next R)
+
+unfoldable pub loneResult : LoneRow → LoneRow
+loneResult r = loneRow (r .ring) (goesOn 100 false 0 (atStart (r .ring)) .steps) (goesOn 100 false 0 (atStart (r .ring)) .left)
+
+-- three points of which two are close, and two points, fail the validity test
+abbrev pub threeClose : LoneRow
+threeClose = loneRow (pt 0 0 ∷ pt 1 1 ∷ pt 50 0 ∷ []) 1 []
+
+abbrev pub twoPoints : LoneRow
+twoPoints = loneRow (pt 0 0 ∷ pt 5 5 ∷ []) 1 []
+
+-- three points end at the triangle test
+abbrev pub threePoints : LoneRow
+threePoints = loneRow (pt 0 0 ∷ pt 2 0 ∷ pt 1 50 ∷ []) 5 (pt 0 0 ∷ pt 2 0 ∷ pt 1 50 ∷ [])
+
+-- a cut to three points ends the loop
+abbrev pub cutToThree : LoneRow
+cutToThree = loneRow (pt 0 0 ∷ pt 10 10 ∷ pt 10 0 ∷ pt 0 12 ∷ []) 8 (pt 0 0 ∷ pt 5 5 ∷ pt 0 12 ∷ [])
+
+-- a cut to two does not
+abbrev pub cutToTwo : LoneRow
+cutToTwo = loneRow (point (pos 0) (minus 5) ∷ pt 2 1 ∷ pt 0 1 ∷ pt 1 7 ∷ []) 9 (pt 1 7 ∷ pt 0 1 ∷ [])
+
+-- a drop that leaves three close points discards
+abbrev pub dropDiscards : LoneRow
+dropDiscards = loneRow (pt 2 0 ∷ pt 2 1 ∷ pt 3 2 ∷ pt 2 3 ∷ pt 2 0 ∷ []) 6 []
+
+unfoldable pub loneRows : List LoneRow
+loneRows = threeClose ∷ twoPoints ∷ threePoints ∷ cutToThree ∷ cutToTwo ∷ dropDiscards ∷ []

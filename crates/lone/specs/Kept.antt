@@ -8,6 +8,7 @@ use lib.ListN.{length}
 use Rattle.rings.specs.Progress.{Due, validity, removal, triangle, split, done, Ring}
 use Rattle.lone.specs.Ring.{Act, stay, discard, dropPoint, moveOn, toFirst, double, cut}
 use Rattle.lone.specs.Lone.{Geo}
+use Rattle.lone.specs.Forest.{Forest, Every}
 
 abbrev pub AtMost : ℕ → Option ℕ → Type 0
 AtMost m none = Unit {0}
@@ -35,6 +36,11 @@ pub record Held {A : Type 0} (n : ℕ) (R : Ring A) : Type 0 where
   pub on-ring : OnRing R
   pub has-start : HasStart (R .due) (R .start)
   pub short : length (R .circle) ≤ n
+
+-- what steps keep of a forest of rings with at most lp points
+pub record HeldIn {P X : Type 0} (lp : ℕ) (F : Forest (Ring P) X) : Type 0 where
+  pub within : F .points ≤ lp
+  pub every : Every (Held (F .points)) (F .entries)
 
 -- where a split turn is due the circle has two points or at least four
 abbrev pub SplitSize : Due → ℕ → Type 0

@@ -36,6 +36,11 @@ isZero (suc k) = false
 abbrev pub fromFirst : {A : Type 0} → Ring A → List A
 fromFirst R = spin (R .first) (R .circle)
 
+-- "An offcut needs |area_triangle| at least 1.0, which is twice the area, and then a larger magnitude than the ring's area or its sign": area1 is the ring's area,
+-- doubled, area2 the `area_triangle`
+abbrev pub keepsBy : ℤ → ℤ → Bool
+keepsBy area1 area2 = leb 1 (natAbs area2) && (ltb (natAbs area1) (2 * natAbs area2) || Bool·beq (ltZ (pos 0) area2) (ltZ (pos 0) area1))
+
 module _ {P : Type 0} (G : Geo P) where
   -- `is_valid_closed_path`: "Validity fails for no points, one, two, or three of which two differ by under 2 in both x and y"
   abbrev pub isValidClosedPath : List P → Bool
@@ -58,13 +63,9 @@ module _ {P : Type 0} (G : Geo P) where
   abbrev pub tooSmall : List P → Bool
   tooSmall c = ltb (natAbs (G .areaOutpt c)) 4
 
-  -- "An offcut needs |area_triangle| at least 1.0, which is twice the area, and then a larger magnitude than the ring's area or its sign": the
-  -- ring's area is half of `areaOutpt`
+  -- the offcut (ip, x, next) of the ring c is kept
   abbrev pub keepsOffcut : List P → P → P → P → Bool
-  keepsOffcut c ip x next =
-      let area1 : ℤ = G .areaOutpt c in
-      let area2 : ℤ = G .areaTriangle ip x next in
-      leb 1 (natAbs area2) && (ltb (natAbs area1) (2 * natAbs area2) || Bool·beq (ltZ (pos 0) area2) (ltZ (pos 0) area1))
+  keepsOffcut c ip x next = keepsBy (G .areaOutpt c) (G .areaTriangle ip x next)
 
   -- `do_split_op` at x, the present point, and what follows it in `fix_self_intersects`: the crossing is put in unless it is the point before or
   -- the second after; the loop ends if one or three points are left

@@ -34,7 +34,7 @@ pub kept-after : (n at v m b : ℕ) (s : List ℕ) → at + n ≤ b → le m b (
 kept-after n at v m b s h = same-bytes m b (putLe n at v s) s (λ j l. kept n at v (b + j) s (λ k g e. omega arith))
 
 -- the low n bytes of v and the next one
-split : (n v : ℕ) → v % 256 ^ suc n ≡ (v / 256 ^ n % 256) * 256 ^ n + v % 256 ^ n
+pub split : (n v : ℕ) → v % 256 ^ suc n ≡ (v / 256 ^ n % 256) * 256 ^ n + v % 256 ^ n
 split n v = rw (pow-succ' 256 n) (mod-mul v (omega arith) (some n))
 
 -- written, then read: the low n bytes of v

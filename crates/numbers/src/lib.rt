@@ -3,7 +3,7 @@ ghost use mathlib.Core.Path.{_≡_};
 ghost use Prim.Native.Nat.{_+_, _-_, _%_, _<_, _≤_};
 ghost use lib.ListN.{length, set};
 ghost use Rattle.numbers.specs.Bytes.{le, putLe, Number, Part};
-ghost use Rattle.numbers.specs.Raised.{raised, lowered, coordinate};
+ghost use Rattle.numbers.specs.Raised.{raised, lowered};
 
 // The part of s from at on.
 pub fn from(s: &[u8], at: usize) -> &[u8]
@@ -98,11 +98,4 @@ pub fn write_lowered(s: &mut [u8], at: usize, w: u32, by: u32)
     ensures { λ _. ⌜ now (s .exit) ≡ putLe 4 at (lowered by w) (now (s .entry)) ⌝ }
 {
     write_u32(s, at, lower(w, by));
-}
-
-// The signed number of a word raised by `by`.
-pub fn value(w: u32, by: u32) -> i64
-    ensures { λ r. ⌜ r ≡ coordinate by w ⌝ }
-{
-    (w as i64) - (by as i64)
 }

@@ -1,67 +1,24 @@
 // Opens the stored jobs on standard input, each after its length (four bytes, low byte first), and prints what the oracle's command `opened` prints: both counts
-// and each record's ring, or the refusal's number. The jobs are cases written by hand and the generator's (`oracle generate 7 ..`), the file `stdout` is the oracle's.
+// and each record's ring, or the refusal's number. The jobs are cases written by hand and the generator's; `tests/opened ORACLE crates/opened` makes both files.
+use job::Job;
 use job::refusal::Refusal;
 use libc::STDIN_FILENO;
 use libc::STDOUT_FILENO;
+use opening::open::LENGTH;
 use opening::open::Opened;
 use opening::open::open;
 use store::Col;
 use store::NONE;
 use store::read;
+use test_text::first;
+use test_text::from;
+use test_text::further;
+use test_text::number_at;
 ghost use Prim.Native.Nat.{_≤_};
 ghost use lib.ListN.{length};
 ghost use Rattle.store.specs.Field.{LENGTH};
 
-const RAISE: usize = 1048576;
-
-fn wide(x: u8) -> usize {
-    x as usize
-}
-
-// The byte at a place, and 0 past the end.
-fn byte(s: &[u8], at: usize) -> usize {
-    if at < s.len() {
-        return wide(s[at]);
-    }
-    0
-}
-
-// A place further on; the input has fewer bytes.
-fn further(at: usize, n: usize) -> usize {
-    if at < 65536 {
-        if n < 65536 {
-            return at + n;
-        }
-    }
-    65536
-}
-
-// The bytes from a place on.
-fn from(s: &[u8], at: usize) -> &[u8] {
-    if at <= s.len() {
-        return &s[at..];
-    }
-    s
-}
-
-fn signed(n: usize) -> isize {
-    if n < 65536 {
-        return n as isize;
-    }
-    0
-}
-
-// The length of the job at a place.
-fn size_at(s: &[u8], at: usize) -> usize {
-    let a = byte(s, at);
-    let b = byte(s, further(at, 1));
-    if a < 256 {
-        if b < 256 {
-            return a + 256 * b;
-        }
-    }
-    0
-}
+const RAISE: usize = Job::COORDINATE as usize;
 
 fn print(n: usize) {
     io::print_decimal(STDOUT_FILENO, n as u64);
@@ -105,7 +62,7 @@ fn count(w: &[u32], a: usize) -> usize
 {
     let mut p = a;
     let mut n: usize = 0;
-    while n < 2048 {
+    while n < Job::POINTS {
         p = read(w, Col::Next, p);
         n += 1;
         if p == a {
@@ -207,14 +164,12 @@ fn run(s: &[u8], w: &mut [u32])
     let mut at: usize = 0;
     let mut left: u32 = 1000;
     while 0 < left {
-        let n = size_at(s, at);
+        let n = number_at(s, at);
         if n == 0 {
             return;
         }
         at = further(at, 4);
-        let part = from(s, at);
-        let k = io::count(signed(n), part);
-        open_one(&part[..k], w);
+        open_one(first(from(s, at), n), w);
         at = further(at, n);
         left -= 1;
     }
@@ -223,6 +178,6 @@ fn run(s: &[u8], w: &mut [u32])
 fn main() {
     let mut buf = io::large_buffer();
     let n = io::read_full(STDIN_FILENO, &mut buf);
-    let mut w = [0u32; 13840];
+    let mut w = [0u32; LENGTH];
     run(&buf[..n], &mut w);
 }

@@ -8,6 +8,7 @@ use lib.Dec.{ltb}
 use lib.ListN.{length, getD, replicate, length-replicate}
 use borrow.Author.Tests.{ltb-false, lt-ltb}
 use Rattle.rings.specs.Count.{occ}
+use Rattle.job.specs.Limits as limit
 use Rattle.job.specs.declared.Job.{Job}
 use Rattle.job.specs.declared.refusal.Refusal.the-variants as refusal
 use Rattle.store.specs.Field.{rc, X, Y, FLAGS, LENGTH}
@@ -23,9 +24,9 @@ use Rattle.rows.specs.Rings.{onRing}
 use Rattle.rows.specs.Rows.{onOpen}
 use Rattle.rows.proofs.Homes.{or-left, or-right}
 use Rattle.accepting.specs.Accept.{acceptOf}
-use Rattle.segments.specs.declared.pairs.Converted.the-variants as converted
-use Rattle.segments.specs.Make.{Made, made, convertHorzSegsToJoins, Converting}
-use Rattle.segments.proofs.Open.{ConvertedOpen, convert-open}
+use Rattle.converting.specs.declared.pairs.Converted.the-variants as converted
+use Rattle.converting.specs.Make.{Made, made, convertHorzSegsToJoins, Converting}
+use Rattle.converting.proofs.Open.{ConvertedOpen, convert-open}
 use Rattle.joins.specs.declared.Joined.the-variants as joined
 use Rattle.joins.specs.Join as join
 use Rattle.joins.specs.Join.{processHorzJoins}
@@ -37,7 +38,7 @@ use Rattle.joins.proofs.Open.{opened-on, joins-open}
 use Rattle.joins.proofs.Turns.{words}
 use Rattle.opening.specs.declared.open.Opened.the-variants.{Accepted, Refused}
 use Rattle.opening.specs.Start.{startRings}
-use Rattle.opening.specs.Open.{End, end, afterJoins, afterSegments, afterRows, stagesOf, settled, openOf}
+use Rattle.opening.specs.Open.{JOIN-POINTS, End, end, afterJoins, afterSegments, afterRows, stagesOf, settled, openOf}
 use Rattle.opening.specs.After.{AfterOpening, OpenAsGiven}
 use Rattle.opening.proofs.Passing.{passed, converting, may-join, made-ready}
 use Rattle.opening.proofs.Starting.{Begun, begun-all, recs-same, pts-same, first-same, ring-same, open-same, start-ready, start-sound, start-fresh}
@@ -106,7 +107,7 @@ module _ (y : List ℕ) where
       by-joins w k ks x (may-join w ss m js n (converted.Joins k) k x ks g (sym e) refl) (o .0) (o .1) (processHorzJoins k ks x) refl f
   by-segments w ss m js n g (made converted.Full x ks) e o f = absurd (let z : _≡_ {A = ℕ} 0 1 = cc in omega arith)
 
-  by-rows : (bytes w : List ℕ) → LENGTH ≤ length w → (j : Job) (v ts ks : List ℕ) → acceptOf bytes w (replicate 256 0) (replicate 2560 0) ≡ fill.end (outcome.State j) v ts ks → afterSegments (convertHorzSegsToJoins v (j .segments) ts ks (j .joins)) ≡ end Accepted y → Both v y
+  by-rows : (bytes w : List ℕ) → LENGTH ≤ length w → (j : Job) (v ts ks : List ℕ) → acceptOf bytes w (replicate limit.SEGMENTS 0) (replicate JOIN-POINTS 0) ≡ fill.end (outcome.State j) v ts ks → afterSegments (convertHorzSegsToJoins v (j .segments) ts ks (j .joins)) ≡ end Accepted y → Both v y
   by-rows bytes w l j v ts ks e f =
       let a = passed bytes w v ts ks j l e in
       let c = converting bytes w v ts ks j l e in
@@ -120,25 +121,25 @@ module _ (y : List ℕ) where
   by-stages n (end (Refused x) w) f = absurd (let z : _≡_ {A = ℕ} 0 1 = cc in omega arith)
 
   -- opening accepts only a long enough work space, and a job that passed rows 1 to 8
-  accepts : (bytes : List ℕ) (n : ℕ) → openOf bytes n ≡ end Accepted y → (LENGTH ≤ length (replicate {A = ℕ} n 0)) × (afterRows (acceptOf bytes (replicate n 0) (replicate 256 0) (replicate 2560 0)) ≡ end Accepted y)
+  accepts : (bytes : List ℕ) (n : ℕ) → openOf bytes n ≡ end Accepted y → (LENGTH ≤ length (replicate {A = ℕ} n 0)) × (afterRows (acceptOf bytes (replicate n 0) (replicate limit.SEGMENTS 0) (replicate JOIN-POINTS 0)) ≡ end Accepted y)
   unfolding openOf stagesOf
   accepts bytes n f = by (ltb n LENGTH) refl f
     where
-      by : (t : Bool) → ltb n LENGTH ≡ t → cond t (end (Refused refusal.Full) (replicate n 0)) (settled n (afterRows (acceptOf bytes (replicate n 0) (replicate 256 0) (replicate 2560 0)))) ≡ end Accepted y → (LENGTH ≤ length (replicate {A = ℕ} n 0)) × (afterRows (acceptOf bytes (replicate n 0) (replicate 256 0) (replicate 2560 0)) ≡ end Accepted y)
+      by : (t : Bool) → ltb n LENGTH ≡ t → cond t (end (Refused refusal.Full) (replicate n 0)) (settled n (afterRows (acceptOf bytes (replicate n 0) (replicate limit.SEGMENTS 0) (replicate JOIN-POINTS 0)))) ≡ end Accepted y → (LENGTH ≤ length (replicate {A = ℕ} n 0)) × (afterRows (acceptOf bytes (replicate n 0) (replicate limit.SEGMENTS 0) (replicate JOIN-POINTS 0)) ≡ end Accepted y)
       by true e d = absurd (let z : _≡_ {A = ℕ} 0 1 = cc in omega arith)
-      by false e d = (omega (arith, ltb-false n LENGTH e, length-replicate {A = ℕ} n 0), by-stages n (afterRows (acceptOf bytes (replicate n 0) (replicate 256 0) (replicate 2560 0))) d)
+      by false e d = (omega (arith, ltb-false n LENGTH e, length-replicate {A = ℕ} n 0), by-stages n (afterRows (acceptOf bytes (replicate n 0) (replicate limit.SEGMENTS 0) (replicate JOIN-POINTS 0))) d)
 
   module _ (bytes : List ℕ) (n : ℕ) (f : openOf bytes n ≡ end Accepted y) where
-    by-read : (T : fill.End) → acceptOf bytes (replicate n 0) (replicate 256 0) (replicate 2560 0) ≡ T → afterRows T ≡ end Accepted y → AfterOpening y
+    by-read : (T : fill.End) → acceptOf bytes (replicate n 0) (replicate limit.SEGMENTS 0) (replicate JOIN-POINTS 0) ≡ T → afterRows T ≡ end Accepted y → AfterOpening y
     by-read (fill.end (outcome.State j) v ts ks) e d = by-rows bytes (replicate n 0) (accepts bytes n f .0) j v ts ks e d .opened
     by-read (fill.end (outcome.Refused x) v ts ks) e d = absurd (let z : _≡_ {A = ℕ} 0 1 = cc in omega arith)
 
     -- THE LAWS: what the words are,
     pub after-opening : AfterOpening y
-    after-opening = by-read (acceptOf bytes (replicate n 0) (replicate 256 0) (replicate 2560 0)) refl (accepts bytes n f .1)
+    after-opening = by-read (acceptOf bytes (replicate n 0) (replicate limit.SEGMENTS 0) (replicate JOIN-POINTS 0)) refl (accepts bytes n f .1)
 
     -- and the open rings, v being the words as the job was read
-    pub open-as-given : (j : Job) (v ts ks : List ℕ) → acceptOf bytes (replicate n 0) (replicate 256 0) (replicate 2560 0) ≡ fill.end (outcome.State j) v ts ks → OpenAsGiven (view v) (view y)
+    pub open-as-given : (j : Job) (v ts ks : List ℕ) → acceptOf bytes (replicate n 0) (replicate limit.SEGMENTS 0) (replicate JOIN-POINTS 0) ≡ fill.end (outcome.State j) v ts ks → OpenAsGiven (view v) (view y)
     open-as-given j v ts ks e =
         let a = accepts bytes n f in
         by-rows bytes (replicate n 0) (a .0) j v ts ks e (ap afterRows (sym e) ∙ a .1) .given

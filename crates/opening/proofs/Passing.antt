@@ -4,6 +4,7 @@ use mathlib.Core.Path.{_≡_, refl, ap, _∙_, sym, subst}
 use mathlib.Core.List.{List}
 use native.Mathlib.Omega.{arith}
 use lib.ListN.{length, replicate, length-replicate}
+use Rattle.job.specs.Limits as limit
 use Rattle.job.specs.declared.Job.{Job}
 use Rattle.store.specs.Field.{LENGTH}
 use Rattle.store.specs.Named.{recordsOf}
@@ -16,16 +17,17 @@ use Rattle.reading.proofs.Counted.{filled}
 use Rattle.rows.proofs.Homes.{named-at}
 use Rattle.accepting.specs.Accept.{judged, acceptOf, Accepted}
 use Rattle.accepting.proofs.Accepting.{accepted}
-use Rattle.segments.specs.declared.pairs.Converted.{Converted}
-use Rattle.segments.specs.declared.pairs.Converted.the-variants as converted
-use Rattle.segments.specs.Make.{made, convertHorzSegsToJoins, Converting}
-use Rattle.segments.proofs.Converting.{JoinsOf, convert-joins}
+use Rattle.converting.specs.declared.pairs.Converted.{Converted}
+use Rattle.converting.specs.declared.pairs.Converted.the-variants as converted
+use Rattle.converting.specs.Make.{made, convertHorzSegsToJoins, Converting}
+use Rattle.converting.proofs.Converting.{JoinsOf, convert-joins}
 use Rattle.joins.specs.declared.Joined.{Joined}
 use Rattle.joins.specs.Join as join
 use Rattle.joins.specs.Join.{processHorzJoins}
 use Rattle.joins.specs.Needs.{Joins}
 use Rattle.joins.specs.Resolved.{Ready}
 use Rattle.joins.proofs.Turns.{Still, words, joins-kept}
+use Rattle.opening.specs.Open.{JOIN-POINTS}
 
 -- ---- a job that passed rows 1 to 8
 
@@ -43,27 +45,27 @@ module _ (bytes w ss js v ts ks : List ℕ) (j : Job) where
   unfolding acceptOf readOf
   lengths e = by-fill (fillOf bytes w ss js) refl e
 
-lists : (w : List ℕ) → LENGTH ≤ length w → Space w (replicate 256 0) (replicate 2560 0)
-lists w h = record { words = h; segments = omega (arith, length-replicate {A = ℕ} 256 0); joins = omega (arith, length-replicate {A = ℕ} 2560 0) }
+lists : (w : List ℕ) → LENGTH ≤ length w → Space w (replicate limit.SEGMENTS 0) (replicate JOIN-POINTS 0)
+lists w h = record { words = h; segments = omega (arith, length-replicate {A = ℕ} limit.SEGMENTS 0); joins = omega (arith, length-replicate {A = ℕ} JOIN-POINTS 0) }
 
 module _ (bytes w v ts ks : List ℕ) (j : Job) (long : LENGTH ≤ length w) where
-  pub passed : acceptOf bytes w (replicate 256 0) (replicate 2560 0) ≡ fill.end (outcome.State j) v ts ks → Accepted j v ts ks
-  passed e = accepted bytes w (replicate 256 0) (replicate 2560 0) (lists w long) j v ts ks e
+  pub passed : acceptOf bytes w (replicate limit.SEGMENTS 0) (replicate JOIN-POINTS 0) ≡ fill.end (outcome.State j) v ts ks → Accepted j v ts ks
+  passed e = accepted bytes w (replicate limit.SEGMENTS 0) (replicate JOIN-POINTS 0) (lists w long) j v ts ks e
 
-  pub converting : acceptOf bytes w (replicate 256 0) (replicate 2560 0) ≡ fill.end (outcome.State j) v ts ks → Converting v ts (j .segments) ks (j .joins)
+  pub converting : acceptOf bytes w (replicate limit.SEGMENTS 0) (replicate JOIN-POINTS 0) ≡ fill.end (outcome.State j) v ts ks → Converting v ts (j .segments) ks (j .joins)
   converting e =
       let a = passed e in
-      let l = lengths bytes w (replicate 256 0) (replicate 2560 0) v ts ks j e in
+      let l = lengths bytes w (replicate limit.SEGMENTS 0) (replicate JOIN-POINTS 0) v ts ks j e in
       let i = a .counts .within in
       record {
-        listed = record { ready = a .ready; fits = omega (arith, l .0, length-replicate {A = ℕ} 256 0, i .segments); few = i .segments; point = named-at v ts (j .segments) (a .segments) };
-        room = omega (arith, l .1, length-replicate {A = ℕ} 2560 0);
+        listed = record { ready = a .ready; fits = omega (arith, l .0, length-replicate {A = ℕ} limit.SEGMENTS 0, i .segments); few = i .segments; point = named-at v ts (j .segments) (a .segments) };
+        room = omega (arith, l .1, length-replicate {A = ℕ} JOIN-POINTS 0);
         few = i .joins;
         named = named-at v ks (2 * j .joins) (a .joins);
       }
 
   -- for the code of `stages`
-  pub may-convert : (r : Outcome) → fill.end r v ts ks ≡ acceptOf bytes w (replicate 256 0) (replicate 2560 0) → r ≡ outcome.State j → Converting v ts (j .segments) ks (j .joins)
+  pub may-convert : (r : Outcome) → fill.end r v ts ks ≡ acceptOf bytes w (replicate limit.SEGMENTS 0) (replicate JOIN-POINTS 0) → r ≡ outcome.State j → Converting v ts (j .segments) ks (j .joins)
   may-convert r e f = converting (sym e ∙ ap (λ (o : Outcome). fill.end o v ts ks) f)
 
 -- ---- its joins
@@ -79,5 +81,5 @@ made-ready k js w x t g e = subst (λ (z : join.End). Still w (words z)) (sym e)
 pub made-long : (k : ℕ) (js w x : List ℕ) (t : Joined) → Joins w k js → join.end t x ≡ processHorzJoins k js w → LENGTH ≤ length x
 made-long k js w x t g e = made-ready k js w x t g e .long
 
-pub made-few : (k : ℕ) (js w x : List ℕ) (t : Joined) → Joins w k js → join.end t x ≡ processHorzJoins k js w → recordsOf x ≤ 512
+pub made-few : (k : ℕ) (js w x : List ℕ) (t : Joined) → Joins w k js → join.end t x ≡ processHorzJoins k js w → recordsOf x ≤ limit.RECORDS
 made-few k js w x t g e = made-ready k js w x t g e .resolved .few-records

@@ -5,6 +5,7 @@ use mathlib.Core.List.{List}
 use native.Mathlib.Omega.{arith}
 use lib.ListN.{length, replicate, length-replicate}
 use borrow.Author.Tests.{lt-ltb, le-ltb}
+use Rattle.job.specs.Limits as limit
 use Rattle.job.specs.declared.Job.{Job}
 use Rattle.job.specs.declared.refusal.Refusal.{Refusal}
 use Rattle.job.specs.declared.refusal.Refusal.the-variants as refusal
@@ -13,9 +14,9 @@ use Rattle.reading.specs.declared.fill.Outcome.{Outcome}
 use Rattle.reading.specs.declared.fill.Outcome.the-variants as outcome
 use Rattle.reading.specs.Fill as fill
 use Rattle.accepting.specs.Accept.{acceptOf}
-use Rattle.segments.specs.declared.pairs.Converted.{Converted}
-use Rattle.segments.specs.declared.pairs.Converted.the-variants as converted
-use Rattle.segments.specs.Make.{made, convertHorzSegsToJoins}
+use Rattle.converting.specs.declared.pairs.Converted.{Converted}
+use Rattle.converting.specs.declared.pairs.Converted.the-variants as converted
+use Rattle.converting.specs.Make.{made, convertHorzSegsToJoins}
 use Rattle.joins.specs.declared.Joined.{Joined}
 use Rattle.joins.specs.declared.Joined.the-variants as joined
 use Rattle.joins.specs.Join as join
@@ -23,7 +24,7 @@ use Rattle.joins.specs.Join.{processHorzJoins}
 use Rattle.opening.specs.declared.open.Opened.{Opened}
 use Rattle.opening.specs.declared.open.Opened.the-variants.{Accepted, Refused}
 use Rattle.opening.specs.Start.{startRings}
-use Rattle.opening.specs.Open.{end, afterJoins, afterSegments, stagesOf, settled, openOf}
+use Rattle.opening.specs.Open.{JOIN-POINTS, end, afterJoins, afterSegments, stagesOf, settled, openOf}
 
 module _ (k : ℕ) (js w x : List ℕ) (t : Joined) (e : join.end t x ≡ processHorzJoins k js w) where
   pub joins-done : (y : List ℕ) → t ≡ joined.Done → y ≡ startRings x → end Accepted y ≡ afterJoins (processHorzJoins k js w)
@@ -42,7 +43,7 @@ module _ (w ss : List ℕ) (m : ℕ) (js : List ℕ) (n : ℕ) (c : Converted) (
   pub segments-full : c ≡ converted.Full → end (Refused refusal.Full) x ≡ afterSegments (convertHorzSegsToJoins w m ss js n)
   segments-full f = rw (← e, f)
 
-module _ (bytes w v ts ks : List ℕ) (o : Outcome) (e : fill.end o v ts ks ≡ acceptOf bytes w (replicate 256 0) (replicate 2560 0)) where
+module _ (bytes w v ts ks : List ℕ) (o : Outcome) (e : fill.end o v ts ks ≡ acceptOf bytes w (replicate limit.SEGMENTS 0) (replicate JOIN-POINTS 0)) where
   pub rows-passed : (j : Job) (r : Opened) (y : List ℕ) → o ≡ outcome.State j → end r y ≡ afterSegments (convertHorzSegsToJoins v (j .segments) ts ks (j .joins)) → end r y ≡ stagesOf bytes w
   unfolding stagesOf
   rows-passed j r y f d = d ∙ rw (← e, f)

@@ -8,6 +8,7 @@ use native.Mathlib.Omega.{arith}
 use native.Mathlib.Decide.{ℕ-discrete}
 use lib.Dec.{eqb}
 use lib.ListN.{length}
+use Rattle.job.specs.Limits as limit
 use Rattle.rings.specs.Count.{occ}
 use Rattle.rings.proofs.Counting.{sum-same}
 use Rattle.store.specs.Field.{PointCol, Count, pt, rc, ct, X, Y, NEXT, PREV, REC, FLAGS, OWNER, FIRST, MARK, PRESENT, START, CUT, POINTS, RECORDS, NONE, LENGTH}
@@ -18,7 +19,7 @@ use Rattle.store.proofs.Storing.{length-writes, view-writes, hit, miss}
 use Rattle.store.proofs.Soundness.{first-on}
 use Rattle.joins.specs.Resolve.{Resolves}
 use Rattle.joins.specs.Resolved.{Resolved, Ready}
-use Rattle.joins.proofs.Tested.{resolved-sound}
+use Rattle.joins.proofs.Sounding.{resolved-sound}
 use Rattle.acts.specs.Opened.{Fresh}
 use Rattle.opening.specs.Start.{startWrites, startRing, startTo, startRings}
 
@@ -76,11 +77,11 @@ unfolding startTo startRing
 length-start w zero = refl
 length-start w (suc i) = length-writes (startTo i w) (startWrites i (firstOf (startTo i w) i)) ∙ length-start w i
 
-pub begun : (w : List ℕ) → LENGTH ≤ length w → (i : ℕ) → i ≤ 512 → Begun (view w) (view (startTo i w)) i
+pub begun : (w : List ℕ) → LENGTH ≤ length w → (i : ℕ) → i ≤ limit.RECORDS → Begun (view w) (view (startTo i w)) i
 unfolding startTo startRing
 begun w long zero h = none (view w)
 begun w long (suc i) h =
-    let l : i < 512 = omega arith in
+    let l : i < limit.RECORDS = omega arith in
     subst (λ (s : Store). Begun (view w) s (suc i))
     (sym (view-writes (startTo i w) (startWrites i (firstOf (startTo i w) i)) (omega (arith, length-start w i)) (l, (l, (l, (l, tt))))))
     (one-more (view w) (view (startTo i w)) i (begun w long i (omega arith)))

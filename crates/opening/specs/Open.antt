@@ -1,18 +1,21 @@
 -- Opening a job: document 01, "Opening a job reads and joins it". The stages in the table's order, each handing its words on.
 use Prim.Native.Nat.{ℕ, _+_, _*_}
 use mathlib.Core.Bool.{cond}
+use mathlib.Core.Logic.{_⊎_, inl, inr}
 use mathlib.Core.List.{List}
+use mathlib.Core.Option.{Option, none, some}
 use lib.Dec.{ltb}
 use lib.ListN.{replicate}
 use Rattle.job.specs.Limits as limit
+use Rattle.job.specs.declared.refusal.Refusal.{Refusal}
 use Rattle.job.specs.declared.refusal.Refusal.the-variants as refusal
 use Rattle.store.specs.Field.{LENGTH}
 use Rattle.reading.specs.declared.fill.Outcome.the-variants as outcome
 use Rattle.reading.specs.Fill as fill
 use Rattle.accepting.specs.Accept.{acceptOf}
-use Rattle.segments.specs.declared.pairs.Converted.the-variants as converted
-use Rattle.segments.specs.Make.{Made, made, convertHorzSegsToJoins}
-use Rattle.joins.specs.declared.Joined.the-variants as joined
+use Rattle.converting.specs.declared.pairs.Converted.{Converted}
+use Rattle.converting.specs.declared.pairs.Converted.the-variants as converted
+use Rattle.converting.specs.Make.{Made, made, convertHorzSegsToJoins}
 use Rattle.joins.specs.Join as join
 use Rattle.joins.specs.Join.{processHorzJoins}
 use Rattle.opening.specs.declared.open.Opened.{Opened}
@@ -23,16 +26,28 @@ use Rattle.opening.specs.Start.{startRings}
 pub data End : Type 0 where
   end : Opened → List ℕ → End
 
--- process_horz_joins has ended: rows 9 and 10, or every ring is set at its start
-abbrev pub afterJoins : join.End → End
-afterJoins (join.end joined.Done w) = end Accepted (startRings w)
-afterJoins (join.end joined.Knot w) = end (Refused refusal.Knot) w
-afterJoins (join.end joined.Full w) = end (Refused refusal.Full) w
+-- every ring is set at its start, unless a join was refused: rows 9 and 10
+abbrev pub orStart : List ℕ → Option Refusal → End
+orStart w none = end Accepted (startRings w)
+orStart w (some r) = end (Refused r) w
 
--- convert_horz_segs_to_joins has ended: row 10, or "then `process_horz_joins`" over the joins that there are now
+-- process_horz_joins has ended
+abbrev pub afterJoins : join.End → End
+afterJoins (join.end t w) = orStart w (join.refusalOf t)
+
+-- the row that the segments' answer is; or how many joins there are now
+abbrev pub convertedIs : Converted → Refusal ⊎ ℕ
+convertedIs converted.Full = inl refusal.Full
+convertedIs (converted.Joins k) = inr k
+
+-- "then `process_horz_joins`" over them, unless that was row 10
+abbrev pub orJoins : List ℕ → List ℕ → Refusal ⊎ ℕ → End
+orJoins w js (inl r) = end (Refused r) w
+orJoins w js (inr k) = afterJoins (processHorzJoins k js w)
+
+-- convert_horz_segs_to_joins has ended
 abbrev pub afterSegments : Made → End
-afterSegments (made (converted.Joins k) w js) = afterJoins (processHorzJoins k js w)
-afterSegments (made converted.Full w js) = end (Refused refusal.Full) w
+afterSegments (made c w js) = orJoins w js (convertedIs c)
 
 -- rows 1 to 8; then "`convert_horz_segs_to_joins` over the job's segments, its joins after the job's own"
 abbrev pub afterRows : fill.End → End

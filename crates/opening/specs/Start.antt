@@ -1,5 +1,5 @@
--- Rings at their start: document 01, "opening sets each closed ring .. at its start, the validity test, with its first point as present place". Records
--- without a ring and open rings get the same words, which nothing reads.
+-- Rings at their start: document 01, "opening sets each closed ring .. at its start, the validity test, with its first point as present place". Open rings and records without points
+-- get the same words; of these demand 3 reads one, the record it was cut from, which is none.
 use Prim.Native.Nat.{ℕ, zero, suc}
 use mathlib.Core.List.{List, [], _∷_}
 use Rattle.rings.specs.Progress.{validity}

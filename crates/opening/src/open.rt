@@ -2,18 +2,18 @@
 use crate::clear::clear;
 use crate::start::start_rings;
 use accepting::accept;
+use converting::convert::convert_horz_segs_to_joins;
+use converting::pairs::Converted;
 use job::Job;
 use job::refusal::Refusal;
 use joins::Joined;
 use joins::process_horz_joins;
 use reading::fill::Outcome;
-use segments::convert::convert_horz_segs_to_joins;
-use segments::pairs::Converted;
 ghost use mathlib.Core.Path.{_≡_};
 ghost use Prim.Native.Nat.{_≤_};
 ghost use lib.ListN.{length};
 ghost use Rattle.store.specs.Field.{LENGTH};
-ghost use Rattle.segments.specs.Make.{convertHorzSegsToJoins, Converting};
+ghost use Rattle.converting.specs.Make.{convertHorzSegsToJoins, Converting};
 ghost use Rattle.joins.specs.Join.{processHorzJoins};
 ghost use Rattle.joins.specs.Needs.{Joins};
 ghost use Rattle.opening.specs.Open.{end, afterJoins, afterSegments, stagesOf, settled, openOf};
@@ -60,8 +60,8 @@ fn stages(bytes: &[u8], work: &mut [u32]) -> Opened
     requires { ⌜ LENGTH ≤ length (now work) ⌝ }
     ensures { λ r. ⌜ end r (now (work .exit)) ≡ stagesOf (now (bytes .entry)) (now (work .entry)) ⌝ }
 {
-    let mut segments = [0u32; 256];
-    let mut joins = [0u32; 2560];
+    let mut segments = [0u32; Job::SEGMENTS];
+    let mut joins = [0u32; 2 * Job::JOINS + Job::POINTS];
     let o = accept(bytes, work, &mut segments, &mut joins);
     match o {
         Outcome::State(j) => convert(work, &segments, j.segments, &mut joins, j.joins),

@@ -24,7 +24,7 @@ fn start_ring(w: &mut [u32], i: usize)
 }
 
 // Every record is at its start.
-pub fn start_rings(w: &mut [u32])
+pub(crate) fn start_rings(w: &mut [u32])
     requires { ⌜ (LENGTH ≤ length (now w)) × (recordsOf (now w) ≤ limit.RECORDS) ⌝ }
     ensures { λ _. ⌜ now (w .exit) ≡ startRings (now (w .entry)) ⌝ }
 {

@@ -17,7 +17,7 @@ use Rattle.store.specs.Value.{reverseSolution}
 use Rattle.paths.specs.declared.Need.{Need}
 use Rattle.paths.specs.declared.Written.the-variants.{Paths, Refused}
 use Rattle.paths.specs.Path.{pathIf, closedPaths, openPaths, sizeOf}
-use Rattle.paths.specs.Tray.{tagOf, fields, fieldsOf, padded}
+use Rattle.paths.specs.Tray.{tagOf, fields, fieldsOf, padded, TRAY}
 use Rattle.paths.specs.Walking.{Ready}
 use Rattle.paths.specs.Count.{needOf}
 use Rattle.paths.specs.Filling.{fieldAt, fieldsBelow, AllFit}
@@ -96,11 +96,11 @@ module _ (s : Store) where
   unfolding fieldsOf fieldsBelow
   length-fieldsOf = length-append (fields (tagOf false) (closedPaths s)) (fields (tagOf true) (openPaths s))
 
-  pub always-suffice : Sound s → length (fieldsOf s) ≤ 17920
+  pub always-suffice : Sound s → length (fieldsOf s) ≤ TRAY
   always-suffice o = omega (arith, length-fieldsOf, all-fields (recs s), rings-few o, o .few-points, o .few-records)
 
   -- so a tray of that length is never too small
-  pub never-small : Sound s → (t : List ℕ) → 17920 ≤ length t → buildPaths64 s t ≡ wrote (Paths (length (closedPaths s)) (length (openPaths s))) (padded (length t) (fieldsOf s))
+  pub never-small : Sound s → (t : List ℕ) → TRAY ≤ length t → buildPaths64 s t ≡ wrote (Paths (length (closedPaths s)) (length (openPaths s))) (padded (length t) (fieldsOf s))
   unfolding buildPaths64
   never-small o t h = rw (le-leb (length (fieldsOf s)) (length t) (omega (arith, always-suffice o)))
 
@@ -111,7 +111,7 @@ module _ (w : List ℕ) (r : Ready w) (c d : Need) (e : c ≡ needOf (view w) fa
   unfolding needOf fieldsBelow
   bytes-are = rw (e, f) (sym (length-fieldsOf (view w)))
 
-  pub bytes-fit : c .bytes + d .bytes ≤ 17920
+  pub bytes-fit : c .bytes + d .bytes ≤ TRAY
   bytes-fit = omega (arith, bytes-are, always-suffice (view w) (r .sound))
 
   pub all-fit : (rev : Bool) (t : List ℕ) → rev ≡ reverseSolution (view w) → c .bytes + d .bytes ≤ length t → AllFit w rev t

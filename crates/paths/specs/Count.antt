@@ -5,6 +5,7 @@ use mathlib.Core.Bool.{Bool, cond}
 use mathlib.Core.List.{List}
 use lib.Dec.{eqb}
 use lib.ListN.{length}
+use Rattle.job.specs.Limits.{POINTS}
 use Rattle.store.specs.Words.{Store, view}
 use Rattle.store.specs.Sound.{recs}
 use Rattle.paths.specs.declared.Need.{Need}
@@ -27,4 +28,4 @@ pub record Tally (w : List ℕ) (o : Bool) (i paths bytes : ℕ) : Type 0 where
   pub paths-are : paths ≡ length (pathsBelow i o (view w))
   pub bytes-are : bytes ≡ length (fields (tagOf o) (pathsBelow i o (view w)))
   pub few-paths : paths ≤ i
-  pub few-bytes : bytes ≤ i * 16387
+  pub few-bytes : bytes ≤ i * (3 + 8 * POINTS)

@@ -6,6 +6,7 @@ use lib.IntN.{ℤ}
 use lib.ListN.{length, replicate, drop}
 use mir.Syntax.{w32}
 use mir.Val.{ofZ}
+use Rattle.job.specs.Limits.{POINTS, RECORDS}
 use Rattle.geometry.specs.declared.Point.{Point}
 use Rattle.store.specs.Words.{Store}
 use Rattle.paths.specs.Path.{closedPaths, openPaths}
@@ -42,6 +43,10 @@ fields tag (p ∷ ps) = pathField tag p ++ fields tag ps
 -- all of a store's paths
 unfoldable pub fieldsOf : Store → List ℕ
 fieldsOf s = fields (tagOf false) (closedPaths s) ++ fields (tagOf true) (openPaths s)
+
+-- "17,920 bytes always suffice": three for each record's field, eight for each point
+abbrev pub TRAY : ℕ
+TRAY = 3 * RECORDS + 8 * POINTS
 
 -- a tray of n bytes that begins with these; past them it is zero
 abbrev pub padded : ℕ → List ℕ → List ℕ

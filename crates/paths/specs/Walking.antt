@@ -8,7 +8,7 @@ use lib.Dec.{eqb}
 use lib.ListN.{length}
 use Rattle.numbers.specs.Bytes.{putLe}
 use Rattle.numbers.specs.Raised.{lowered}
-use Rattle.job.specs.Limits.{COORDINATE}
+use Rattle.job.specs.Limits.{POINTS, COORDINATE}
 use Rattle.rings.specs.Count.{occ}
 use Rattle.rings.specs.Links.{All}
 use Rattle.rings.specs.Walk.{walk, Whole}
@@ -45,13 +45,13 @@ pub record Ready (w : List ℕ) : Type 0 where
 -- a point that may be read
 pub record Readable (w : List ℕ) (k : ℕ) : Type 0 where
   pub long : LENGTH ≤ length w
-  pub low : k < 2048
+  pub low : k < POINTS
   pub here : PointIn (view w) k
 
 -- a ring that may be walked round
 pub record Round (w : List ℕ) (rev : Bool) (a : ℕ) : Type 0 where
   pub long : LENGTH ≤ length w
-  pub few : pts (view w) ≤ 2048
+  pub few : pts (view w) ≤ POINTS
   pub whole : Whole (linkOf (view w) rev) (linkOf (view w) (not rev)) (pts (view w)) (roundFrom (view w) rev a)
   pub points-in : (k : ℕ) → 0 < occ k (roundFrom (view w) rev a) → PointIn (view w) k
 
@@ -70,7 +70,7 @@ pub record Going (w : List ℕ) (rev : Bool) (stop q : ℕ) (Q : List ℕ → Ty
   pub todo : List ℕ
   pub ahead : Ahead (linkOf (view w) rev) stop q todo
   pub points-in : All (PointIn (view w)) todo
-  pub short : length todo < 2048
+  pub short : length todo < POINTS
   pub says : Q todo
 
 -- a ring of three or more points, from a
@@ -115,7 +115,7 @@ more s b q = cond (samePoint (pointAt s q) (pointAt s b)) 0 1
 pub record Counting (w : List ℕ) (b n total : ℕ) (l : List ℕ) : Type 0 where
   pub before : PointIn (view w) b
   pub sum : n + length (afterPoint (view w) b l) ≡ total
-  pub small : n + length l ≤ 2048
+  pub small : n + length l ≤ POINTS
 
 -- ---- its bytes, laid over the beginning of a tray
 

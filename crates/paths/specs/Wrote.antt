@@ -19,9 +19,10 @@ pub record Wrote : Type 0 where
 abbrev pub wrote : Written → List ℕ → Wrote
 wrote r t = record { answer = r; tray = t }
 
--- all paths and then zeros, and how many closed and open ones; or row 11, "the paths need more bytes than the tray has", and the tray as it was
+-- the bytes of c closed and o open paths, and then zeros; or row 11, "the paths need more bytes than the tray has", and the tray as it was
+abbrev pub trayOf : List ℕ → ℕ → ℕ → List ℕ → Wrote
+trayOf bytes c o t = cond (leb (length bytes) (length t)) (wrote (Paths c o) (padded (length t) bytes)) (wrote (Refused SmallTray) t)
+
+-- all paths of a store
 unfoldable pub buildPaths64 : Store → List ℕ → Wrote
-buildPaths64 s t =
-    cond (leb (length (fieldsOf s)) (length t))
-    (wrote (Paths (length (closedPaths s)) (length (openPaths s))) (padded (length t) (fieldsOf s)))
-    (wrote (Refused SmallTray) t)
+buildPaths64 s t = trayOf (fieldsOf s) (length (closedPaths s)) (length (openPaths s)) t

@@ -4,6 +4,7 @@ mod round;
 use crate::round::point_at;
 use crate::round::round_size;
 use crate::round::write_round;
+use job::Job;
 use job::refusal::Refusal;
 use store::Col;
 use store::NONE;
@@ -14,6 +15,7 @@ ghost use mathlib.Core.List.{map};
 ghost use lib.Dec.{eqb, leb};
 ghost use lib.ListN.{length, set, replicate};
 ghost use Rattle.numbers.specs.Bytes.{putLe};
+ghost use Rattle.job.specs.Limits as limit;
 ghost use Rattle.lone.specs.Plane.{plane};
 ghost use Rattle.lone.specs.Path.{isSmallRing};
 ghost use Rattle.store.specs.Field.{LENGTH};
@@ -23,9 +25,18 @@ ghost use Rattle.store.specs.Value.{preserveCollinear, reverseSolution};
 ghost use Rattle.paths.specs.Path.{pointAt, pathBy, pathIf, sizeOf};
 ghost use Rattle.paths.specs.Count.{pathCount, fieldSize, needOf};
 ghost use Rattle.paths.specs.Tray.{pathBytes, tagOf, fieldsOf, padded, over};
+ghost use Rattle.paths.specs.Tray as trays;
 ghost use Rattle.paths.specs.Filling.{pathPoints, fieldAt, fieldsBelow, layOver, PointsFit, FieldFits, FieldsFit, AllFit};
 ghost use Rattle.paths.specs.Wrote.{wrote, buildPaths64};
 ghost use Rattle.paths.specs.Walking.{startFrom, roundFrom, Ready, Known, Directed, Asked, Three, Sized, Round, laid};
+
+// A tray of so many bytes is never too small.
+pub const TRAY: usize = 3 * Job::RECORDS + 8 * Job::POINTS;
+
+// The number that definitions cite is the code's.
+fn tray_agrees()
+    ensures { λ _. do ⌜ (← ⟦TRAY⟧ .entry) ≡ trays.TRAY ⌝ }
+{}
 
 // What writing out answers: how many closed and open paths the tray holds, or a refusal.
 pub enum Written {
@@ -84,7 +95,7 @@ fn is_small(w: &[u32], opened: bool, a: usize, n: usize) -> bool
 
 // Where a path starts.
 fn start_from(w: &[u32], rev: bool, f: usize) -> usize
-    requires { ⌜ (LENGTH ≤ length (now w)) × (f < 2048) ⌝ }
+    requires { ⌜ (LENGTH ≤ length (now w)) × (f < limit.POINTS) ⌝ }
     ensures { λ r. ⌜ r ≡ startFrom (view (now (w .entry))) rev f ⌝ }
 {
     if rev {
@@ -120,7 +131,7 @@ fn path_size(w: &[u32], rev: bool, opened: bool, i: usize) -> usize
 
 // Whether record i is open.
 fn is_open(w: &[u32], i: usize) -> bool
-    requires { ⌜ (LENGTH ≤ length (now w)) × (i < 512) ⌝ }
+    requires { ⌜ (LENGTH ≤ length (now w)) × (i < limit.RECORDS) ⌝ }
     ensures { λ r. ⌜ r ≡ isOpen (view (now (w .entry))) i ⌝ }
 {
     let flags = store::get(w, Col::Flags, i);
@@ -145,7 +156,7 @@ fn same(a: bool, b: bool) -> bool
     !b
 }
 
-// The same of a record that is open or closed as asked, else 0.
+// How many points the path of record i has, if the record is open or closed as asked; 0 if not, and for none.
 fn size_if(w: &[u32], rev: bool, opened: bool, i: usize) -> usize
     requires { ⌜ Asked (now w) rev i ⌝ }
     ensures { λ r. ⌜ r ≡ sizeOf (pathIf (view (now (w .entry))) opened i) ⌝ }
@@ -176,7 +187,7 @@ fn path_count(k: usize) -> usize
 }
 
 fn field_size(k: usize) -> usize
-    requires { ⌜ k ≤ 2048 ⌝ }
+    requires { ⌜ k ≤ limit.POINTS ⌝ }
     ensures { λ r. ⌜ r ≡ fieldSize k ⌝ }
 {
     if k == 0 {
@@ -217,7 +228,7 @@ fn tag_of(opened: bool) -> u8
 
 // The tag and the length of a field for k points.
 fn put_header(t: &mut [u8], tag: u8, k: usize)
-    requires { ⌜ (3 ≤ length (now t)) × (k ≤ 2048) ⌝ }
+    requires { ⌜ (3 ≤ length (now t)) × (k ≤ limit.POINTS) ⌝ }
     ensures { λ _. ⌜ now (t .exit) ≡ putLe 2 1 (8 * k) (set (now (t .entry)) 0 tag) ⌝ }
 {
     t[0] = tag;

@@ -2,6 +2,7 @@
 // `tests/paths_cases` makes both from `oracle vectors paths`. A ring is a byte each for reverse, open and how many points, a byte 0, then x and y of each
 // point (four bytes each, low byte first).
 use audit::Verdict;
+use job::Job;
 use libc::STDIN_FILENO;
 use libc::STDOUT_FILENO;
 use listing::Listed;
@@ -9,6 +10,7 @@ use paths::Written;
 use store::Col;
 ghost use Prim.Native.Nat.{_+_, _*_, _≤_, _<_, _^_};
 ghost use lib.ListN.{length};
+ghost use Rattle.job.specs.Limits as limit;
 ghost use Rattle.store.specs.Field.{LENGTH};
 
 // What stands at a place of the input, for which there is room.
@@ -24,12 +26,12 @@ fn word(s: &[u8], at: usize) -> usize
     requires { ⌜ at + 4 ≤ length (now s) ⌝ }
     ensures { λ r. ⌜ r < 2 ^ 32 ⌝ }
 {
-    numbers::read_raised(s, at, 1048576) as usize
+    numbers::read_raised(s, at, Job::COORDINATE) as usize
 }
 
 // The point after k on a ring of n.
 fn next(k: usize, n: usize) -> usize
-    requires { ⌜ (k < n) × (n < 2048) ⌝ }
+    requires { ⌜ (k < n) × (n < limit.POINTS) ⌝ }
     ensures { λ r. ⌜ r < 2 ^ 32 ⌝ }
 {
     if k + 1 < n {
@@ -40,7 +42,7 @@ fn next(k: usize, n: usize) -> usize
 
 // The point before k.
 fn prev(k: usize, n: usize) -> usize
-    requires { ⌜ (k < n) × (n < 2048) ⌝ }
+    requires { ⌜ (k < n) × (n < limit.POINTS) ⌝ }
     ensures { λ r. ⌜ r < 2 ^ 32 ⌝ }
 {
     if 0 < k {
@@ -51,7 +53,7 @@ fn prev(k: usize, n: usize) -> usize
 
 // Point k of a ring of n.
 fn set_point(work: &mut [u32; 13840], s: &[u8], at: usize, k: usize, n: usize)
-    requires { ⌜ (at + 8 ≤ length (now s)) × (k < n) × (n < 2048) ⌝ }
+    requires { ⌜ (at + 8 ≤ length (now s)) × (k < n) × (n < limit.POINTS) ⌝ }
 {
     let x = word(s, at);
     let y = word(s, at + 4);
@@ -66,19 +68,19 @@ fn set_point(work: &mut [u32; 13840], s: &[u8], at: usize, k: usize, n: usize)
 
 // One record, with the first point 0, done.
 fn set_record(work: &mut [u32; 13840], rev: usize, opened: usize, n: usize)
-    requires { ⌜ (rev < 256) × (opened < 256) × (n < 2048) ⌝ }
+    requires { ⌜ (rev < 2 ^ 8) × (opened < 2 ^ 8) × (n < limit.POINTS) ⌝ }
 {
     store::set(work, Col::Settings, 0, rev * 2);
     store::set(work, Col::Points, 0, n);
     store::set(work, Col::Records, 0, 1);
     store::set(work, Col::Flags, 0, opened);
-    store::set(work, Col::Owner, 0, 65535);
+    store::set(work, Col::Owner, 0, store::NONE);
     store::set(work, Col::First, 0, 0);
     store::set(work, Col::Mark, 0, 4);
 }
 
 fn set_points(work: &mut [u32; 13840], s: &[u8], at: usize, n: usize)
-    requires { ⌜ (at + 8 * n ≤ length (now s)) × (n < 2048) ⌝ }
+    requires { ⌜ (at + 8 * n ≤ length (now s)) × (n < limit.POINTS) ⌝ }
 {
     let mut k: usize = 0;
     while k < n {

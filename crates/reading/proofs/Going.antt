@@ -68,7 +68,7 @@ module _ (bytes : List ℕ) (F : End) (j : Job) (w ss js : List ℕ) where
   on zero h l e = absurd (omega arith)
   on (suc i) h l e = (i, refl, rw (lt-ltb _ _ h) at e)
 
-  over : (k : ℕ) → 0 < k → length bytes ≤ j .at → run k bytes j w ss js ≡ F → end (State j) w ss js ≡ F
+  pub over : (k : ℕ) → 0 < k → length bytes ≤ j .at → run k bytes j w ss js ≡ F → end (State j) w ss js ≡ F
   unfolding run
   over zero z h e = absurd (omega arith)
   over (suc i) z h e = rw (le-ltb _ _ h) at e

@@ -2,3 +2,6 @@
 pub mod Placing
 pub mod Going
 pub mod Counted
+pub mod Bits
+pub mod Ignoring
+pub mod Standing

@@ -10,7 +10,7 @@ use Rattle.numbers.specs.Bytes.{Part}
 use Rattle.job.specs.Limits.{POINTS, RECORDS, SEGMENTS, JOINS}
 use Rattle.job.specs.Field.{fieldIn, crowded, fieldOf}
 use Rattle.job.specs.Job.{past, Within}
-use Rattle.job.proofs.Accepted.{accepted}
+use Rattle.job.proofs.Accepted.{Accepted, accepted}
 use Rattle.job.specs.declared.Job.{Job}
 use Rattle.job.specs.declared.refusal.Refusal.{Refusal}
 use Rattle.job.specs.declared.field.Kind.{Kind}
@@ -47,11 +47,14 @@ by-kind kind.Record v j c = leb-false RECORDS (j .records) c
 by-kind kind.Segment v j c = leb-false SEGMENTS (j .segments) c
 by-kind kind.Join v j c = leb-false JOINS (j .joins) c
 
+pub has-room : (j : Job) (s : List ℕ) (f : Field) (n : ℕ) → Accepted j s f n → Room f j
+has-room j s f n a = rw (a .is) (by-kind (a .kind) _ j (a .room))
+
 pub may-place : (bytes part : List ℕ) (j : Job) (w ss js : List ℕ) (r : Reading) (f : Field) (n : ℕ) → Space w ss js → Within j → length bytes < 2 ^ 63 → j .at < length bytes → Part (j .at) bytes part → r ≡ fieldOf j part → r ≡ reading.Read f n → Placing f n j w ss js
 may-place bytes part j w ss js r f n s i b l p a e =
     let q : fieldOf j part ≡ reading.Read f n = cc in
     let g = accepted j part f n q in
-    record { space = s; within = i; room = rw (g .is) (by-kind (g .kind) _ j (g .room)); far = omega (arith, p .long, g .here) }
+    record { space = s; within = i; room = has-room j part f n g; far = omega (arith, p .long, g .here) }
 
 module _ (bytes part : List ℕ) (j : Job) (w ss js : List ℕ) (r : Reading) (p : Part (j .at) bytes part) (a : r ≡ fieldOf j part) where
   pub turn-placed : (f : Field) (n : ℕ) (o : Outcome) (w′ ss′ js′ : List ℕ) → r ≡ reading.Read f n → end o w′ ss′ js′ ≡ placed f n j w ss js → end o w′ ss′ js′ ≡ turnOf bytes j w ss js

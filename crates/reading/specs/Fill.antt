@@ -59,7 +59,7 @@ abbrev pub follow : (Job → List ℕ → List ℕ → List ℕ → End) → End
 follow f (end (State j) w ss js) = f j w ss js
 follow f (end (Refused r) w ss js) = end (Refused r) w ss js
 
--- turns up to the end of the job; the first number bounds how many, and `going` says that it is enough
+-- turns up to the end of the job; the first number bounds how many. `fillOf` gives more than there are bytes, and each turn takes some, so it never runs out
 unfoldable pub run : ℕ → List ℕ → Job → List ℕ → List ℕ → List ℕ → End
 run zero bytes j w ss js = end (Refused Torn) w ss js
 run (suc k) bytes j w ss js =

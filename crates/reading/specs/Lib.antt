@@ -1,3 +1,4 @@
 -- Definitions of reading a job.
 pub mod Fill
 pub mod Read
+pub mod Standing

@@ -22,7 +22,7 @@ pub enum Outcome {
 }
 
 // Stores a word of a column.
-pub fn put(w: &mut [u32], c: Col, i: usize, v: u32)
+pub(crate) fn put(w: &mut [u32], c: Col, i: usize, v: u32)
     requires { ⌜ (LENGTH ≤ length (now w)) × (i < size (fieldOf c)) ⌝ }
     ensures { λ _. ⌜ now (w .exit) ≡ words.put (fieldOf c) (now (w .entry)) i v ⌝ }
 {
@@ -121,7 +121,7 @@ fn turn(bytes: &[u8], j: Job, w: &mut [u32], segments: &mut [u32], joins: &mut [
 }
 
 // The fields of a job, up to its end or the first refusal.
-pub fn fill(bytes: &[u8], w: &mut [u32], segments: &mut [u32], joins: &mut [u32]) -> Outcome
+pub(crate) fn fill(bytes: &[u8], w: &mut [u32], segments: &mut [u32], joins: &mut [u32]) -> Outcome
     requires { ⌜ Space (now w) (now segments) (now joins) ⌝ }
     ensures { λ r. ⌜ end r (now (w .exit)) (now (segments .exit)) (now (joins .exit)) ≡ fillOf (now (bytes .entry)) (now (w .entry)) (now (segments .entry)) (now (joins .entry)) ⌝ }
 {

@@ -1,46 +1,23 @@
 // Replays the stored jobs on standard input through `list_job`, with no Rust at hand, and prints each case's name, listing and tray: first document 01's bench
 // examples, then the other stored answers, then the jobs at the limits. A case is two lines, `case NAME` and `job HEX`; in the job a space begins a field, and
 // `+N` after it is N more of it (see `again`). `tests/replay ORACLE crates/replay` makes both files from what the real Rust answers.
+use deciding::DECIDES;
+use job::Job;
 use job_listing::list_job;
 use libc::STDIN_FILENO;
 use libc::STDOUT_FILENO;
 use listing::Listed;
+use opening::open::LENGTH;
+use test_text::byte;
+use test_text::first;
+use test_text::from;
+use test_text::further;
+use test_text::number_at;
+use test_text::put;
 ghost use Prim.Native.Nat.{_<_};
 
 fn wide(x: u8) -> usize {
     x as usize
-}
-
-// The byte at a place, and 0 past the end.
-fn byte(s: &[u8], at: usize) -> u8 {
-    if at < s.len() {
-        return s[at];
-    }
-    0
-}
-
-fn put(s: &mut [u8], at: usize, v: u8) {
-    if at < s.len() {
-        s[at] = v;
-    }
-}
-
-// A place further on; no input has so many bytes.
-fn further(at: usize, n: usize) -> usize {
-    if at < 1000000 {
-        if n < 1000000 {
-            return at + n;
-        }
-    }
-    1000000
-}
-
-// The bytes from a place on.
-fn from(s: &[u8], at: usize) -> &[u8] {
-    if at <= s.len() {
-        return &s[at..];
-    }
-    s
 }
 
 fn back(at: usize, n: usize) -> usize {
@@ -64,17 +41,9 @@ fn end_of(s: &[u8], at: usize, stop: u8) -> usize {
     i
 }
 
-fn signed(n: usize) -> isize {
-    if n < 1000000 {
-        return n as isize;
-    }
-    0
-}
-
 // Writes the first n bytes.
 fn say(s: &[u8], n: usize) {
-    let k = io::count(signed(n), s);
-    io::write_all(STDOUT_FILENO, &s[..k]);
+    io::write_all(STDOUT_FILENO, first(s, n));
 }
 
 // The line at a place, which ends at another.
@@ -234,20 +203,13 @@ fn decode(s: &[u8], at: usize, job: &mut [u8]) -> usize {
 
 // The length of the field at a place, header and value.
 fn field(tray: &[u8], at: usize) -> usize {
-    let low = wide(byte(tray, further(at, 1)));
-    let high = wide(byte(tray, further(at, 2)));
-    if low < 256 {
-        if high < 256 {
-            return 3 + low + 256 * high;
-        }
-    }
-    3
+    further(number_at(tray, further(at, 1)), 3)
 }
 
 // How many bytes the tray's fields have: the first tag 0 comes after them.
 fn used(tray: &[u8]) -> usize {
     let mut at: usize = 0;
-    let mut left: u32 = 512;
+    let mut left = Job::RECORDS;
     while left > 0 {
         if byte(tray, at) == 0 {
             return at;
@@ -303,11 +265,10 @@ fn one(
 ) -> usize {
     let end = end_of(s, at, b'\n');
     say_line(s, at, end);
-    let from = further(end, 5);
-    let n = decode(s, from, job);
-    let k = io::count(signed(n), job);
-    replay(&job[..k], work, tray, text);
-    further(end_of(s, from, b'\n'), 1)
+    let begin = further(end, 5);
+    let n = decode(s, begin, job);
+    replay(first(job, n), work, tray, text);
+    further(end_of(s, begin, b'\n'), 1)
 }
 
 // Every case.
@@ -325,8 +286,8 @@ fn run(s: &[u8], job: &mut [u8], work: &mut [u32], tray: &mut [u8], text: &mut [
 
 fn main() {
     let mut input = [0u8; 400000];
-    let mut job = [0u8; 42005];
-    let mut work = [0u32; 13840];
+    let mut job = [0u8; DECIDES];
+    let mut work = [0u32; LENGTH];
     let mut tray = [0u8; 17920];
     let mut text = [0u8; 150000];
     let n = io::read_full(STDIN_FILENO, &mut input);

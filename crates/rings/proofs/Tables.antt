@@ -6,6 +6,7 @@ use mathlib.Core.List.{List, [], _∷_, _++_}
 use native.Mathlib.Omega.{arith}
 use native.Mathlib.Decide.{ℕ-discrete, decLt}
 use borrow.Author.Tests.{eq-eqb, ne-eqb}
+use Rattle.job.specs.Limits.{POINTS, NONE}
 use Rattle.rings.specs.Count.{one, occ}
 use Rattle.rings.specs.Walk.{Whole}
 use Rattle.rings.specs.Relink.{Crossed, Inserted, Unlinked}
@@ -179,17 +180,17 @@ module _ (n p : ℕ → ℕ) (q m : ℕ) (ring : ℕ → List ℕ) (t : Table n 
 
 -- ---- the table computed from first points, by walking
 
-module _ (n p : ℕ → ℕ) (q : ℕ) (few : q ≤ 2048) where
+module _ (n p : ℕ → ℕ) (q : ℕ) (few : q ≤ POINTS) where
   module _ (f : ℕ) (c : List ℕ) (w : Whole n p q c) where
     pub record Walked : Type 0 where
       pub occs : (k : ℕ) → occ k (ringFrom n f) ≡ occ k c
       pub whole : Whole n p q (ringFrom n f)
 
     pub walked : Starts f c → Walked
-    walked (nowhere e g) = record { occs = λ k. rw (eq-eqb f 65535 e, g); whole = rw (eq-eqb f 65535 e, ← g) w }
+    walked (nowhere e g) = record { occs = λ k. rw (eq-eqb f NONE e, g); whole = rw (eq-eqb f NONE e, ← g) w }
     walked (on-it d o) =
         let s : Seen n p q c f = seen n p q c f few w o in
-        record { occs = λ k. rw (ne-eqb f 65535 d, s .walked) (s .occs k); whole = rw (ne-eqb f 65535 d, s .walked) (s .whole) }
+        record { occs = λ k. rw (ne-eqb f NONE d, s .walked) (s .occs k); whole = rw (ne-eqb f NONE d, s .walked) (s .whole) }
 
   pub total-walked : (first : ℕ → ℕ) (m : ℕ) (ring : ℕ → List ℕ) → Table n p q m ring → ((i : ℕ) → i < m → Starts (first i) (ring i)) → (k : ℕ) → total (λ i. ringFrom n (first i)) m k ≡ total ring m k
   total-walked first m ring t s k = sum-same m (λ i. occ k (ring i)) (λ i. occ k (ringFrom n (first i))) (λ i h. walked (first i) (ring i) (t .whole i h) (s i h) .occs k)

@@ -6,6 +6,7 @@ use mathlib.Core.List.{List, [], _∷_, _++_}
 use mathlib.Core.Option.{some}
 use native.Mathlib.Omega.{arith}
 use lib.Dec.{eqb}
+use Rattle.job.specs.Limits as limit
 use lib.ListN.{length}
 use borrow.Author.Tests.{eq-eqb, ne-eqb}
 use Rattle.rings.specs.Circle.{spin, headOr}
@@ -37,8 +38,8 @@ run-seg n p stop (suc f) a (x ∷ l) s o h =
     rw (s .0, ne-eqb x stop (apart stop (x ∷ l) o .0), run-seg n p stop f x l (s .2) (omega arith) (omega arith))
 
 -- is the walk from its first point
-pub ring-is : (n p : ℕ → ℕ) (m x : ℕ) (l : List ℕ) → m ≤ 2048 → Whole n p m (x ∷ l) → walk n x ≡ x ∷ l
-ring-is n p m x l h r = run-seg n p x 2048 x l (r .linked) (omega (arith, r .once x, one-here x)) (omega (arith, pigeon m (x ∷ l) (r .once) (r .below)))
+pub ring-is : (n p : ℕ → ℕ) (m x : ℕ) (l : List ℕ) → m ≤ limit.POINTS → Whole n p m (x ∷ l) → walk n x ≡ x ∷ l
+ring-is n p m x l h r = run-seg n p x limit.POINTS x l (r .linked) (omega (arith, r .once x, one-here x)) (omega (arith, pigeon m (x ∷ l) (r .once) (r .below)))
 
 pub whole-spin : (n p : ℕ → ℕ) (m f : ℕ) (c : List ℕ) → Whole n p m c → Whole n p m (spin f c)
 whole-spin n p m f c r = record { linked = linked-spin n p f c (r .linked); once = λ k. rw (occ-spin k f c) (r .once k); below = λ k o. r .below k (rw (occ-spin k f c) at o) }
@@ -53,7 +54,7 @@ pub record Seen (n p : ℕ → ℕ) (m : ℕ) (c : List ℕ) (a : ℕ) : Type 0 
   pub whole : Whole n p m (a ∷ others)
   pub occs : (k : ℕ) → occ k (a ∷ others) ≡ occ k c
 
-pub seen : (n p : ℕ → ℕ) (m : ℕ) (c : List ℕ) (a : ℕ) → m ≤ 2048 → Whole n p m c → 0 < occ a c → Seen n p m c a
+pub seen : (n p : ℕ → ℕ) (m : ℕ) (c : List ℕ) (a : ℕ) → m ≤ limit.POINTS → Whole n p m c → 0 < occ a c → Seen n p m c a
 seen n p m c a h r o = go (spin (t .far) c) refl
   where
     t : Placed a c

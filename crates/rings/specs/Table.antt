@@ -5,6 +5,7 @@ use mathlib.Core.Logic.{_≢_}
 use mathlib.Core.Bool.{cond}
 use mathlib.Core.List.{List, []}
 use lib.Dec.{eqb}
+use Rattle.job.specs.Limits.{NONE}
 use Rattle.rings.specs.Count.{sumTo, occ}
 use Rattle.rings.specs.Walk.{walk, Whole}
 
@@ -21,11 +22,11 @@ pub record Table (n p : ℕ → ℕ) (q m : ℕ) (ring : ℕ → List ℕ) : Typ
 abbrev pub with : (ℕ → List ℕ) → ℕ → List ℕ → ℕ → List ℕ
 with ring i c j = cond (eqb j i) c (ring j)
 
--- the ring from its first point f, which is 65,535 where there is none
+-- the ring from its first point f, or from none
 abbrev pub ringFrom : (ℕ → ℕ) → ℕ → List ℕ
-ringFrom n f = cond (eqb f 65535) [] (walk n f)
+ringFrom n f = cond (eqb f NONE) [] (walk n f)
 
 -- f is the first point of the ring c
 pub data Starts (f : ℕ) (c : List ℕ) : Type 0 where
-  nowhere : f ≡ 65535 → c ≡ [] → Starts f c
-  on-it : f ≢ 65535 → 0 < occ f c → Starts f c
+  nowhere : f ≡ NONE → c ≡ [] → Starts f c
+  on-it : f ≢ NONE → 0 < occ f c → Starts f c

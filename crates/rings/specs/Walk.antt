@@ -1,8 +1,9 @@
--- The walk along next from a point until it again, and what a whole ring is. A ring has at most 2,048 points.
+-- The walk along next from a point until it again, and what a whole ring is. A ring has at most as many points as a job may.
 use Prim.Native.Nat.{ℕ, zero, suc, _≤_, _<_}
 use mathlib.Core.Bool.{cond}
 use mathlib.Core.List.{List, [], _∷_}
 use lib.Dec.{eqb}
+use Rattle.job.specs.Limits as limit
 use Rattle.rings.specs.Count.{occ}
 use Rattle.rings.specs.Links.{Linked}
 
@@ -12,10 +13,9 @@ run n stop zero a = []
 run n stop (suc f) a = a ∷ cond (eqb (n a) stop) [] (run n stop f (n a))
 
 abbrev pub walk : (ℕ → ℕ) → ℕ → List ℕ
-walk n a = run n a 2048 a
+walk n a = run n a limit.POINTS a
 
 -- a whole ring: linked both ways, each point once, below m
-
 pub record Whole (n p : ℕ → ℕ) (m : ℕ) (c : List ℕ) : Type 0 where
   pub linked : Linked n p c
   pub once : (k : ℕ) → occ k c ≤ 1

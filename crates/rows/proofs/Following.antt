@@ -18,7 +18,7 @@ use Rattle.rows.specs.Owners.{endsIn, circles}
 use Rattle.rows.specs.Tables.{UNKNOWN, entry, Long, Lengths, Followed}
 use Rattle.rows.proofs.Tabling.{blank, known-set}
 
-never : {A : Type 0} {b : Bool} → b ≡ true → b ≡ false → A
+pub never : {A : Type 0} {b : Bool} → b ≡ true → b ≡ false → A
 never e f = absurd (let z : _≡_ {A = ℕ} 0 1 = cc in omega arith)
 
 leb-suc : (a b : ℕ) → leb a b ≡ leb (suc a) (suc b)
@@ -30,7 +30,7 @@ leb-suc a b = by (leb a b) refl
 
 module _ (w : List ℕ) (r : ℕ) where
   -- a record without an owner
-  long-end : ownerOf w r ≡ NONE → Long w r 1
+  pub long-end : ownerOf w r ≡ NONE → Long w r 1
   unfolding endsIn
   long-end e = record { ends = go }
     where
@@ -38,16 +38,16 @@ module _ (w : List ℕ) (r : ℕ) where
       go zero = sym (lt-leb 1 0 (omega arith))
       go (suc f) = rw (eq-eqb (ownerOf w r) NONE e) (sym (le-leb 1 (suc f) (omega arith)))
 
-  one-more : (f : ℕ) → ownerOf w r ≢ NONE → endsIn (suc f) (ownerOf w) r ≡ endsIn f (ownerOf w) (ownerOf w r)
+  pub one-more : (f : ℕ) → ownerOf w r ≢ NONE → endsIn (suc f) (ownerOf w) r ≡ endsIn f (ownerOf w) (ownerOf w r)
   unfolding endsIn
   one-more f d = rw (ne-eqb (ownerOf w r) NONE d)
 
-  none-yet : endsIn 0 (ownerOf w) r ≡ false
+  pub none-yet : endsIn 0 (ownerOf w) r ≡ false
   unfolding endsIn
   none-yet = refl
 
   -- one more than its owner's
-  long-hop : (d : ℕ) → ownerOf w r ≢ NONE → Long w (ownerOf w r) d → Long w r (suc d)
+  pub long-hop : (d : ℕ) → ownerOf w r ≢ NONE → Long w (ownerOf w r) d → Long w r (suc d)
   long-hop d n l = record { ends = go }
     where
       go : (f : ℕ) → endsIn f (ownerOf w) r ≡ leb (suc d) f
@@ -55,13 +55,13 @@ module _ (w : List ℕ) (r : ℕ) where
       go (suc f) = one-more f n ∙ l .ends f ∙ leb-suc d f
 
   -- and its owner's is one less
-  has-owner : (d : ℕ) → 1 < d → Long w r d → ownerOf w r ≢ NONE
+  pub has-owner : (d : ℕ) → 1 < d → Long w r d → ownerOf w r ≢ NONE
   unfolding endsIn
   has-owner d h l e =
       let a : endsIn 1 (ownerOf w) r ≡ true = rw (eq-eqb (ownerOf w r) NONE e) in
       never a (l .ends 1 ∙ lt-leb d 1 h)
 
-  long-back : (d : ℕ) → Long w r (suc (suc d)) → Long w (ownerOf w r) (suc d)
+  pub long-back : (d : ℕ) → Long w r (suc (suc d)) → Long w (ownerOf w r) (suc d)
   long-back d l =
       let n = has-owner (suc (suc d)) (omega arith) l in
       record { ends = λ f. sym (one-more f n) ∙ l .ends (suc f) ∙ sym (leb-suc (suc d) f) }
@@ -121,7 +121,7 @@ pub record Noting (w : List ℕ) (q d : ℕ) : Type 0 where
 pub noting : (w : List ℕ) (i n : ℕ) → Long w i n → n ≤ RECORDS → Noting w i n
 noting w i n l h = record { few = h; ahead = λ _. l }
 
-pub none-known : (w : List ℕ) → Lengths w (replicate 512 UNKNOWN)
+pub none-known : (w : List ℕ) → Lengths w (replicate RECORDS UNKNOWN)
 none-known w = record { few = λ r k. absurd (k (blank r)); known = λ r k. absurd (k (blank r)) }
 
 module _ {w : List ℕ} {q d : ℕ} (g : Noting w q d) (z : 0 < d) where

@@ -1,15 +1,19 @@
 -- How rows 4 to 8 go, test by test: each law's premises are what the calls ensure and how the tests came out.
-use mathlib.Core.Path.{_≡_, sym, _∙_}
-use mathlib.Core.Bool.{Bool, true, false, _||_}
+use mathlib.Core.Path.{_≡_, refl, sym, _∙_}
+use mathlib.Core.Bool.{Bool, true, false, cond, _||_}
 use mathlib.Core.List.{List}
 use Prim.Native.Nat.{ℕ, _*_, _≤_}
+use native.Mathlib.Omega.{arith}
+use Rattle.job.specs.Limits.{POINTS}
+use Rattle.job.specs.declared.refusal.Refusal.{Refusal}
 use Rattle.job.specs.declared.refusal.Refusal.the-variants.{OffTheTable, NoSuch, Loose, Muddled, OpenEdge}
 use Rattle.store.specs.Named.{pointsOf, recordsOf}
 use Rattle.audit.specs.Tests.{anyBelow, noSuch, noSuchOf}
+use Rattle.audit.specs.declared.Verdict.{Verdict}
 use Rattle.audit.specs.declared.Verdict.the-variants.{Passed, Refused}
 use Rattle.rows.specs.Owners.{circles}
 use Rattle.rows.specs.Rings.{bare, AllWalked}
-use Rattle.rows.specs.Rows.{offTheTable, unnamed, noSuchNumber, looseLink, muddled, openEdge, rowsOf, Filled, Named}
+use Rattle.rows.specs.Rows.{offTheTable, unnamed, noSuchNumber, looseLink, muddled, openEdge, firstRows, rowsOf, Filled, Named}
 use Rattle.rows.proofs.Marking.{bare-alone}
 use Rattle.rows.proofs.Homes.{or-left, or-right}
 
@@ -25,42 +29,67 @@ module _ (w : List ℕ) (r : Bool) (a : r ≡ anyBelow (recordsOf w) (circles w)
     pub estranged-found : s ≡ true → true ≡ muddled w
     estranged-found e = rw (← a, h, ← g .found, e)
 
-    pub alone-found : (b : Bool) → s ≡ false → pointsOf w ≤ 2048 → b ≡ anyBelow (pointsOf w) (bare ms) → b ≡ muddled w
+    pub alone-found : (b : Bool) → s ≡ false → pointsOf w ≤ POINTS → b ≡ anyBelow (pointsOf w) (bare ms) → b ≡ muddled w
     alone-found b e l d = rw (← a, h, ← g .found, e) (d ∙ rw (g .marks e) (bare-alone w l))
 
--- rows 4 to 8
+-- rows 4 and 5
 module _ (w ss : List ℕ) (m : ℕ) (js : List ℕ) (n : ℕ) (a : Bool) (p : a ≡ offTheTable w) where
-  pub row-4 : a ≡ true → Refused OffTheTable ≡ rowsOf w ss m js n
-  unfolding rowsOf
+  pub row-4 : a ≡ true → Refused OffTheTable ≡ firstRows w ss m js n
   row-4 h = rw (← p, h)
 
   module _ (h : a ≡ false) (b : Bool) (q : b ≡ noSuchNumber w ss m js n) where
-    pub row-5 : b ≡ true → Refused NoSuch ≡ rowsOf w ss m js n
-    unfolding rowsOf
+    pub row-5 : b ≡ true → Refused NoSuch ≡ firstRows w ss m js n
     row-5 i = rw (← p, h, ← q, i)
 
-    module _ (i : b ≡ false) (c : Bool) (r : c ≡ looseLink w) where
-      pub row-6 : c ≡ true → Refused Loose ≡ rowsOf w ss m js n
+    pub first-passed : b ≡ false → Passed ≡ firstRows w ss m js n
+    first-passed i = rw (← p, h, ← q, i)
+
+-- rows 6 to 8, once these have passed
+module _ (w ss : List ℕ) (m : ℕ) (js : List ℕ) (n : ℕ) (f : firstRows w ss m js n ≡ Passed) where
+  both : (a b : Bool) → cond a (Refused OffTheTable) (cond b (Refused NoSuch) Passed) ≡ Passed → (a ≡ false) × (b ≡ false)
+  both true b e = absurd (let z : _≡_ {A = ℕ} 0 1 = cc in omega arith)
+  both false true e = absurd (let z : _≡_ {A = ℕ} 0 1 = cc in omega arith)
+  both false false e = (refl, refl)
+
+  on-table : offTheTable w ≡ false
+  on-table = both (offTheTable w) (noSuchNumber w ss m js n) f .0
+
+  numbered : noSuchNumber w ss m js n ≡ false
+  numbered = both (offTheTable w) (noSuchNumber w ss m js n) f .1
+
+  module _ (c : Bool) (r : c ≡ looseLink w) where
+    pub row-6 : c ≡ true → Refused Loose ≡ rowsOf w ss m js n
+    unfolding rowsOf
+    row-6 j = rw (on-table, numbered, ← r, j)
+
+    module _ (j : c ≡ false) (d : Bool) (s : d ≡ muddled w) where
+      pub row-7 : d ≡ true → Refused Muddled ≡ rowsOf w ss m js n
       unfolding rowsOf
-      row-6 j = rw (← p, h, ← q, i, ← r, j)
+      row-7 k = rw (on-table, numbered, ← r, j, ← s, k)
 
-      module _ (j : c ≡ false) (d : Bool) (s : d ≡ muddled w) where
-        pub row-7 : d ≡ true → Refused Muddled ≡ rowsOf w ss m js n
+      module _ (k : d ≡ false) (e : Bool) (t : e ≡ openEdge w ss m js n) where
+        pub row-8 : e ≡ true → Refused OpenEdge ≡ rowsOf w ss m js n
         unfolding rowsOf
-        row-7 k = rw (← p, h, ← q, i, ← r, j, ← s, k)
+        row-8 l = rw (on-table, numbered, ← r, j, ← s, k, ← t, l)
 
-        module _ (k : d ≡ false) (e : Bool) (t : e ≡ openEdge w ss m js n) where
-          pub row-8 : e ≡ true → Refused OpenEdge ≡ rowsOf w ss m js n
-          unfolding rowsOf
-          row-8 l = rw (← p, h, ← q, i, ← r, j, ← s, k, ← t, l)
+        pub passed : e ≡ false → Passed ≡ rowsOf w ss m js n
+        unfolding rowsOf
+        passed l = rw (on-table, numbered, ← r, j, ← s, k, ← t, l)
 
-          pub passed : e ≡ false → Passed ≡ rowsOf w ss m js n
-          unfolding rowsOf
-          passed l = rw (← p, h, ← q, i, ← r, j, ← s, k, ← t, l)
+-- what refuses a job by row 4 or 5 refuses it by rows 4 to 8
+pub first-refused : (w ss : List ℕ) (m : ℕ) (js : List ℕ) (n : ℕ) (x : Refusal) → firstRows w ss m js n ≡ Refused x → Refused x ≡ rowsOf w ss m js n
+unfolding rowsOf
+first-refused w ss m js n x e =
+    by (offTheTable w) (noSuchNumber w ss m js n) (cond (looseLink w) (Refused Loose) (cond (muddled w) (Refused Muddled) (cond (openEdge w ss m js n) (Refused OpenEdge) Passed))) e
+  where
+    by : (a b : Bool) (v : Verdict) → cond a (Refused OffTheTable) (cond b (Refused NoSuch) Passed) ≡ Refused x → Refused x ≡ cond a (Refused OffTheTable) (cond b (Refused NoSuch) v)
+    by true b v e = sym e
+    by false true v e = sym e
+    by false false v e = absurd (let z : _≡_ {A = ℕ} 0 1 = cc in omega arith)
 
--- after rows 5 and 7 the lists name points, each on one ring
-pub both-named : {w ss : List ℕ} {m : ℕ} {js : List ℕ} {n : ℕ} → Filled w ss m js n → (b : Bool) → b ≡ noSuchNumber w ss m js n → b ≡ false → (d : Bool) → d ≡ muddled w → d ≡ false → Named w ss m × Named w js (2 * n)
-both-named {w} {ss} {m} {js} {n} g b q i d s k =
-    let x = or-right (anyBelow (pointsOf w) (noSuch w)) (anyBelow (recordsOf w) (noSuchOf w) || (unnamed w ss m || unnamed w js (2 * n))) (sym q ∙ i) in
+-- after rows 4, 5 and 7 the lists name points, each on one ring
+pub both-named : {w ss : List ℕ} {m : ℕ} {js : List ℕ} {n : ℕ} → Filled w ss m js n → firstRows w ss m js n ≡ Passed → (d : Bool) → d ≡ muddled w → d ≡ false → Named w ss m × Named w js (2 * n)
+both-named {w} {ss} {m} {js} {n} g f d s k =
+    let x = or-right (anyBelow (pointsOf w) (noSuch w)) (anyBelow (recordsOf w) (noSuchOf w) || (unnamed w ss m || unnamed w js (2 * n))) (numbered w ss m js n f) in
     let y = or-right (anyBelow (recordsOf w) (noSuchOf w)) (unnamed w ss m || unnamed w js (2 * n)) x in
     (record { long = g .long; clear = sym s ∙ k; fits = g .segments; named = or-left (unnamed w ss m) (unnamed w js (2 * n)) y }, record { long = g .long; clear = sym s ∙ k; fits = g .joins; named = or-right (unnamed w ss m) (unnamed w js (2 * n)) y })

@@ -2,6 +2,7 @@
 pub mod Chains
 pub mod Tabling
 pub mod Following
+pub mod Circling
 pub mod Reaching
 pub mod Rounds
 pub mod Marking

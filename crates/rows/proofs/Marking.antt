@@ -12,6 +12,7 @@ use lib.Seq.{getD-set-same, getD-set-other}
 use borrow.Author.Tests.{lt-ltb}
 use Rattle.rings.specs.Count.{occ}
 use Rattle.rings.proofs.Counting.{one-here, one-else}
+use Rattle.job.specs.Limits.{POINTS}
 use Rattle.store.specs.Words.{view}
 use Rattle.store.specs.Named.{pointsOf, recordsOf}
 use Rattle.store.specs.Sound.{ringAt}
@@ -23,9 +24,9 @@ unfolding marksOn
 length-marks [] ms = refl
 length-marks (k ∷ l) ms = length-marks l (set ms k 1) ∙ length-set ms k 1
 
-pub marks-long : (w : List ℕ) (i : ℕ) → length (marksTo w i) ≡ 2048
+pub marks-long : (w : List ℕ) (i : ℕ) → length (marksTo w i) ≡ POINTS
 unfolding marksTo
-marks-long w zero = length-replicate {A = ℕ} 2048 0
+marks-long w zero = length-replicate {A = ℕ} POINTS 0
 marks-long w (suc i) = length-marks (ringAt (view w) i) (marksTo w i) ∙ marks-long w i
 
 module _ (k : ℕ) where
@@ -63,9 +64,9 @@ module _ (k : ℕ) where
   or-not true b = refl
   or-not false b = refl
 
-  pub bare-is : (w : List ℕ) (i : ℕ) → k < 2048 → bare (marksTo w i) k ≡ not (anyBelow i (λ j. onRing w j k))
+  pub bare-is : (w : List ℕ) (i : ℕ) → k < POINTS → bare (marksTo w i) k ≡ not (anyBelow i (λ j. onRing w j k))
   unfolding marksTo anyBelow
-  bare-is w zero h = rw (getD-replicate {A = ℕ} 2048 k 0 0 h)
+  bare-is w zero h = rw (getD-replicate {A = ℕ} POINTS k 0 0 h)
   bare-is w (suc i) h =
       after (ringAt (view w) i) (marksTo w i) (rw (marks-long w i) h)
       ∙ ap (λ (b : Bool). b && not (onRing w i k)) (bare-is w i h)
@@ -77,5 +78,5 @@ unfolding anyBelow
 any-same zero p q h = refl
 any-same (suc n) p q h = rw (any-same n p q (λ k l. h k (omega arith)), h n (omega arith))
 
-pub bare-alone : (w : List ℕ) → pointsOf w ≤ 2048 → anyBelow (pointsOf w) (bare (marksTo w (recordsOf w))) ≡ anyBelow (pointsOf w) (alone w)
+pub bare-alone : (w : List ℕ) → pointsOf w ≤ POINTS → anyBelow (pointsOf w) (bare (marksTo w (recordsOf w))) ≡ anyBelow (pointsOf w) (alone w)
 bare-alone w h = any-same (pointsOf w) (bare (marksTo w (recordsOf w))) (alone w) (λ k l. bare-is k w (recordsOf w) (omega arith))

@@ -109,18 +109,18 @@ module _ {w : List ℕ} {r : ℕ} {hs₀ : List ℕ} {q left : ℕ} {hs : List �
         let t = put-along in
         record { way = toward-on (g .way) a b k o c z n; homes = t .homes; kept = t .kept; here = λ _ l. t .here l }
 
-pub homes-blank : (w hs : List ℕ) → hs ≡ replicate 512 UNKNOWN → Homes w hs
+pub homes-blank : (w hs : List ℕ) → hs ≡ replicate RECORDS UNKNOWN → Homes w hs
 homes-blank w hs e = rw e (record { known = λ r k. absurd (k (blank r)) })
 
-pub none-found : (w hs : List ℕ) → hs ≡ replicate 512 UNKNOWN → Found w hs 0
+pub none-found : (w hs : List ℕ) → hs ≡ replicate RECORDS UNKNOWN → Found w hs 0
 none-found w hs e = record { homes = homes-blank w hs e; each = λ r h. absurd (omega arith) }
 
-module _ {w hs₀ hs : List ℕ} {i : ℕ} (g : Found w hs i) (b : hs₀ ≡ replicate 512 UNKNOWN) (s : length hs ≡ length hs₀) where
+module _ {w hs₀ hs : List ℕ} {i : ℕ} (g : Found w hs i) (b : hs₀ ≡ replicate RECORDS UNKNOWN) (s : length hs ≡ length hs₀) where
   pub more-found : {hs′ : List ℕ} → Noted w hs i hs′ → (n : ℕ) → i < n → n ≡ recordsOf w → recordsOf w ≤ RECORDS → Found w hs′ (i + 1)
   more-found {hs′} t n l e f = record { homes = t .homes; each = λ r h. by r h (ℕ-discrete r i) }
     where
-      long : length hs ≡ 512
-      long = s ∙ ap length b ∙ length-replicate {A = ℕ} 512 UNKNOWN
+      long : length hs ≡ RECORDS
+      long = s ∙ ap length b ∙ length-replicate {A = ℕ} RECORDS UNKNOWN
 
       by : (r : ℕ) → r < i + 1 → Dec (r ≡ i) → entry hs′ r ≡ homeOf w r
       by r h (yes d) = rw d (t .here (omega (arith, long)))

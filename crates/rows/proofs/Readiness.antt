@@ -6,13 +6,14 @@ use mathlib.Core.List.{List, [], _∷_}
 use Prim.Native.Nat.{ℕ, zero, suc, _*_, _<_}
 use native.Mathlib.Decide.{ℕ-discrete}
 use native.Mathlib.Omega.{arith}
-use borrow.Author.Tests.{eq-eqb, ne-eqb, lt-ltb, ltb-true}
+use borrow.Author.Tests.{eq-eqb, ne-eqb, lt-ltb, ltb-true, not-false}
 use Rattle.rings.specs.Count.{occ}
 use Rattle.rings.specs.Relink.{Mutual}
 use Rattle.rings.specs.Walk.{Whole, walk}
 use Rattle.rings.proofs.Counting.{sum-term}
 use Rattle.rings.proofs.Orbits.{orbit}
 use Rattle.rings.proofs.Walking.{ring-is}
+use Rattle.job.specs.Limits.{RECORDS}
 use Rattle.job.specs.declared.refusal.Refusal.{Refusal}
 use Rattle.job.specs.declared.refusal.Refusal.the-variants.{OffTheTable, NoSuch, Loose, Muddled, OpenEdge}
 use Rattle.store.specs.Field.{NONE}
@@ -26,22 +27,15 @@ use Rattle.audit.proofs.Saying.{none-of, Placed, on-table, Numbered, such, tied
 use Rattle.joins.specs.Resolved.{Ready}
 use Rattle.audit.specs.declared.Verdict.{Verdict}
 use Rattle.audit.specs.declared.Verdict.the-variants.{Passed, Refused}
-use Rattle.rows.specs.Owners.{findIn, resolved}
-use Rattle.rows.specs.Rows.{offTheTable, unnamed, noSuchNumber, looseLink, muddled, openEdge, rowsOf, Filled}
+use Rattle.rows.specs.Owners.{endsIn, circles, findIn, resolved}
+use Rattle.rows.specs.Rings.{alone, estranged}
+use Rattle.rows.specs.Rows.{offTheTable, unnamed, noSuchNumber, looseLink, muddled, openEdge, rowsOf, Filled, Clear}
 use Rattle.rows.proofs.Homes.{or-left, or-right, ring-home, has-home}
 
 -- a row that refuses was passed by a job that passes
 past : (b : Bool) (x : Refusal) (r : Verdict) → cond b (Refused x) r ≡ Passed → (b ≡ false) × (r ≡ Passed)
 past true x r e = absurd (let z : _≡_ {A = ℕ} 0 1 = cc in omega arith)
 past false x r e = (refl, e)
-
--- the rows that a job passed
-pub record Clear (w ss : List ℕ) (m : ℕ) (js : List ℕ) (n : ℕ) : Type 0 where
-  pub on-the-table : offTheTable w ≡ false
-  pub numbers : noSuchNumber w ss m js n ≡ false
-  pub links : looseLink w ≡ false
-  pub rings : muddled w ≡ false
-  pub edges : openEdge w ss m js n ≡ false
 
 pub clear : (w ss : List ℕ) (m : ℕ) (js : List ℕ) (n : ℕ) → rowsOf w ss m js n ≡ Passed → Clear w ss m js n
 unfolding rowsOf
@@ -56,6 +50,12 @@ clear w ss m js n e =
     let d = past (muddled w) Muddled r8 (c .1) in
     let f = past (openEdge w ss m js n) OpenEdge Passed (d .1) in
     record { on-the-table = a .0; numbers = b .0; links = c .0; rings = d .0; edges = f .0 }
+
+-- every owner chain of such a job ends
+pub chain-ends : {w ss : List ℕ} {m : ℕ} {js : List ℕ} {n : ℕ} → Clear w ss m js n → (i : ℕ) → i < recordsOf w → endsIn RECORDS (ownerOf w) i ≡ true
+chain-ends {w} c i h =
+    let a = or-left (anyBelow (recordsOf w) (λ j. circles w j)) (anyBelow (recordsOf w) (λ j. estranged w j) || anyBelow (pointsOf w) (λ k. alone w k)) (c .rings) in
+    not-false (endsIn RECORDS (ownerOf w) i) (none-of (recordsOf w) (λ j. circles w j) a i h)
 
 -- what a record resolves to is reached along owners without points
 found : (w : List ℕ) (q : ℕ) → ((i : ℕ) → i < recordsOf w → (ownerOf w i ≡ NONE) ⊎ (ownerOf w i < recordsOf w)) → q ≢ NONE → (f r : ℕ) → r < recordsOf w → findIn f (firstOf w) (ownerOf w) r ≡ q → Resolves (view w) r q
@@ -115,7 +115,7 @@ module _ {w ss : List ℕ} {m : ℕ} {js : List ℕ} {n : ℕ} (g : Filled w ss 
   homes : (i k : ℕ) → i < recordsOf w → 0 < occ k (ringAt (view w) i) → Resolves (view w) (recOf w k) i
   homes i k h r =
       let e = ring-home w (c .rings) i k h (lt-ltb 0 (occ k (ringAt (view w) i)) r) in
-      found w i (λ x y. record-named x y .owner) (λ y. omega (arith, g .records)) 512 (recOf w k) (named k (wholes i h .below k r) .rec) e
+      found w i (λ x y. record-named x y .owner) (λ y. omega (arith, g .records)) RECORDS (recOf w k) (named k (wholes i h .below k r) .rec) e
 
   places : (k : ℕ) → k < pointsOf w → 0 < total (view w) k
   places k h =

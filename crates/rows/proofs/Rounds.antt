@@ -9,6 +9,7 @@ use native.Mathlib.Omega.{arith}
 use lib.ListN.{set, replicate}
 use borrow.Author.Tests.{eq-eqb, ne-eqb}
 use Rattle.rings.specs.Walk.{run}
+use Rattle.job.specs.Limits.{POINTS}
 use Rattle.store.specs.Field.{NONE}
 use Rattle.store.specs.Words.{view}
 use Rattle.store.specs.Named.{nextOf, firstOf, recordsOf, ringOf}
@@ -62,7 +63,7 @@ unfolding run marksOn
 over-marks n a p zero ms z = refl
 over-marks n a p (suc f) ms z = absurd (omega arith)
 
-pub begun : (w : List ℕ) (i a : ℕ) (ms : List ℕ) → Round w i a ms a 2048 ms
+pub begun : (w : List ℕ) (i a : ℕ) (ms : List ℕ) → Round w i a ms a POINTS ms
 begun w i a ms = record { found = refl; marks = refl }
 
 module _ {w : List ℕ} {i a : ℕ} {ms₀ : List ℕ} {p left : ℕ} {ms : List ℕ} (g : Round w i a ms₀ p left ms) (z : 0 < left) (b : Bool) (e : b ≡ elsewhere w i p) where
@@ -101,7 +102,7 @@ pub ring-walked : (w : List ℕ) (i a : ℕ) (ms ms′ : List ℕ) (r : Bool) �
 ring-walked w i a ms ms′ r e h g = rw (ne-eqb (firstOf w i) NONE (λ y. h (e ∙ y)), ← e) g
 
 -- all records
-pub none-walked : (w ms : List ℕ) → ms ≡ replicate 2048 0 → ms ≡ marksTo w 0
+pub none-walked : (w ms : List ℕ) → ms ≡ replicate POINTS 0 → ms ≡ marksTo w 0
 unfolding marksTo
 none-walked w ms e = e
 

@@ -1,20 +1,27 @@
 -- Owner chains of a job that is not yet known to be sound: does one end, and what a record resolves to.
-use Prim.Native.Nat.{ℕ, zero, suc}
+use Prim.Native.Nat.{ℕ, zero, suc, _<_}
+use mathlib.Core.Path.{_≡_}
 use mathlib.Core.Bool.{Bool, true, false, cond, not}
 use mathlib.Core.List.{List}
 use lib.Dec.{eqb}
 use Rattle.job.specs.Limits.{RECORDS}
-use Rattle.store.specs.Field.{NONE}
-use Rattle.store.specs.Named.{firstOf, ownerOf, recOf}
+use Rattle.store.specs.Field.{rc, OWNER, FIRST, NONE}
+use Rattle.store.specs.Words.{view}
+use Rattle.store.specs.Named.{recordsOf, ownerOf, recOf}
 
 -- the chain from r comes to none within f owners
 unfoldable pub endsIn : ℕ → (ℕ → ℕ) → ℕ → Bool
 endsIn zero owner r = false
 endsIn (suc f) owner r = let on : Bool = endsIn f owner (owner r) in cond (eqb (owner r) NONE) true on
 
--- row 7: "an owner chain circles". There are at most 512 records, so a chain that has not ended after as many owners never does
+-- row 7: "an owner chain circles": it has not ended after as many owners as there may be records
 abbrev pub circles : List ℕ → ℕ → Bool
-circles w i = not (endsIn RECORDS (ownerOf w) i)
+circles w i = not (endsIn RECORDS (view w (rc OWNER)) i)
+
+-- "an owner chain circles", of a job that has passed rows 1 to 5: exactly when no number of owners ends it (`circling`, proofs/Circling)
+pub record Circling (w : List ℕ) : Type 0 where
+  pub never-ends : (i : ℕ) → i < recordsOf w → circles w i ≡ true → (f : ℕ) → endsIn f (ownerOf w) i ≡ false
+  pub circles-then : (i : ℕ) → i < recordsOf w → ((f : ℕ) → endsIn f (ownerOf w) i ≡ false) → circles w i ≡ true
 
 -- the first with points among r and its owners, or none, within f records
 unfoldable pub findIn : ℕ → (ℕ → ℕ) → (ℕ → ℕ) → ℕ → ℕ
@@ -25,4 +32,4 @@ findIn (suc f) first owner r =
 
 -- "resolves" is get_real_outrec: the record that point k resolves to, or none
 abbrev pub resolved : List ℕ → ℕ → ℕ
-resolved w k = findIn RECORDS (firstOf w) (ownerOf w) (recOf w k)
+resolved w k = findIn RECORDS (view w (rc FIRST)) (view w (rc OWNER)) (recOf w k)

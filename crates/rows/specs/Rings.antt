@@ -5,6 +5,7 @@ use mathlib.Core.Bool.{Bool, false, not, _||_}
 use mathlib.Core.List.{List, [], _∷_}
 use lib.Dec.{eqb}
 use lib.ListN.{getD, set, replicate}
+use Rattle.job.specs.Limits.{POINTS}
 use Rattle.store.specs.Words.{view}
 use Rattle.store.specs.Named.{recordsOf}
 use Rattle.store.specs.Sound.{ringAt}
@@ -29,7 +30,7 @@ abbrev pub elsewhere : List ℕ → ℕ → ℕ → Bool
 elsewhere w i k = not (eqb (resolved w k) i)
 
 abbrev pub estranged : List ℕ → ℕ → Bool
-estranged w i = anyIn (elsewhere w i) (ringAt (view w) i)
+estranged w i = anyIn (λ k. elsewhere w i k) (ringAt (view w) i)
 
 -- a mark set for each point of a list
 unfoldable pub marksOn : List ℕ → List ℕ → List ℕ
@@ -38,7 +39,7 @@ marksOn (k ∷ l) ms = marksOn l (set ms k 1)
 
 -- the marks after the walks round the rings of the records below i
 unfoldable pub marksTo : List ℕ → ℕ → List ℕ
-marksTo w zero = replicate 2048 0
+marksTo w zero = replicate POINTS 0
 marksTo w (suc i) = marksOn (ringAt (view w) i) (marksTo w i)
 
 -- a point without a mark

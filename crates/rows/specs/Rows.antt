@@ -19,7 +19,7 @@ use Rattle.audit.specs.declared.Verdict.the-variants.{Passed, Refused}
 
 -- row 4: "a coordinate beyond the limit"
 abbrev pub offTheTable : List ℕ → Bool
-offTheTable w = anyBelow (pointsOf w) (offTable w)
+offTheTable w = anyBelow (pointsOf w) (λ k. offTable w k)
 
 -- one of the first n numbers of a list names no point
 abbrev pub unnamed : List ℕ → List ℕ → ℕ → Bool
@@ -28,15 +28,15 @@ unnamed w l n = anyBelow n (λ i. leb (pointsOf w) (getD l i 0))
 -- row 5: "a number naming nothing": a point's, a record's, a segment's or a join's
 abbrev pub noSuchNumber : List ℕ → List ℕ → ℕ → List ℕ → ℕ → Bool
 noSuchNumber w ss m js n =
-    anyBelow (pointsOf w) (noSuch w) || (anyBelow (recordsOf w) (noSuchOf w) || (unnamed w ss m || unnamed w js (2 * n)))
+    anyBelow (pointsOf w) (λ k. noSuch w k) || (anyBelow (recordsOf w) (λ i. noSuchOf w i) || (unnamed w ss m || unnamed w js (2 * n)))
 
 -- row 6: "next of prev, or prev of next, isn't the point"
 abbrev pub looseLink : List ℕ → Bool
-looseLink w = anyBelow (pointsOf w) (loose w)
+looseLink w = anyBelow (pointsOf w) (λ k. loose w k)
 
 -- row 7: "an owner chain circles; a point on no record's ring; a ring point that resolves to any record but its ring's, or to none"
 abbrev pub muddled : List ℕ → Bool
-muddled w = anyBelow (recordsOf w) (circles w) || (anyBelow (recordsOf w) (estranged w) || anyBelow (pointsOf w) (alone w))
+muddled w = anyBelow (recordsOf w) (λ i. circles w i) || (anyBelow (recordsOf w) (λ i. estranged w i) || anyBelow (pointsOf w) (λ k. alone w k))
 
 -- point k is on an open ring
 abbrev pub onOpen : List ℕ → ℕ → Bool
@@ -45,6 +45,10 @@ onOpen w k = anyBelow (recordsOf w) (λ i. isOpen (view w) i && onRing w i k)
 -- row 8: "a segment or join point on an open ring"
 abbrev pub openEdge : List ℕ → List ℕ → ℕ → List ℕ → ℕ → Bool
 openEdge w ss m js n = anyBelow m (λ i. onOpen w (getD ss i 0)) || anyBelow (2 * n) (λ i. onOpen w (getD js i 0))
+
+-- rows 4 and 5, which ask nothing of links and rings
+abbrev pub firstRows : List ℕ → List ℕ → ℕ → List ℕ → ℕ → Verdict
+firstRows w ss m js n = cond (offTheTable w) (Refused OffTheTable) (cond (noSuchNumber w ss m js n) (Refused NoSuch) Passed)
 
 -- "4 to 8, each over the whole job", the first that holds
 unfoldable pub rowsOf : List ℕ → List ℕ → ℕ → List ℕ → ℕ → Verdict
@@ -63,6 +67,14 @@ pub record Filled (w ss : List ℕ) (m : ℕ) (js : List ℕ) (n : ℕ) : Type 0
   pub records : recordsOf w ≤ RECORDS
   pub segments : m ≤ length ss
   pub joins : 2 * n ≤ length js
+
+-- the rows that a job passed
+pub record Clear (w ss : List ℕ) (m : ℕ) (js : List ℕ) (n : ℕ) : Type 0 where
+  pub on-the-table : offTheTable w ≡ false
+  pub numbers : noSuchNumber w ss m js n ≡ false
+  pub links : looseLink w ≡ false
+  pub rings : muddled w ≡ false
+  pub edges : openEdge w ss m js n ≡ false
 
 -- row 7 has passed, and the first n numbers of a list name points
 pub record Named (w l : List ℕ) (n : ℕ) : Type 0 where

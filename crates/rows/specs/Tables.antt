@@ -7,7 +7,9 @@ use mathlib.Core.List.{List}
 use lib.Dec.{leb}
 use lib.ListN.{length, getD}
 use Rattle.job.specs.Limits.{RECORDS}
-use Rattle.store.specs.Named.{firstOf, ownerOf}
+use Rattle.store.specs.Field.{rc, FIRST, OWNER}
+use Rattle.store.specs.Words.{view}
+use Rattle.store.specs.Named.{ownerOf}
 use Rattle.rows.specs.Owners.{endsIn, circles, findIn}
 
 -- nothing is known of a record; no record has this number, and no chain this length
@@ -27,14 +29,14 @@ pub record Lengths (w ls : List ℕ) : Type 0 where
   pub few : (r : ℕ) → entry ls r ≢ UNKNOWN → entry ls r ≤ RECORDS
   pub known : (r : ℕ) → entry ls r ≢ UNKNOWN → Long w r (entry ls r)
 
--- what following the chain from i finds: its length; or more than 512, if it circles
+-- what following the chain from i finds: its length; or more than there may be records, if it circles
 pub record Followed (w : List ℕ) (i n : ℕ) : Type 0 where
   pub circle : circles w i ≡ not (leb n RECORDS)
   pub long : n ≤ RECORDS → Long w i n
 
 -- what record r resolves to, or none
 abbrev pub homeOf : List ℕ → ℕ → ℕ
-homeOf w r = findIn RECORDS (firstOf w) (ownerOf w) r
+homeOf w r = findIn RECORDS (view w (rc FIRST)) (view w (rc OWNER)) r
 
 -- the table of homes: a record's number is what it resolves to
 pub record Homes (w hs : List ℕ) : Type 0 where

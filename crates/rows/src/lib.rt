@@ -8,6 +8,7 @@ use crate::tables::UNKNOWN;
 use audit::PointTest;
 use audit::RecordTest;
 use audit::Verdict;
+use job::Job;
 use job::refusal::Refusal;
 use store::Col;
 use store::get;
@@ -15,13 +16,15 @@ use store::read;
 ghost use mathlib.Core.Path.{_≡_};
 ghost use Prim.Native.Nat.{_*_, _≤_};
 ghost use lib.ListN.{length, getD, replicate};
+ghost use Rattle.job.specs.Limits.{RECORDS};
 ghost use Rattle.store.specs.Field.{LENGTH};
 ghost use Rattle.store.specs.Words.{view};
 ghost use Rattle.store.specs.Named.{pointsOf};
 ghost use Rattle.store.specs.Sound.{isOpen};
 ghost use Rattle.audit.specs.Tests.{anyBelow};
 ghost use Rattle.audit.specs.Marks.{fails, Counted};
-ghost use Rattle.rows.specs.Rows.{unnamed, noSuchNumber, onOpen, muddled, openEdge, rowsOf, Filled, Named};
+ghost use Rattle.audit.specs.declared.Verdict.the-variants.{Passed};
+ghost use Rattle.rows.specs.Rows.{unnamed, noSuchNumber, onOpen, muddled, openEdge, firstRows, rowsOf, Filled, Named};
 ghost use Rattle.rows.specs.Owners.{resolved};
 ghost use Rattle.rows.specs.Tables.{UNKNOWN, Homes};
 
@@ -107,14 +110,14 @@ fn any_open(w: &[u32], homes: &[usize], list: &[u32], n: usize) -> bool
 
 // Row 7, and the table of homes.
 fn muddled(w: &[u32], homes: &mut [usize]) -> bool
-    requires { ⌜ Counted (now w) × (now homes ≡ replicate 512 UNKNOWN) ⌝ }
+    requires { ⌜ Counted (now w) × (now homes ≡ replicate RECORDS UNKNOWN) ⌝ }
     ensures { λ r. ⌜ (r ≡ muddled (now (w .entry))) × Homes (now (w .entry)) (now (homes .exit)) ⌝ }
 {
     if owners::any_circle(w) {
         return true;
     }
     resolving::find_all(w, homes);
-    let mut marks = [0u8; 2048];
+    let mut marks = [0u8; Job::POINTS];
     if marks::walk_all(w, homes, &mut marks) {
         return true;
     }
@@ -138,10 +141,10 @@ fn open_edge(
     a | b
 }
 
-// Rows 4 to 8, in order.
-pub fn rows(w: &[u32], segments: &[u32], m: usize, joins: &[u32], n: usize) -> Verdict
+// Rows 4 and 5.
+pub fn first_rows(w: &[u32], segments: &[u32], m: usize, joins: &[u32], n: usize) -> Verdict
     requires { ⌜ Filled (now w) (now segments) m (now joins) n ⌝ }
-    ensures { λ r. ⌜ r ≡ rowsOf (now (w .entry)) (now (segments .entry)) m (now (joins .entry)) n ⌝ }
+    ensures { λ r. ⌜ r ≡ firstRows (now (w .entry)) (now (segments .entry)) m (now (joins .entry)) n ⌝ }
 {
     if any_point(w, PointTest::Table) {
         return Verdict::Refused(Refusal::OffTheTable);
@@ -149,10 +152,18 @@ pub fn rows(w: &[u32], segments: &[u32], m: usize, joins: &[u32], n: usize) -> V
     if no_such_number(w, segments, m, joins, n) {
         return Verdict::Refused(Refusal::NoSuch);
     }
+    Verdict::Passed
+}
+
+// Rows 6 to 8, of a job that has passed 4 and 5.
+fn later_rows(w: &[u32], segments: &[u32], m: usize, joins: &[u32], n: usize) -> Verdict
+    requires { ⌜ Filled (now w) (now segments) m (now joins) n × (firstRows (now w) (now segments) m (now joins) n ≡ Passed) ⌝ }
+    ensures { λ r. ⌜ r ≡ rowsOf (now (w .entry)) (now (segments .entry)) m (now (joins .entry)) n ⌝ }
+{
     if any_point(w, PointTest::Links) {
         return Verdict::Refused(Refusal::Loose);
     }
-    let mut homes = [UNKNOWN; 512];
+    let mut homes = [UNKNOWN; Job::RECORDS];
     if muddled(w, &mut homes) {
         return Verdict::Refused(Refusal::Muddled);
     }
@@ -160,4 +171,16 @@ pub fn rows(w: &[u32], segments: &[u32], m: usize, joins: &[u32], n: usize) -> V
         return Verdict::Refused(Refusal::OpenEdge);
     }
     Verdict::Passed
+}
+
+// Rows 4 to 8, in order.
+pub fn rows(w: &[u32], segments: &[u32], m: usize, joins: &[u32], n: usize) -> Verdict
+    requires { ⌜ Filled (now w) (now segments) m (now joins) n ⌝ }
+    ensures { λ r. ⌜ r ≡ rowsOf (now (w .entry)) (now (segments .entry)) m (now (joins .entry)) n ⌝ }
+{
+    let v = first_rows(w, segments, m, joins, n);
+    match v {
+        Verdict::Passed => later_rows(w, segments, m, joins, n),
+        Verdict::Refused(x) => Verdict::Refused(x),
+    }
 }

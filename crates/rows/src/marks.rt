@@ -8,6 +8,7 @@ use store::read;
 ghost use mathlib.Core.Path.{_≡_};
 ghost use Prim.Native.Nat.{_≤_};
 ghost use lib.ListN.{length, set, replicate};
+ghost use Rattle.job.specs.Limits.{POINTS};
 ghost use Rattle.store.specs.Field.{LENGTH};
 ghost use Rattle.store.specs.Words.{view};
 ghost use Rattle.store.specs.Named.{pointsOf, ringOf};
@@ -71,7 +72,7 @@ fn walk_record(w: &[u32], homes: &[usize], marks: &mut [u8], i: usize) -> bool
 
 // The same for every record's ring, from marks that are all 0.
 pub fn walk_all(w: &[u32], homes: &[usize], marks: &mut [u8]) -> bool
-    requires { ⌜ (LENGTH ≤ length (now w)) × Homes (now w) (now homes) × (now marks ≡ replicate 2048 0) ⌝ }
+    requires { ⌜ (LENGTH ≤ length (now w)) × Homes (now w) (now homes) × (now marks ≡ replicate POINTS 0) ⌝ }
     ensures { λ r. ⌜ AllWalked (now (w .entry)) (now (marks .exit)) r ⌝ }
 {
     let n = get(w, Col::Records, 0);

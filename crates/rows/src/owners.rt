@@ -17,7 +17,7 @@ ghost use Rattle.audit.specs.Tests.{anyBelow};
 ghost use Rattle.rows.specs.Owners.{circles};
 ghost use Rattle.rows.specs.Tables.{Long, Lengths, Followed};
 
-// How long the owner chain from record i is, followed up to a record whose length is known; more than 512, if it circles.
+// How long the owner chain from record i is, followed up to a record whose length is known; more than there may be records, if it circles.
 fn follow(w: &[u32], lengths: &[usize], i: usize) -> usize
     requires { ⌜ (LENGTH ≤ length (now w)) × Lengths (now w) (now lengths) ⌝ }
     ensures { λ n. ⌜ Followed (now (w .entry)) i n ⌝ }
@@ -62,7 +62,7 @@ pub fn any_circle(w: &[u32]) -> bool
     ensures { λ r. ⌜ r ≡ anyBelow (recordsOf (now (w .entry))) (circles (now (w .entry))) ⌝ }
 {
     let n = get(w, Col::Records, 0);
-    let mut lengths = [UNKNOWN; 512];
+    let mut lengths = [UNKNOWN; Job::RECORDS];
     let mut i: usize = 0;
     while i < n {
         let m = follow(w, &lengths, i);

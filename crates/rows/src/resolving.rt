@@ -70,7 +70,7 @@ fn note(w: &[u32], homes: &mut [usize], r: usize, h: usize)
 
 // The table of a job whose owner chains end.
 pub fn find_all(w: &[u32], homes: &mut [usize])
-    requires { ⌜ (LENGTH ≤ length (now w)) × (recordsOf (now w) ≤ RECORDS) × (now homes ≡ replicate 512 UNKNOWN) × (anyBelow (recordsOf (now w)) (circles (now w)) ≡ false) ⌝ }
+    requires { ⌜ (LENGTH ≤ length (now w)) × (recordsOf (now w) ≤ RECORDS) × (now homes ≡ replicate RECORDS UNKNOWN) × (anyBelow (recordsOf (now w)) (circles (now w)) ≡ false) ⌝ }
     ensures { λ _. ⌜ Found (now (w .entry)) (now (homes .exit)) (recordsOf (now (w .entry))) ⌝ }
 {
     let n = get(w, Col::Records, 0);

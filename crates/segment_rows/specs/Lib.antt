@@ -1,3 +1,3 @@
--- Definitions of level segments as whole records in a lent slice.
+-- Definitions of level segments in a lent slice: the swap, and their columns.
 pub mod Swap
-pub mod Sort
+pub mod Spread

@@ -5,12 +5,13 @@ use mathlib.Core.Bool.{Bool, true, false, cond, _||_, not}
 use mathlib.Core.List.{List}
 use native.Mathlib.Omega.{arith}
 use borrow.Author.Tests.{ltb-false}
+use Rattle.job.specs.Limits as limit
 use Rattle.store.specs.Words.{view}
 use Rattle.store.specs.Named.{pointsOf}
 use Rattle.joins.specs.Resolve.{Lives}
 use Rattle.joins.specs.Resolved.{Ready}
 use Rattle.segments.specs.Level.{xOf, alongOf, until, atLimit, limitRun, Bounded}
-use Rattle.segments.specs.Pair.{Span, Overlap, oneOf, twoOf}
+use Rattle.segments.specs.Pair.{Span, Overlap, Meeting, oneOf, twoOf}
 use Rattle.segments.proofs.Running.{along-lives}
 
 -- what holds at p and is kept by each move holds where the walk ends
@@ -27,21 +28,21 @@ or-false : (a b : Bool) → (a || b) ≡ false → a ≡ false
 or-false true b e = e
 or-false false b e = refl
 
-within : (w : List ℕ) (on : Bool) (limit y x : ℕ) → atLimit w on limit y x ≡ false → xOf w (alongOf w on x) ≤ limit
+within : (w : List ℕ) (on : Bool) (far y x : ℕ) → atLimit w on far y x ≡ false → xOf w (alongOf w on x) ≤ far
 unfolding atLimit
-within w on limit y x e = ltb-false limit (xOf w (alongOf w on x)) (or-false _ _ e)
+within w on far y x e = ltb-false far (xOf w (alongOf w on x)) (or-false _ _ e)
 
 -- where a pair's walk ends: on the ring, and not right of any bound that holds of its start and of the limit
 pub record Ends (w : List ℕ) (i bound p : ℕ) : Type 0 where
   pub here : Lives (view w) i p
   pub left : xOf w p < bound
 
-pub limit-ends : (w : List ℕ) → Ready w → (on : Bool) (limit y i p bound : ℕ) → Lives (view w) i p → xOf w p < bound → limit < bound → Ends w i bound (limitRun w on limit y p)
+pub limit-ends : (w : List ℕ) → Ready w → (on : Bool) (far y i p bound : ℕ) → Lives (view w) i p → xOf w p < bound → far < bound → Ends w i bound (limitRun w on far y p)
 unfolding limitRun
-limit-ends w o on limit y i p bound h a b =
-    until-keeps (Ends w i bound) (atLimit w on limit y) (alongOf w on)
-    (λ x z e. record { here = along-lives w o on i x (z .here); left = omega (arith, within w on limit y x e) })
-    2048 p (record { here = h; left = a })
+limit-ends w o on far y i p bound h a b =
+    until-keeps (Ends w i bound) (atLimit w on far y) (alongOf w on)
+    (λ x z e. record { here = along-lives w o on i x (z .here); left = omega (arith, within w on far y x e) })
+    limit.POINTS p (record { here = h; left = a })
 
 module _ (w : List ℕ) (on : Bool) (y l1 r1 l2 r2 : ℕ) (t : Overlap w l1 r1 l2 r2) where
   o : Ready w
@@ -84,24 +85,24 @@ span-grown w x o l r s f =
 
 -- ---- the needs of move_pair
 
-module _ (w : List ℕ) (l1 r1 l2 r2 m : ℕ) (t : Overlap w l1 r1 l2 r2) (e : m ≡ xOf w l2) where
+module _ (w : List ℕ) (l1 l2 m : ℕ) (t : Meeting w l1 l2) (e : m ≡ xOf w l2) where
   pub pair-one : Bounded w l1 m
-  pair-one = one-short w true 0 l1 r1 l2 r2 t m e
+  pair-one = one-short w true 0 l1 (t .r1) l2 (t .r2) (t .overlap) m e
 
   module _ (on : Bool) (y p : ℕ) (f : p ≡ limitRun w on m y l1) where
     is-one : p ≡ oneOf w on y l1 l2
     unfolding oneOf
     is-one = f ∙ ap (λ (x : ℕ). limitRun w on x y l1) e
 
-    pub pair-low : p < 2048
+    pub pair-low : p < limit.POINTS
     pair-low =
-        let s = one-span w on y l1 r1 l2 r2 t in
+        let s = one-span w on y l1 (t .r1) l2 (t .r2) (t .overlap) in
         let h : oneOf w on y l1 l2 < pointsOf w = s .same .one .bound in
-        let k : pointsOf w ≤ 2048 = s .same .ready .resolved .few-points in
+        let k : pointsOf w ≤ limit.POINTS = s .same .ready .resolved .few-points in
         rw is-one (omega arith)
 
     pub pair-two : (k : ℕ) → k ≡ xOf w p → Bounded w l2 k
-    pair-two k g = two-short w on y l1 r1 l2 r2 t p k is-one g
+    pair-two k g = two-short w on y l1 (t .r1) l2 (t .r2) (t .overlap) p k is-one g
 
-pub overlap-low : (w : List ℕ) (l1 r1 l2 r2 : ℕ) → Overlap w l1 r1 l2 r2 → l2 < 2048
-overlap-low w l1 r1 l2 r2 t = omega (arith, t .two .same .one .bound, t .two .same .ready .resolved .few-points)
+pub meeting-low : (w : List ℕ) (l1 l2 : ℕ) → Meeting w l1 l2 → l2 < limit.POINTS
+meeting-low w l1 l2 t = omega (arith, t .overlap .two .same .one .bound, t .overlap .two .same .ready .resolved .few-points)

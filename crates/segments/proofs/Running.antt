@@ -2,10 +2,12 @@
 use Prim.Native.Nat.{ℕ, zero, suc, _≤_, _<_}
 use mathlib.Core.Path.{_≡_, refl, ap, _∙_, sym}
 use mathlib.Core.Logic.{_⊎_, inl, inr}
-use mathlib.Core.Bool.{Bool, true, false, cond}
+use mathlib.Core.Bool.{Bool, true, false, cond, _||_, not}
 use mathlib.Core.List.{List}
 use native.Mathlib.Omega.{arith}
+use lib.Dec.{eqb, ltb}
 use borrow.Author.Tests.{eq-eqb, lt-ltb}
+use Rattle.job.specs.Limits as limit
 use Rattle.store.specs.Words.{view}
 use Rattle.store.specs.Named.{pointsOf, recordsOf, firstOf, nextOf, prevOf}
 use Rattle.joins.specs.Resolve.{Lives}
@@ -13,7 +15,9 @@ use Rattle.joins.specs.Resolved.{Ready}
 use Rattle.joins.specs.Needs.{Point}
 use Rattle.joins.proofs.Homes.{home-of, next-lives, prev-lives}
 use Rattle.joins.proofs.Homes as homes
-use Rattle.segments.specs.Level.{xOf, alongOf, until, atWall, atStop, atLimit, wallRun, stopRun, limitRun, Together, Bounded, Home}
+use Rattle.segments.specs.declared.level.Halt.{Halt}
+use Rattle.segments.specs.declared.level.Halt.the-variants.{Wall, Stop, Limit}
+use Rattle.segments.specs.Level.{xOf, yOf, alongOf, until, atWall, atStop, atLimit, wallRun, stopRun, limitRun, haltsAt, runOf, Together, Bounded, Ending, Home}
 use Rattle.segments.proofs.Walks.{First, Steps, forwards, backwards}
 
 -- how often a walk moves: a loop's measure
@@ -82,15 +86,15 @@ pub record Going (F : ℕ) (w : List ℕ) (t : ℕ → Bool) (g : ℕ → ℕ) (
   pub here : Lives (view w) at p
   pub left : ℕ
   pub due : Due t g p left
-  pub short : left < 2048
+  pub short : left < limit.POINTS
   pub fuel : ℕ
   pub enough : left < fuel
   pub goes : until fuel t g p ≡ F
 
-pub low : (F : ℕ) (w : List ℕ) (t : ℕ → Bool) (g : ℕ → ℕ) (p : ℕ) → Going F w t g p → p < 2048
+pub low : (F : ℕ) (w : List ℕ) (t : ℕ → Bool) (g : ℕ → ℕ) (p : ℕ) → Going F w t g p → p < limit.POINTS
 low F w t g p s =
     let h : p < pointsOf w = s .here .bound in
-    let k : pointsOf w ≤ 2048 = s .ready .resolved .few-points in
+    let k : pointsOf w ≤ limit.POINTS = s .ready .resolved .few-points in
     omega arith
 
 pub along-lives : (w : List ℕ) → Ready w → (on : Bool) (i p : ℕ) → Lives (view w) i p → Lives (view w) i (alongOf w on p)
@@ -98,7 +102,7 @@ unfolding alongOf
 along-lives w o true i p h = next-lives (view w) (o .resolved) i p h
 along-lives w o false i p h = prev-lives (view w) (o .resolved) i p h
 
-steps : (w : List ℕ) → Ready w → (on : Bool) (i p q : ℕ) → Lives (view w) i p → Lives (view w) i q → Steps (alongOf w on) q p
+pub steps : (w : List ℕ) → Ready w → (on : Bool) (i p q : ℕ) → Lives (view w) i p → Lives (view w) i q → Steps (alongOf w on) q p
 unfolding alongOf
 steps w o true i p q a b = forwards (view w) (o .resolved) i p q a b
 steps w o false i p q a b = backwards (view w) (o .resolved) i p q a b
@@ -136,17 +140,17 @@ module _ (F : ℕ) (w : List ℕ) (on : Bool) (t : ℕ → Bool) (p : ℕ) (s : 
         }
         )
 
-    pub falls : moves 2048 t (alongOf w on) q < moves 2048 t (alongOf w on) p
+    pub falls : moves limit.POINTS t (alongOf w on) q < moves limit.POINTS t (alongOf w on) p
     falls =
         let y = due-less t (alongOf w on) p (s .left) (s .due) h in
         let a = moves-on t (alongOf w on) 2047 p h in
-        let b = moves-same t (alongOf w on) 2047 2048 (alongOf w on p) (y .0) (y .2) (omega (arith, s .short, y .1)) (omega (arith, s .short, y .1)) in
+        let b = moves-same t (alongOf w on) 2047 limit.POINTS (alongOf w on p) (y .0) (y .2) (omega (arith, s .short, y .1)) (omega (arith, s .short, y .1)) in
         rw e (omega (arith, a, b))
 
 -- ---- the three tests
 
-begun : (w : List ℕ) → Ready w → (on : Bool) (t : ℕ → Bool) (i p d : ℕ) → Lives (view w) i p → Due t (alongOf w on) p d → d < 2048 → Going (until 2048 t (alongOf w on) p) w t (alongOf w on) p
-begun w o on t i p d h u l = record { ready = o; at = i; here = h; left = d; due = u; short = l; fuel = 2048; enough = l; goes = refl }
+begun : (w : List ℕ) → Ready w → (on : Bool) (t : ℕ → Bool) (i p d : ℕ) → Lives (view w) i p → Due t (alongOf w on) p d → d < limit.POINTS → Going (until limit.POINTS t (alongOf w on) p) w t (alongOf w on) p
+begun w o on t i p d h u l = record { ready = o; at = i; here = h; left = d; due = u; short = l; fuel = limit.POINTS; enough = l; goes = refl }
 
 wall-here : (w : List ℕ) (on : Bool) (wall y : ℕ) → atWall w on wall y wall ≡ true
 unfolding atWall
@@ -156,28 +160,48 @@ stop-here : (w : List ℕ) (on : Bool) (stop y x : ℕ) → alongOf w on x ≡ s
 unfolding atStop
 stop-here w on stop y x e = rw (eq-eqb (alongOf w on x) stop e)
 
-limit-here : (w : List ℕ) (on : Bool) (limit y r : ℕ) → limit < xOf w r → (x : ℕ) → alongOf w on x ≡ r → atLimit w on limit y x ≡ true
+limit-here : (w : List ℕ) (on : Bool) (far y r : ℕ) → far < xOf w r → (x : ℕ) → alongOf w on x ≡ r → atLimit w on far y x ≡ true
 unfolding atLimit
-limit-here w on limit y r h x e = rw (e, lt-ltb limit (xOf w r) h)
+limit-here w on far y r h x e = rw (e, lt-ltb far (xOf w r) h)
 
-pub wall-begun : (w : List ℕ) (on : Bool) (wall y p : ℕ) → Together w p wall → Going (wallRun w on wall y p) w (atWall w on wall y) (alongOf w on) p
+wall-begun : (w : List ℕ) (on : Bool) (wall y p : ℕ) → Together w p wall → Going (wallRun w on wall y p) w (atWall w on wall y) (alongOf w on) p
 unfolding wallRun
 wall-begun w on wall y p s =
     let z = steps w (s .ready) on (s .at) p wall (s .one) (s .two) in
     begun w (s .ready) on (atWall w on wall y) (s .at) p (z .many) (s .one) (due-at (atWall w on wall y) (alongOf w on) wall (wall-here w on wall y) p (z .many) (z .first)) (z .few)
 
-pub stop-begun : (w : List ℕ) (on : Bool) (stop y p : ℕ) → Together w p stop → Going (stopRun w on stop y p) w (atStop w on stop y) (alongOf w on) p
+stop-begun : (w : List ℕ) (on : Bool) (stop y p : ℕ) → Together w p stop → Going (stopRun w on stop y p) w (atStop w on stop y) (alongOf w on) p
 unfolding stopRun
 stop-begun w on stop y p s =
     let z = steps w (s .ready) on (s .at) (alongOf w on p) stop (along-lives w (s .ready) on (s .at) p (s .one)) (s .two) in
     begun w (s .ready) on (atStop w on stop y) (s .at) p (z .many) (s .one) (due-before (atStop w on stop y) (alongOf w on) stop (stop-here w on stop y) p (z .many) (z .first)) (z .few)
 
-pub limit-begun : (w : List ℕ) (on : Bool) (limit y p : ℕ) → Bounded w p limit → Going (limitRun w on limit y p) w (atLimit w on limit y) (alongOf w on) p
+limit-begun : (w : List ℕ) (on : Bool) (far y p : ℕ) → Bounded w p far → Going (limitRun w on far y p) w (atLimit w on far y) (alongOf w on) p
 unfolding limitRun
-limit-begun w on limit y p u =
+limit-begun w on far y p u =
     let s = u .same in
     let z = steps w (s .ready) on (s .at) (alongOf w on p) (u .right) (along-lives w (s .ready) on (s .at) p (s .one)) (s .two) in
-    begun w (s .ready) on (atLimit w on limit y) (s .at) p (z .many) (s .one) (due-before (atLimit w on limit y) (alongOf w on) (u .right) (limit-here w on limit y (u .right) (u .beyond)) p (z .many) (z .first)) (z .few)
+    begun w (s .ready) on (atLimit w on far y) (s .at) p (z .many) (s .one) (due-before (atLimit w on far y) (alongOf w on) (u .right) (limit-here w on far y (u .right) (u .beyond)) p (z .many) (z .first)) (z .few)
+
+-- the walk by value
+pub run-begun : (w : List ℕ) (on : Bool) (h : Halt) (y p : ℕ) → Ending w p h → Going (runOf w on h y p) w (haltsAt w on h y) (alongOf w on) p
+run-begun w on (Wall k) y p s = wall-begun w on k y p s
+run-begun w on (Stop k) y p s = stop-begun w on k y p s
+run-begun w on (Limit k) y p s = limit-begun w on k y p s
+
+-- its three tests
+module _ (w : List ℕ) (on : Bool) (h : Halt) (y p q v k : ℕ) (a : q ≡ alongOf w on p) (b : v ≡ yOf w q) where
+  pub halts-wall : h ≡ Wall k → (eqb p k || not (eqb v y)) ≡ haltsAt w on h y p
+  unfolding atWall
+  halts-wall e = rw (e, b, a)
+
+  pub halts-stop : h ≡ Stop k → (eqb q k || not (eqb v y)) ≡ haltsAt w on h y p
+  unfolding atStop
+  halts-stop e = rw (e, b, a)
+
+  pub halts-limit : (x : ℕ) → x ≡ xOf w q → h ≡ Limit k → (ltb k x || not (eqb v y)) ≡ haltsAt w on h y p
+  unfolding atLimit
+  halts-limit x c e = rw (e, b, c, a)
 
 -- ---- the neighbour
 
@@ -189,11 +213,11 @@ pub along-no : (w : List ℕ) (on : Bool) (p r : ℕ) → on ≡ false → r ≡
 unfolding alongOf
 along-no w on p r e f = rw e f
 
-pub along-low : (w : List ℕ) (on : Bool) (p q : ℕ) → Point w p → q ≡ alongOf w on p → q < 2048
+pub along-low : (w : List ℕ) (on : Bool) (p q : ℕ) → Point w p → q ≡ alongOf w on p → q < limit.POINTS
 along-low w on p q t e =
     let z = home-of (view w) (t .ready .resolved) p (t .low) in
     let h : alongOf w on p < pointsOf w = along-lives w (t .ready) on (z .0) p (z .1) .bound in
-    let k : pointsOf w ≤ 2048 = t .ready .resolved .few-points in
+    let k : pointsOf w ≤ limit.POINTS = t .ready .resolved .few-points in
     omega arith
 
 -- ---- both ends of a run
@@ -211,16 +235,16 @@ until-lives w o on t i (suc f) p h = go (t p) (until-lives w o on t i f (alongOf
 first-lives : (w : List ℕ) (p i : ℕ) → Home w p i → Lives (view w) i (firstOf w i)
 first-lives w p i h = homes.first-lives (view w) (h .ready .resolved) i (h .here .res .real) (h .here .res .some)
 
-pub home-low : (w : List ℕ) (p i : ℕ) → Home w p i → i < 512
+pub home-low : (w : List ℕ) (p i : ℕ) → Home w p i → i < limit.RECORDS
 home-low w p i h =
     let a : i < recordsOf w = h .here .res .real in
-    let b : recordsOf w ≤ 512 = h .ready .resolved .few-records in
+    let b : recordsOf w ≤ limit.RECORDS = h .ready .resolved .few-records in
     omega arith
 
-pub first-point : (w : List ℕ) (p i a : ℕ) → Home w p i → a ≡ firstOf w i → a < 2048
+pub first-point : (w : List ℕ) (p i a : ℕ) → Home w p i → a ≡ firstOf w i → a < limit.POINTS
 first-point w p i a h e =
     let b : firstOf w i < pointsOf w = first-lives w p i h .bound in
-    let k : pointsOf w ≤ 2048 = h .ready .resolved .few-points in
+    let k : pointsOf w ≤ limit.POINTS = h .ready .resolved .few-points in
     omega arith
 
 pub wall-on : (w : List ℕ) (p i a : ℕ) → Home w p i → a ≡ firstOf w i → Together w p a
@@ -231,4 +255,4 @@ wall-back w p i a z h e f = rw (f, e) (record { ready = h .ready; at = i; one = 
 
 pub stop-on : (w : List ℕ) (p y one : ℕ) → Together w p p → one ≡ stopRun w false p y p → Together w p one
 unfolding stopRun
-stop-on w p y one s e = rw e (record { ready = s .ready; at = s .at; one = s .one; two = until-lives w (s .ready) false (atStop w false p y) (s .at) 2048 p (s .one) })
+stop-on w p y one s e = rw e (record { ready = s .ready; at = s .at; one = s .one; two = until-lives w (s .ready) false (atStop w false p y) (s .at) limit.POINTS p (s .one) })

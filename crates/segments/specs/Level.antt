@@ -9,6 +9,8 @@ use Rattle.store.specs.Words.{view}
 use Rattle.store.specs.Named.{nextOf, prevOf}
 use Rattle.joins.specs.Resolve.{Lives}
 use Rattle.joins.specs.Resolved.{Ready}
+use Rattle.segments.specs.declared.level.Halt.{Halt}
+use Rattle.segments.specs.declared.level.Halt.the-variants.{Wall, Stop, Limit}
 
 abbrev pub xOf : List ℕ → ℕ → ℕ
 xOf w p = view w (pt X) p
@@ -46,6 +48,17 @@ stopRun w on stop y p = until limit.POINTS (atStop w on stop y) (alongOf w on) p
 unfoldable pub limitRun : List ℕ → Bool → ℕ → ℕ → ℕ → ℕ
 limitRun w on far y p = until limit.POINTS (atLimit w on far y) (alongOf w on) p
 
+-- the three by value: what ends a walk is its test
+abbrev pub haltsAt : List ℕ → Bool → Halt → ℕ → ℕ → Bool
+haltsAt w on (Wall k) y = atWall w on k y
+haltsAt w on (Stop k) y = atStop w on k y
+haltsAt w on (Limit k) y = atLimit w on k y
+
+abbrev pub runOf : List ℕ → Bool → Halt → ℕ → ℕ → ℕ
+runOf w on (Wall k) y = wallRun w on k y
+runOf w on (Stop k) y = stopRun w on k y
+runOf w on (Limit k) y = limitRun w on k y
+
 -- ---- what the walks ask
 
 -- p and q are on one ring
@@ -65,3 +78,9 @@ pub record Bounded (w : List ℕ) (p limit : ℕ) : Type 0 where
   pub right : ℕ
   pub same : Together w p right
   pub beyond : limit < xOf w right
+
+-- a walk from p comes to what ends it
+abbrev pub Ending : List ℕ → ℕ → Halt → Type 0
+Ending w p (Wall k) = Together w p k
+Ending w p (Stop k) = Together w p k
+Ending w p (Limit k) = Bounded w p k

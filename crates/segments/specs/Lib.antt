@@ -1,6 +1,5 @@
--- Definitions of level segments: the walks, rows and their sort, the segments of a job, the joins made from pairs.
+-- Definitions of level segments: the walks, the segments of a job, a pair's moves.
 pub mod Level
-pub mod Row
 pub mod Pair
 pub mod Update
-pub mod Make
+pub mod LevelRun

@@ -22,3 +22,9 @@ pub record Overlap (w : List ℕ) (l1 r1 l2 r2 : ℕ) : Type 0 where
   pub two : Span w l2 r2
   pub first : xOf w l2 < xOf w r1
   pub second : xOf w l1 < xOf w r2
+
+-- the same, by their left points
+pub record Meeting (w : List ℕ) (l1 l2 : ℕ) : Type 0 where
+  pub r1 : ℕ
+  pub r2 : ℕ
+  pub overlap : Overlap w l1 r1 l2 r2

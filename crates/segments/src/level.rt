@@ -5,9 +5,9 @@ ghost use mathlib.Core.Bool.{true, false};
 ghost use mathlib.Core.Path.{_≡_};
 ghost use Prim.Native.Nat.{_<_};
 ghost use Rattle.joins.specs.Needs.{Point};
-ghost use Rattle.segments.specs.Level.{alongOf, atWall, atStop, atLimit, wallRun, stopRun, limitRun, Together, Bounded, Home};
+ghost use Rattle.segments.specs.Level.{alongOf, haltsAt, runOf, Together, Ending, Home};
 ghost use Rattle.segments.specs.Update.{walledEnds, freeEnds};
-ghost use Rattle.segments.specs.Pair.{Overlap, oneOf, twoOf};
+ghost use Rattle.segments.specs.Pair.{Meeting, oneOf, twoOf};
 
 // The neighbour that way.
 fn along(w: &[u32], on: bool, p: usize) -> usize
@@ -20,70 +20,36 @@ fn along(w: &[u32], on: bool, p: usize) -> usize
     get(w, Col::Prev, p)
 }
 
-fn at_wall(w: &[u32], on: bool, wall: usize, y: usize, p: usize) -> bool
-    requires { ⌜ Point (now w) p ⌝ }
-    ensures { λ r. ⌜ r ≡ atWall (now (w .entry)) on wall y p ⌝ }
-{
-    let q = along(w, on, p);
-    let h = get(w, Col::Y, q);
-    (p == wall) | !(h == y)
+// What ends a walk: the wall of a ring with a front edge; the other end of a run without one; another segment's x.
+pub enum Halt {
+    Wall(usize),
+    Stop(usize),
+    Limit(usize),
 }
 
-fn at_stop(w: &[u32], on: bool, stop: usize, y: usize, p: usize) -> bool
+// Whether a walk ends at p: there, or because the one after is at another height.
+fn halts(w: &[u32], on: bool, h: Halt, y: usize, p: usize) -> bool
     requires { ⌜ Point (now w) p ⌝ }
-    ensures { λ r. ⌜ r ≡ atStop (now (w .entry)) on stop y p ⌝ }
-{
-    let q = along(w, on, p);
-    let h = get(w, Col::Y, q);
-    (q == stop) | !(h == y)
-}
-
-fn at_limit(w: &[u32], on: bool, limit: usize, y: usize, p: usize) -> bool
-    requires { ⌜ Point (now w) p ⌝ }
-    ensures { λ r. ⌜ r ≡ atLimit (now (w .entry)) on limit y p ⌝ }
+    ensures { λ r. ⌜ r ≡ haltsAt (now (w .entry)) on h y p ⌝ }
 {
     let q = along(w, on, p);
     let x = get(w, Col::X, q);
-    let h = get(w, Col::Y, q);
-    (limit < x) | !(h == y)
-}
-
-// The run with a front edge, up to the wall.
-fn wall_run(w: &[u32], on: bool, wall: usize, y: usize, start: usize) -> usize
-    requires { ⌜ Together (now w) start wall ⌝ }
-    ensures { λ r. ⌜ r ≡ wallRun (now (w .entry)) on wall y start ⌝ }
-{
-    let mut p = start;
-    loop {
-        if at_wall(w, on, wall, y, p) {
-            return p;
-        }
-        p = along(w, on, p);
+    let v = get(w, Col::Y, q);
+    match h {
+        Halt::Wall(k) => (p == k) | !(v == y),
+        Halt::Stop(k) => (q == k) | !(v == y),
+        Halt::Limit(k) => (k < x) | !(v == y),
     }
 }
 
-// The run without one, up to the other end.
-fn stop_run(w: &[u32], on: bool, stop: usize, y: usize, start: usize) -> usize
-    requires { ⌜ Together (now w) start stop ⌝ }
-    ensures { λ r. ⌜ r ≡ stopRun (now (w .entry)) on stop y start ⌝ }
+// The walk.
+fn run(w: &[u32], on: bool, h: Halt, y: usize, start: usize) -> usize
+    requires { ⌜ Ending (now w) start h ⌝ }
+    ensures { λ r. ⌜ r ≡ runOf (now (w .entry)) on h y start ⌝ }
 {
     let mut p = start;
     loop {
-        if at_stop(w, on, stop, y, p) {
-            return p;
-        }
-        p = along(w, on, p);
-    }
-}
-
-// A pair's walk, up to the limit.
-fn limit_run(w: &[u32], on: bool, limit: usize, y: usize, start: usize) -> usize
-    requires { ⌜ Bounded (now w) start limit ⌝ }
-    ensures { λ r. ⌜ r ≡ limitRun (now (w .entry)) on limit y start ⌝ }
-{
-    let mut p = start;
-    loop {
-        if at_limit(w, on, limit, y, p) {
+        if halts(w, on, h, y, p) {
             return p;
         }
         p = along(w, on, p);
@@ -96,14 +62,14 @@ pub struct Two {
 }
 
 // The left points of two overlapping segments, moved together.
-pub fn move_pair(w: &[u32], on: bool, y: usize, l1: usize, r1: usize, l2: usize, r2: usize) -> Two
-    requires { ⌜ Overlap (now w) l1 r1 l2 r2 ⌝ }
+pub fn move_pair(w: &[u32], on: bool, y: usize, l1: usize, l2: usize) -> Two
+    requires { ⌜ Meeting (now w) l1 l2 ⌝ }
     ensures { λ r. ⌜ (r .one ≡ oneOf (now (w .entry)) on y l1 l2) × (r .two ≡ twoOf (now (w .entry)) on y l1 l2) ⌝ }
 {
     let limit = get(w, Col::X, l2);
-    let one = limit_run(w, on, limit, y, l1);
+    let one = run(w, on, Halt::Limit(limit), y, l1);
     let far = get(w, Col::X, one);
-    let two = limit_run(w, !on, far, y, l2);
+    let two = run(w, !on, Halt::Limit(far), y, l2);
     Two { one, two }
 }
 
@@ -120,8 +86,8 @@ pub fn walled_ends(w: &[u32], p: usize, y: usize, i: usize) -> Ends
 {
     let a = get(w, Col::First, i);
     let z = get(w, Col::Next, a);
-    let back = wall_run(w, false, z, y, p);
-    let ahead = wall_run(w, true, a, y, p);
+    let back = run(w, false, Halt::Wall(z), y, p);
+    let ahead = run(w, true, Halt::Wall(a), y, p);
     Ends { back, ahead }
 }
 
@@ -130,7 +96,7 @@ pub fn free_ends(w: &[u32], p: usize, y: usize) -> Ends
     requires { ⌜ Together (now w) p p ⌝ }
     ensures { λ r. ⌜ r ≡ freeEnds (now (w .entry)) p y ⌝ }
 {
-    let back = stop_run(w, false, p, y, p);
-    let ahead = stop_run(w, true, back, y, p);
+    let back = run(w, false, Halt::Stop(p), y, p);
+    let ahead = run(w, true, Halt::Stop(back), y, p);
     Ends { back, ahead }
 }

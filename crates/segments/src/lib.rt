@@ -1,6 +1,3 @@
-// Level segments: `convert_horz_segs_to_joins`. The list of segments lies in parallel slices: key, left point, right point, forward.
-pub mod convert;
+// Level segments: the walks and the first loop of `convert_horz_segs_to_joins`, which runs each segment to both sides. Pairs of them are joined in `converting`.
 pub mod level;
-pub mod pairs;
-pub mod sorting;
 pub mod update;

@@ -1,12 +1,8 @@
 // Steps stored rings with the entry points and prints each step: the step that was due, the act that the proved decision names, the step then due; then the rings,
 // and the paths that writing out gives. Input and the file `stdout` are the oracle's: `oracle stepped make tests/answers`, `oracle stepped`.
-mod input;
 mod print;
 mod progress;
 
-use crate::input::from;
-use crate::input::further;
-use crate::input::number_at;
 use crate::print::print;
 use crate::print::print_act;
 use crate::print::print_due;
@@ -20,14 +16,20 @@ use audit::tests_of;
 use finishing::Stepped;
 use finishing::step;
 use finishing::write_out;
+use job::Job;
 use libc::STDIN_FILENO;
 use libc::STDOUT_FILENO;
 use listing::Listed;
+use opening::open::LENGTH;
 use opening::open::Opened;
 use opening::open::open;
 use paths::Written;
 use store::Col;
 use store::read;
+use test_text::first;
+use test_text::from;
+use test_text::further;
+use test_text::number_at;
 use turns::Act;
 use turns::decide::decide;
 use turns::step::is_live;
@@ -64,7 +66,7 @@ fn act_of(w: &[u32], i: usize) -> Act
 }
 
 // A step on a record number, and its line; answers whether it was carried out.
-fn tell_step(w: &mut [u32; 13840], i: usize) -> bool {
+fn tell_step(w: &mut [u32; LENGTH], i: usize) -> bool {
     if 65536 <= i {
         return false;
     }
@@ -92,8 +94,8 @@ fn tell_step(w: &mut [u32; 13840], i: usize) -> bool {
 
 // ---- lists of steps
 
-// A step on record i, unless it is done; answers the record to look at next, 512 after a refusal.
-fn turn(w: &mut [u32; 13840], i: usize) -> usize {
+// A step on record i, unless it is done; answers the record to look at next, one past all after a refusal.
+fn turn(w: &mut [u32; LENGTH], i: usize) -> usize {
     let d = due_of(w, i);
     let done = is_done(d);
     if done {
@@ -103,11 +105,11 @@ fn turn(w: &mut [u32; 13840], i: usize) -> usize {
     if granted {
         return i;
     }
-    512
+    Job::RECORDS
 }
 
 // Every ring to done, in rising record order.
-fn rising(w: &mut [u32; 13840]) {
+fn rising(w: &mut [u32; LENGTH]) {
     let mut i: usize = 0;
     let mut left: u32 = 100000;
     while 0 < left {
@@ -121,7 +123,7 @@ fn rising(w: &mut [u32; 13840]) {
 }
 
 // The steps of a list of record numbers, two bytes each.
-fn listed(w: &mut [u32; 13840], steps: &[u8]) {
+fn listed(w: &mut [u32; LENGTH], steps: &[u8]) {
     let mut at: usize = 0;
     let mut left: u32 = 100000;
     while 0 < left {
@@ -156,15 +158,12 @@ fn list(work: &[u32], tray: &mut [u8], out: &mut [u8]) -> usize
     }
 }
 
-// Writes the first m bytes, of which there are at most 150,000.
-fn write(text: &[u8], m: usize) {
-    if m <= 150000 {
-        let n = io::count(m as isize, text);
-        io::write_all(STDOUT_FILENO, &text[..n]);
-    }
+// Writes the first n bytes.
+fn write(text: &[u8], n: usize) {
+    io::write_all(STDOUT_FILENO, first(text, n));
 }
 
-fn write_paths(work: &[u32; 13840]) {
+fn write_paths(work: &[u32; LENGTH]) {
     let mut tray = [0u8; 17920];
     let mut out = [0u8; 150000];
     let k = list(work, &mut tray, &mut out);
@@ -174,7 +173,7 @@ fn write_paths(work: &[u32; 13840]) {
 // ---- cases
 
 // An opened job: some progress, steps, what is left, the paths.
-fn run_opened(w: &mut [u32; 13840], progress: &[u8], steps: &[u8]) {
+fn run_opened(w: &mut [u32; LENGTH], progress: &[u8], steps: &[u8]) {
     set_all(w, progress);
     if steps.len() == 0 {
         rising(w);
@@ -184,7 +183,7 @@ fn run_opened(w: &mut [u32; 13840], progress: &[u8], steps: &[u8]) {
     write_paths(w);
 }
 
-fn run_case(w: &mut [u32; 13840], job: &[u8], progress: &[u8], steps: &[u8]) {
+fn run_case(w: &mut [u32; LENGTH], job: &[u8], progress: &[u8], steps: &[u8]) {
     let a = open(job, w);
     match a {
         Opened::Accepted => {
@@ -198,10 +197,7 @@ fn run_case(w: &mut [u32; 13840], job: &[u8], progress: &[u8], steps: &[u8]) {
 
 // The part of the input at a place: its length in four bytes, then its bytes.
 fn part(s: &[u8], at: usize) -> &[u8] {
-    let n = number_at(s, at);
-    let rest = from(s, further(at, 4));
-    let k = io::count(input::signed(n), rest);
-    &rest[..k]
+    first(from(s, further(at, 4)), number_at(s, at))
 }
 
 // Where the next part begins.
@@ -210,7 +206,7 @@ fn past(s: &[u8], at: usize) -> usize {
     further(further(at, 4), n)
 }
 
-fn run(s: &[u8], w: &mut [u32; 13840]) {
+fn run(s: &[u8], w: &mut [u32; LENGTH]) {
     let mut at: usize = 0;
     let mut k: usize = 0;
     while k < 1000 {
@@ -230,7 +226,7 @@ fn run(s: &[u8], w: &mut [u32; 13840]) {
 
 fn main() {
     let mut input = [0u8; 262144];
-    let mut w = [0u32; 13840];
+    let mut w = [0u32; LENGTH];
     let n = io::read_full(STDIN_FILENO, &mut input);
     run(&input[..n], &mut w);
 }

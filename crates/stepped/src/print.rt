@@ -1,6 +1,7 @@
 // What is printed: steps due and acts by the oracle's words, rings by value from the first point.
 use crate::progress::due_of;
 use geometry::Point;
+use job::Job;
 use job::refusal::Refusal;
 use libc::STDOUT_FILENO;
 use store::Col;
@@ -12,23 +13,23 @@ ghost use Prim.Native.Nat.{_≤_};
 ghost use lib.ListN.{length};
 ghost use Rattle.store.specs.Field.{LENGTH};
 
-const RAISE: usize = 1048576;
+const RAISE: usize = Job::COORDINATE as usize;
 
 fn say(text: &[u8]) {
     io::write_all(STDOUT_FILENO, text);
 }
 
-pub fn print(n: usize) {
+pub(crate) fn print(n: usize) {
     io::print_decimal(STDOUT_FILENO, n as u64);
 }
 
-pub fn print_refusal(r: Refusal) {
+pub(crate) fn print_refusal(r: Refusal) {
     say(b"refused ");
     io::print_decimal(STDOUT_FILENO, r.number() as u64);
     say(b"\n");
 }
 
-pub fn print_due(d: Due) {
+pub(crate) fn print_due(d: Due) {
     match d {
         Due::Validity => say(b" validity"),
         Due::Removal => say(b" removal"),
@@ -85,7 +86,7 @@ fn print_to_first(d: Due) {
     }
 }
 
-pub fn print_act(a: Act) {
+pub(crate) fn print_act(a: Act) {
     match a {
         Act::Stay => say(b" stay"),
         Act::Discard => say(b" discard"),
@@ -125,7 +126,7 @@ fn count(w: &[u32], a: usize) -> usize
 {
     let mut p = a;
     let mut n: usize = 0;
-    while n < 2048 {
+    while n < Job::POINTS {
         p = read(w, Col::Next, p);
         n += 1;
         if p == a {
@@ -185,7 +186,7 @@ fn print_records(w: &[u32], n: usize)
 }
 
 // Both counts and each record's ring.
-pub fn print_store(w: &[u32])
+pub(crate) fn print_store(w: &[u32])
     requires { ⌜ LENGTH ≤ length (now w) ⌝ }
 {
     say(b"points ");

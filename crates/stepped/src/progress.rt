@@ -1,10 +1,12 @@
 // A record's progress: the step due, and any other progress that a case gives it before its steps.
-use crate::input::further;
-use crate::input::number_at;
+use job::Job;
+use opening::open::LENGTH;
 use store::Col;
 use store::NONE;
 use store::read;
 use store::set;
+use test_text::further;
+use test_text::number_at;
 use turns::Due;
 use turns::ring::due_at;
 ghost use Prim.Native.Nat.{_≤_, _<_, _^_};
@@ -12,10 +14,10 @@ ghost use lib.ListN.{length};
 ghost use Rattle.store.specs.Field.{LENGTH};
 
 // The step due; done for an open ring and for none.
-pub fn due_of(w: &[u32], i: usize) -> Due
+pub(crate) fn due_of(w: &[u32], i: usize) -> Due
     requires { ⌜ LENGTH ≤ length (now w) ⌝ }
 {
-    if 512 <= i {
+    if Job::RECORDS <= i {
         return Due::Done;
     }
     let f = read(w, Col::Flags, i);
@@ -29,7 +31,7 @@ pub fn due_of(w: &[u32], i: usize) -> Due
     due_at(w, i)
 }
 
-pub fn is_done(d: Due) -> bool {
+pub(crate) fn is_done(d: Due) -> bool {
     match d {
         Due::Validity => false,
         Due::Removal => false,
@@ -57,12 +59,12 @@ fn place(w: &[u32], i: usize, k: usize) -> usize
 }
 
 // Four numbers at a place: record, mark, present place and start, both counted from the first point.
-fn set_one(w: &mut [u32; 13840], s: &[u8], at: usize) {
+fn set_one(w: &mut [u32; LENGTH], s: &[u8], at: usize) {
     let i = number_at(s, at);
     let m = number_at(s, further(at, 2));
     let p = place(w, i, number_at(s, further(at, 4)));
     let a = place(w, i, number_at(s, further(at, 6)));
-    if i < 512 {
+    if i < Job::RECORDS {
         set(w, Col::Mark, i, m);
         set(w, Col::Present, i, p);
         set(w, Col::Start, i, a);
@@ -70,7 +72,7 @@ fn set_one(w: &mut [u32; 13840], s: &[u8], at: usize) {
 }
 
 // The progress of some records.
-pub fn set_all(w: &mut [u32; 13840], s: &[u8]) {
+pub(crate) fn set_all(w: &mut [u32; LENGTH], s: &[u8]) {
     let mut at: usize = 0;
     let mut left: u32 = 100000;
     while 0 < left {

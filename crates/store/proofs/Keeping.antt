@@ -13,6 +13,7 @@ use Rattle.rings.specs.Walk.{walk}
 use Rattle.rings.proofs.Counting.{all-in, sum-same, sum-two, sum-change}
 use Rattle.rings.proofs.Linking.{linked-kept}
 use Rattle.rings.proofs.Walking.{run-agree, Seen}
+use Rattle.job.specs.Limits as limit
 use Rattle.store.specs.Field.{RecordCol, pt, rc, X, Y, NEXT, PREV, REC, FLAGS, OWNER, FIRST, MARK, PRESENT, START, NONE}
 use Rattle.store.specs.Words.{Store}
 use Rattle.store.specs.Sound.{pts, recs, ringless, ringAt, isOpen, dueAt, Closed, PointIn, Good, total, Sound, looping, loneDue, loneAt}
@@ -70,7 +71,7 @@ module _ (s s′ : Store) (o : Sound s) (i : ℕ) (K : Kept s s′ i) where
 
     -- a walk from one of its points
     walk-same : (a : ℕ) → ((k : ℕ) → 0 < occ k (walk (s (pt NEXT)) a) → 0 < occ k (ringAt s j)) → walk (s′ (pt NEXT)) a ≡ walk (s (pt NEXT)) a
-    walk-same a t = run-agree (s (pt NEXT)) (s′ (pt NEXT)) a 2048 a (λ k p. next-same k (t k p))
+    walk-same a t = run-agree (s (pt NEXT)) (s′ (pt NEXT)) a limit.POINTS a (λ k p. next-same k (t k p))
 
     pub ring-other : ringAt s′ j ≡ ringAt s j
     ring-other = rw first-same (go (ringless s j) refl)
@@ -169,7 +170,7 @@ module _ (s s′ : Store) (o : Sound s) (i : ℕ) (K : Kept s s′ i) where
       go (yes p) = omega (arith, old, new, a k, b k p)
       go (no p) = omega (arith, old, new, o .once k)
 
-  pub sound-after : pts s′ ≤ 2048 → recs s′ ≤ 512 → Good s′ i → ((j : ℕ) → recs s ≤ j → j < recs s′ → Good s′ j) → ((k : ℕ) → total s′ k ≤ 1) → Sound s′
+  pub sound-after : pts s′ ≤ limit.POINTS → recs s′ ≤ limit.RECORDS → Good s′ i → ((j : ℕ) → recs s ≤ j → j < recs s′ → Good s′ j) → ((k : ℕ) → total s′ k ≤ 1) → Sound s′
   sound-after fp fr g new t = record { few-points = fp; few-records = fr; good = each; once = t }
     where
       each : (j : ℕ) → j < recs s′ → Good s′ j

@@ -10,6 +10,7 @@ use Rattle.rings.specs.Progress.{isDone}
 use Rattle.rings.specs.Walk.{run, walk, Whole}
 use Rattle.rings.proofs.Counting.{occ-head, sum-term}
 use Rattle.rings.proofs.Walking.{ring-is, Seen, seen}
+use Rattle.job.specs.Limits as limit
 use Rattle.store.specs.Field.{pt, rc, NEXT, PREV, FIRST, PRESENT}
 use Rattle.store.specs.Words.{Store}
 use Rattle.store.specs.Sound.{pts, recs, ringless, ringAt, dueAt, Closed, Sound}
@@ -43,7 +44,7 @@ pub data Entered (s : Store) (i : ℕ) : List ℕ → Type 0 where
   a-ring : (l : List ℕ) → ringless s i ≡ false → Whole (s (pt NEXT)) (s (pt PREV)) (pts s) (s (rc FIRST) i ∷ l) → Entered s i (s (rc FIRST) i ∷ l)
 
 -- is the computed one
-pub table-is : (s : Store) → pts s ≤ 2048 → (i : ℕ) (c : List ℕ) → Entered s i c → ringAt s i ≡ c
+pub table-is : (s : Store) → pts s ≤ limit.POINTS → (i : ℕ) (c : List ℕ) → Entered s i c → ringAt s i ≡ c
 table-is s h i c (no-ring e) = rw e
 table-is s h i c (a-ring l e r) = rw e (ring-is _ _ (pts s) _ l h r)
 

@@ -14,21 +14,21 @@ use Rattle.job.specs.Limits as limit
 use Rattle.geometry.specs.declared.Point.{Point}
 use Rattle.geometry.specs.Plane.{InTable}
 use Rattle.store.specs.declared.points.Room.the-variants.{At, Full}
-use Rattle.store.specs.Field.{pt, ct, X, Y, REC, POINTS, RECORDS}
+use Rattle.store.specs.Field.{pt, ct, X, Y, REC, POINTS}
 use Rattle.store.specs.Words.{view, cell, put, onWords}
-use Rattle.store.specs.Named.{pointsOf, recordsOf, nextOf, prevOf}
+use Rattle.store.specs.Named.{pointsOf, nextOf, prevOf}
 use Rattle.store.specs.Value.{wordOf}
 use Rattle.store.proofs.Coordinates.{fits}
-use Rattle.store.specs.Primitive.{taken, disposed, pointWrites, ownWrites, linkWrites, unlinkWrites, startWrites, afterWrites, beforeWrites, newOutPt, duplicateOp, newOutRec, disposeOutPt}
+use Rattle.store.specs.Primitive.{taken, disposed, pointWrites, linkWrites, unlinkWrites, afterWrites, beforeWrites, duplicateOp, disposeOutPt}
 
 pub took-point : (w w₁ w₂ w₃ w₄ : List ℕ) (k vx vy r : ℕ) → w₁ ≡ put (ct POINTS) w 0 (k + 1) → w₂ ≡ put (pt X) w₁ k vx → w₃ ≡ put (pt Y) w₂ k vy → w₄ ≡ put (pt REC) w₃ k r
     → w₄ ≡ onWords w (pointWrites k vx vy r)
 took-point w w₁ w₂ w₃ w₄ k vx vy r e₁ e₂ e₃ e₄ = rw (e₄, e₃, e₂, e₁, add-one k)
 
 -- a coordinate comes through its bits
-pub took-value : (w w₁ : List ℕ) (k : ℕ) (p : Point) (r vx vy : ℕ) → InTable p → vx ≡ wordOf (toZ w32 (ofZ w32 (p .x))) → vy ≡ wordOf (toZ w32 (ofZ w32 (p .y)))
+pub new-point : (w w₁ : List ℕ) (k : ℕ) (p : Point) (r vx vy : ℕ) → InTable p → vx ≡ wordOf (toZ w32 (ofZ w32 (p .x))) → vy ≡ wordOf (toZ w32 (ofZ w32 (p .y)))
     → w₁ ≡ onWords w (pointWrites k vx vy r) → w₁ ≡ onWords w (pointWrites k (wordOf (p .x)) (wordOf (p .y)) r)
-took-value w w₁ k p r vx vy h ex ey e =
+new-point w w₁ k p r vx vy h ex ey e =
     let dx : vx ≡ wordOf (p .x) = ex ∙ ap wordOf (toZ-ofZ (fits (p .x) (h .x))) in
     let dy : vy ≡ wordOf (p .y) = ey ∙ ap wordOf (toZ-ofZ (fits (p .y) (h .y))) in
     rw (← dx, ← dy) e
@@ -45,10 +45,6 @@ module _ (w : List ℕ) (k : ℕ) (ek : k ≡ pointsOf w) where
     room : ltb (pointsOf w) limit.POINTS ≡ true
     room = lt-ltb (pointsOf w) limit.POINTS (omega arith)
 
-    pub made-point : (w₁ w₂ : List ℕ) (p : Point) (r : ℕ) → w₁ ≡ onWords w (pointWrites k (wordOf (p .x)) (wordOf (p .y)) r) → w₂ ≡ onWords w₁ (ownWrites k) → taken (At k) w₂ ≡ newOutPt w p r
-    unfolding newOutPt
-    made-point w₁ w₂ p r e₁ e₂ = rw (room, e₂, e₁, ek)
-
     pub doubled-after : (w₁ : List ℕ) (op : ℕ) (b : Bool) → b ≡ true → w₁ ≡ onWords w (afterWrites (view w) op) → taken (At k) w₁ ≡ duplicateOp w op b
     unfolding duplicateOp
     doubled-after w₁ op b h e = rw (room, h, e, ek)
@@ -61,22 +57,9 @@ module _ (w : List ℕ) (k : ℕ) (ek : k ≡ pointsOf w) where
     none-left : ltb (pointsOf w) limit.POINTS ≡ false
     none-left = le-ltb (pointsOf w) limit.POINTS (omega arith)
 
-    pub no-point : (p : Point) (r : ℕ) → taken Full w ≡ newOutPt w p r
-    unfolding newOutPt
-    no-point p r = rw none-left
-
     pub no-double : (op : ℕ) (b : Bool) → taken Full w ≡ duplicateOp w op b
     unfolding duplicateOp
     no-double op b = rw none-left
-
-module _ (w : List ℕ) (k o b i : ℕ) (ek : k ≡ recordsOf w) where
-  pub made-record : (w₁ w₂ : List ℕ) → k < limit.RECORDS → w₁ ≡ put (ct RECORDS) w 0 (k + 1) → w₂ ≡ onWords w₁ (startWrites k o b i) → taken (At k) w₂ ≡ newOutRec w o b i
-  unfolding newOutRec
-  made-record w₁ w₂ l e₁ e₂ = rw (lt-ltb (recordsOf w) limit.RECORDS (omega arith), e₂, e₁, add-one k, ek)
-
-  pub no-record : limit.RECORDS ≤ k → taken Full w ≡ newOutRec w o b i
-  unfolding newOutRec
-  no-record l = rw (le-ltb (recordsOf w) limit.RECORDS (omega arith))
 
 pub went-out : (w w₁ : List ℕ) (op n p : ℕ) → n ≡ nextOf w op → p ≡ prevOf w op → w₁ ≡ onWords w (unlinkWrites p n) → disposed n w₁ ≡ disposeOutPt w op
 unfolding disposeOutPt

@@ -3,6 +3,7 @@ use Prim.Native.Nat.{ℕ, _+_, _*_}
 use mathlib.Core.Bool.{Bool, false}
 use lib.Dec.{eqb}
 use Rattle.job.specs.Limits as limit
+pub use Rattle.job.specs.Limits.{NONE}
 
 -- a point's fields
 pub data PointCol : Type 0 where
@@ -74,7 +75,3 @@ same (ct f) (ct g) = eqb (countRank f) (countRank g)
 -- the fixed length of a work space: all columns
 abbrev pub LENGTH : ℕ
 LENGTH = HEAD + limit.POINTS * 5 + limit.RECORDS * 7
-
--- no point, no record
-abbrev pub NONE : ℕ
-NONE = 65535

@@ -3,7 +3,7 @@
 use Prim.Native.Nat.{ℕ}
 use mathlib.Core.List.{List}
 use Rattle.rings.specs.Walk.{walk}
-use Rattle.store.specs.Field.{pt, rc, ct, NEXT, PREV, REC, FLAGS, OWNER, FIRST, MARK, PRESENT, START, CUT, SETTINGS, POINTS, RECORDS}
+use Rattle.store.specs.Field.{pt, rc, ct, NEXT, PREV, REC, FLAGS, OWNER, FIRST, MARK, PRESENT, CUT, SETTINGS, POINTS, RECORDS}
 use Rattle.store.specs.Words.{view, put}
 
 -- ---- the counts
@@ -45,16 +45,10 @@ progressOf w i = view w (rc MARK) i
 abbrev pub presentOf : List ℕ → ℕ → ℕ
 presentOf w i = view w (rc PRESENT) i
 
-abbrev pub startOf : List ℕ → ℕ → ℕ
-startOf w i = view w (rc START) i
-
 abbrev pub cutFrom : List ℕ → ℕ → ℕ
 cutFrom w i = view w (rc CUT) i
 
 -- ---- the words with another number there
-
-abbrev pub setPoints : List ℕ → ℕ → List ℕ
-setPoints w v = put (ct POINTS) w 0 v
 
 abbrev pub setRecords : List ℕ → ℕ → List ℕ
 setRecords w v = put (ct RECORDS) w 0 v

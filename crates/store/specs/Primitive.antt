@@ -6,24 +6,18 @@ use lib.Dec.{ltb}
 use lib.ListN.{length}
 use Rattle.job.specs.Limits as limit
 use Rattle.rings.specs.Progress.{validity}
-use Rattle.geometry.specs.declared.Point.{Point}
 use Rattle.store.specs.declared.points.Room.{Room}
 use Rattle.store.specs.declared.points.Room.the-variants.{At, Full}
-use Rattle.store.specs.Field.{pt, rc, ct, X, Y, NEXT, PREV, REC, FLAGS, OWNER, FIRST, MARK, PRESENT, START, CUT, POINTS, RECORDS, LENGTH, NONE}
+use Rattle.store.specs.Field.{pt, rc, ct, X, Y, NEXT, PREV, REC, FLAGS, OWNER, FIRST, MARK, PRESENT, START, CUT, POINTS, LENGTH, NONE}
 use Rattle.store.specs.Words.{Store, view, Write, write, onWords}
-use Rattle.store.specs.Named.{pointsOf, recordsOf, nextOf, prevOf, setFirst}
+use Rattle.store.specs.Named.{pointsOf, nextOf, prevOf, setFirst}
 use Rattle.store.specs.Sound.{pts, markOf}
-use Rattle.store.specs.Value.{wordOf}
 
 -- ---- what is written
 
--- a point's coordinate words and record go to place k, the next free one
+-- `new_out_pt`: a point's coordinate words and record go to place k, the next free one; its links are its callers'
 abbrev pub pointWrites : ℕ → ℕ → ℕ → ℕ → List Write
 pointWrites k vx vy r = write (ct POINTS) 0 (suc k) ∷ write (pt X) k vx ∷ write (pt Y) k vy ∷ write (pt REC) k r ∷ []
-
--- a point is its own next and prev
-abbrev pub ownWrites : ℕ → List Write
-ownWrites k = write (pt NEXT) k k ∷ write (pt PREV) k k ∷ []
 
 -- k goes in between p and n
 abbrev pub linkWrites : ℕ → ℕ → ℕ → List Write
@@ -38,9 +32,6 @@ abbrev pub startWrites : ℕ → ℕ → ℕ → ℕ → List Write
 startWrites k o b i =
     write (rc FLAGS) k 0 ∷ write (rc OWNER) k o ∷ write (rc FIRST) k b ∷ write (rc MARK) k (markOf validity)
     ∷ write (rc PRESENT) k b ∷ write (rc START) k b ∷ write (rc CUT) k i ∷ []
-
-abbrev pub recordWrites : ℕ → ℕ → ℕ → ℕ → List Write
-recordWrites k o b i = write (ct RECORDS) 0 (suc k) ∷ startWrites k o b i
 
 -- a copy of op goes in after it, or before it
 abbrev pub copyWrites : Store → ℕ → List Write
@@ -58,24 +49,13 @@ beforeWrites s op = copyWrites s op ++ linkWrites (s (pt PREV) op) (pts s) op
 pub data Taken : Type 0 where
   taken : Room → List ℕ → Taken
 
--- where there is room for a point, or for a record; else nothing changes
+-- where there is room for a point; else nothing changes
 abbrev pub ifPoint : List ℕ → List ℕ → Taken
 ifPoint w w′ = cond (ltb (pointsOf w) limit.POINTS) (taken (At (pointsOf w)) w′) (taken Full w)
-
-abbrev pub ifRecord : List ℕ → List ℕ → Taken
-ifRecord w w′ = cond (ltb (recordsOf w) limit.RECORDS) (taken (At (recordsOf w)) w′) (taken Full w)
-
--- `new_out_pt`
-unfoldable pub newOutPt : List ℕ → Point → ℕ → Taken
-newOutPt w p r = ifPoint w (onWords w (pointWrites (pointsOf w) (wordOf (p .x)) (wordOf (p .y)) r ++ ownWrites (pointsOf w)))
 
 -- `duplicate_op`
 unfoldable pub duplicateOp : List ℕ → ℕ → Bool → Taken
 duplicateOp w op after = ifPoint w (cond after (onWords w (afterWrites (view w) op)) (onWords w (beforeWrites (view w) op)))
-
--- `new_out_rec`, with what its callers set at once
-unfoldable pub newOutRec : List ℕ → ℕ → ℕ → ℕ → Taken
-newOutRec w o b i = ifRecord w (onWords w (recordWrites (recordsOf w) o b i))
 
 -- `dispose_out_pt`: op goes out; its next
 pub data Disposed : Type 0 where

@@ -30,7 +30,7 @@ ringAt s i = cond (ringless s i) [] (walk (s (pt NEXT)) (s (rc FIRST) i))
 abbrev pub isOpen : Store → ℕ → Bool
 isOpen s i = eqb (s (rc FLAGS) i % 2) 1
 
--- the meaning of a progress mark, and back
+-- the meaning of a progress mark: the step due, or done; `markOf` is the way back
 abbrev pub dueOf : ℕ → Due
 dueOf zero = validity
 dueOf (suc zero) = removal

@@ -1,4 +1,4 @@
--- The settings, points and records by value, and a ring's points by value, as functions of the words.
+-- The settings and points by value, and a ring's points by value, as functions of the words.
 use Prim.Native.Nat.{ℕ, _%_, _/_}
 use mathlib.Core.Bool.{Bool}
 use mathlib.Core.List.{List, map}
@@ -7,8 +7,7 @@ use lib.IntN.{ℤ, pos, natAbs, _+ℤ_}
 use Rattle.numbers.specs.Raised.{coordinate}
 use Rattle.job.specs.Limits as limit
 use Rattle.geometry.specs.declared.Point.{Point}
-use Rattle.store.specs.declared.points.OutRec.{OutRec}
-use Rattle.store.specs.Field.{pt, rc, ct, X, Y, FLAGS, OWNER, FIRST, MARK, PRESENT, START, CUT, SETTINGS}
+use Rattle.store.specs.Field.{pt, ct, X, Y, SETTINGS}
 use Rattle.store.specs.Words.{Store, view}
 use Rattle.store.specs.Sound.{ringAt}
 
@@ -29,23 +28,6 @@ pointOf w k = pointAt (view w) k
 -- back: the word of a coordinate
 unfoldable pub wordOf : ℤ → ℕ
 wordOf z = natAbs (z +ℤ pos limit.COORDINATE)
-
--- a record by value; bit 0 of its flags says open, bit 1 that it has a front edge
-abbrev pub outRecAt : Store → ℕ → OutRec
-outRecAt s i =
-    record {
-      opened = eqb (s (rc FLAGS) i % 2) 1;
-      front = eqb (s (rc FLAGS) i / 2 % 2) 1;
-      owner = s (rc OWNER) i;
-      pts = s (rc FIRST) i;
-      mark = s (rc MARK) i;
-      present = s (rc PRESENT) i;
-      start = s (rc START) i;
-      cut = s (rc CUT) i;
-    }
-
-abbrev pub outRecOf : List ℕ → ℕ → OutRec
-outRecOf w i = outRecAt (view w) i
 
 -- the points of record i's ring by value, from the first in walk order
 abbrev pub ringPoints : Store → ℕ → List Point

@@ -4,11 +4,12 @@ ghost use mathlib.Core.Path.{_≡_};
 ghost use Prim.Native.Nat.{_+_, _<_, _≤_, _^_};
 ghost use lib.ListN.{length, getD};
 ghost use Rattle.store.specs.Field.{size, base, LENGTH};
+ghost use Rattle.store.specs.Field as field;
 ghost use Rattle.store.specs.Words.{cell, put};
 ghost use Rattle.store.specs.Column.{fieldOf};
 
 // No point, no record.
-pub const NONE: usize = 65535;
+pub const NONE: usize = Job::NONE;
 
 // The columns: the only index into the work space.
 pub enum Col {
@@ -33,6 +34,9 @@ pub enum Col {
 const HEAD: usize = 16;
 
 const AFTER: usize = HEAD + Job::POINTS * 5;
+
+// The fixed length of a work space, in words: all columns.
+pub const LENGTH: usize = AFTER + Job::RECORDS * 7;
 
 // Where a column begins.
 fn base_of(c: Col) -> usize
@@ -118,7 +122,7 @@ pub fn read(w: &[u32], c: Col, i: usize) -> usize
     0
 }
 
-// The same, stored.
+// Stores word i of a column.
 pub fn set(w: &mut [u32], c: Col, i: usize, v: usize)
     requires { ⌜ (LENGTH ≤ length (now w)) × (i < size (fieldOf c)) × (v < 2 ^ 32) ⌝ }
     ensures { λ _. ⌜ now (w .exit) ≡ put (fieldOf c) (now (w .entry)) i v ⌝ }
@@ -126,5 +130,11 @@ pub fn set(w: &mut [u32], c: Col, i: usize, v: usize)
     let k = word_of(c, i);
     w[k] = v as u32;
 }
+
+// The code's constants are those of the definitions.
+fn constants_agree()
+    ensures { λ _. do ⌜ (← ⟦LENGTH⟧ .entry) ≡ field.LENGTH ⌝ }
+    ensures { λ _. do ⌜ (← ⟦NONE⟧ .entry) ≡ field.NONE ⌝ }
+{}
 
 pub mod points;

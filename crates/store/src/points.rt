@@ -1,4 +1,4 @@
-// Points and records by value, and the Rust's primitives that make and unlink them.
+// Points by value, and the Rust's primitives that make and unlink them.
 use crate::Col;
 use crate::NONE;
 use crate::get;
@@ -15,25 +15,13 @@ ghost use Rattle.geometry.specs.Plane.{InTable};
 ghost use Rattle.store.specs.Field.{pt, X, Y, LENGTH};
 ghost use Rattle.store.specs.Words.{view, onWords};
 ghost use Rattle.store.specs.Named.{pointsOf};
-ghost use Rattle.store.specs.Value.{pointOf, wordOf, outRecOf};
-ghost use Rattle.store.specs.Primitive.{taken, disposed, pointWrites, ownWrites, linkWrites, unlinkWrites, startWrites, afterWrites, beforeWrites, newOutPt, duplicateOp, newOutRec, disposeOutPt, disposeOutPts, Beside};
+ghost use Rattle.store.specs.Value.{pointOf, wordOf};
+ghost use Rattle.store.specs.Primitive.{taken, disposed, pointWrites, linkWrites, unlinkWrites, startWrites, afterWrites, beforeWrites, duplicateOp, disposeOutPt, disposeOutPts, Beside};
 
 // The place that was taken, or that there is none.
 pub enum Room {
     At(usize),
     Full,
-}
-
-// A record by value.
-pub struct OutRec {
-    pub opened: bool,
-    pub front: bool,
-    pub owner: usize,
-    pub pts: usize,
-    pub mark: usize,
-    pub present: usize,
-    pub start: usize,
-    pub cut: usize,
 }
 
 // What a coordinate's word is raised by.
@@ -61,30 +49,6 @@ pub fn point(w: &[u32], k: usize) -> Point
     Point { x, y }
 }
 
-// Record i by value.
-pub fn out_rec(w: &[u32], i: usize) -> OutRec
-    requires { ⌜ (LENGTH ≤ length (now w)) × (i < limit.RECORDS) ⌝ }
-    ensures { λ r. ⌜ r ≡ outRecOf (now (w .entry)) i ⌝ }
-{
-    let flags = get(w, Col::Flags, i);
-    let owner = get(w, Col::Owner, i);
-    let pts = get(w, Col::First, i);
-    let mark = get(w, Col::Mark, i);
-    let present = get(w, Col::Present, i);
-    let start = get(w, Col::Start, i);
-    let cut = get(w, Col::Cut, i);
-    OutRec {
-        opened: flags % 2 == 1,
-        front: flags / 2 % 2 == 1,
-        owner,
-        pts,
-        mark,
-        present,
-        start,
-        cut,
-    }
-}
-
 // ---- writes
 
 // A point's words and record go to place k, the next free one.
@@ -96,15 +60,6 @@ pub fn take_point(w: &mut [u32], k: usize, vx: usize, vy: usize, r: usize)
     set(w, Col::X, k, vx);
     set(w, Col::Y, k, vy);
     set(w, Col::Rec, k, r);
-}
-
-// Point k is linked with itself.
-pub fn link_own(w: &mut [u32], k: usize)
-    requires { ⌜ (LENGTH ≤ length (now w)) × (k < limit.POINTS) ⌝ }
-    ensures { λ _. ⌜ now (w .exit) ≡ onWords (now (w .entry)) (ownWrites k) ⌝ }
-{
-    set(w, Col::Next, k, k);
-    set(w, Col::Prev, k, k);
 }
 
 // Point k goes in between p and n.
@@ -151,28 +106,14 @@ pub fn raise(x: i32) -> usize
     (x + RAISE) as usize
 }
 
-// Point p goes to place k, the next free one.
-pub fn take_value(w: &mut [u32], k: usize, p: Point, r: usize)
+// Point p goes to place k, the next free one. The Rust links it with itself; here its callers link it at once.
+pub fn new_out_pt(w: &mut [u32], k: usize, p: Point, r: usize)
     requires { ⌜ LENGTH ≤ length (now w) ⌝ ∗ ⌜ InTable p ⌝ ∗ ⌜ k < limit.POINTS ⌝ ∗ ⌜ r < 2 ^ 32 ⌝ }
     ensures { λ _. ⌜ now (w .exit) ≡ onWords (now (w .entry)) (pointWrites k (wordOf (p .x)) (wordOf (p .y)) r) ⌝ }
 {
     let vx = raise(p.x);
     let vy = raise(p.y);
     take_point(w, k, vx, vy, r);
-}
-
-// A new point, linked with itself.
-pub fn new_out_pt(w: &mut [u32], p: Point, r: usize) -> Room
-    requires { ⌜ LENGTH ≤ length (now w) ⌝ ∗ ⌜ InTable p ⌝ ∗ ⌜ r < 2 ^ 32 ⌝ }
-    ensures { λ a. ⌜ taken a (now (w .exit)) ≡ newOutPt (now (w .entry)) p r ⌝ }
-{
-    let k = get(w, Col::Points, 0);
-    if k < Job::POINTS {
-        take_value(w, k, p, r);
-        link_own(w, k);
-        return Room::At(k);
-    }
-    Room::Full
 }
 
 // A copy of op at place k, after op.
@@ -213,20 +154,6 @@ pub fn duplicate_op(w: &mut [u32], op: usize, after: bool) -> Room
             return Room::At(k);
         }
         copy_before(w, k, op);
-        return Room::At(k);
-    }
-    Room::Full
-}
-
-// A new record: a closed ring at its start.
-pub fn new_out_rec(w: &mut [u32], o: usize, b: usize, i: usize) -> Room
-    requires { ⌜ (LENGTH ≤ length (now w)) × (o < 2 ^ 32) × (b < 2 ^ 32) × (i < 2 ^ 32) ⌝ }
-    ensures { λ a. ⌜ taken a (now (w .exit)) ≡ newOutRec (now (w .entry)) o b i ⌝ }
-{
-    let k = get(w, Col::Records, 0);
-    if k < Job::RECORDS {
-        set(w, Col::Records, 0, k + 1);
-        start_record(w, k, o, b, i);
         return Room::At(k);
     }
     Room::Full

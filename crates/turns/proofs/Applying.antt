@@ -1,5 +1,5 @@
 -- What the code that applies an act leaves: each law's premises are what the callees ensure, and the branches.
-use Prim.Native.Nat.{ℕ, _+_, _≤_, _<_}
+use Prim.Native.Nat.{ℕ, _+_, _^_, _≤_, _<_}
 use mathlib.Core.Path.{_≡_, ap, _∙_, sym, subst}
 use mathlib.Core.Logic.{_≢_}
 use mathlib.Core.Bool.{Bool, true, false, cond}
@@ -9,19 +9,17 @@ use native.Mathlib.Omega.{arith}
 use lib.Dec.{eqb}
 use lib.ListN.{length}
 use borrow.Author.Tests.{eq-eqb, ne-eqb}
-use mir.Syntax.{w32}
-use mir.Val.{toZ, ofZ}
-use mir.Facts.{toZ-ofZ}
 use Rattle.rings.specs.Progress.{Due}
 use Rattle.geometry.specs.declared.Point.{Point}
 use Rattle.lone.specs.Ring.{double, cut, takesPoints}
-use Rattle.store.specs.Field.{pt, rc, ct, NEXT, PREV, REC, OWNER, FIRST, MARK, PRESENT, START, POINTS, RECORDS, LENGTH}
+use Rattle.job.specs.Limits as limit
+use Rattle.store.specs.Field.{PointCol, pt, rc, ct, NEXT, PREV, REC, OWNER, FIRST, MARK, PRESENT, START, POINTS, RECORDS, LENGTH, NONE}
+use Rattle.store.specs.Named.{nextOf, prevOf}
 use Rattle.store.specs.Sound.{pts, recs, markOf}
 use Rattle.store.specs.Words.{Store, view, cell, put, onWords, onStore, Within}
-use Rattle.store.proofs.Storing.{view-writes, length-writes}
+use Rattle.store.proofs.Storing.{view-put, length-put, view-writes, length-writes}
 use Rattle.store.specs.Value.{wordOf}
-use Rattle.store.specs.Primitive.{pointWrites, linkWrites, unlinkWrites, startWrites}
-use Rattle.store.proofs.Coordinates.{fits}
+use Rattle.store.specs.Primitive.{pointWrites, linkWrites, unlinkWrites, startWrites, disposed, disposeOutPt, Beside}
 use Rattle.acts.specs.Writes.{moveWrites, toFirstWrites, discardWrites, dropWrites, putWrites, doubleWrites, placeWrites, cutWrites, cutPutWrites, recordWrites, offcutWrites}
 use Rattle.acts.specs.Apply.{ringWrites, afterW}
 use Rattle.turns.specs.declared.Act.{Act}
@@ -33,21 +31,21 @@ use Rattle.turns.specs.Applies.{Reach, PointFits, NewPoint, CutFits, Off
 
 -- ---- what is read is in its column
 module _ (w : List ℕ) (i x : ℕ) (r : Reach w i) (e : x ≡ cell (rc PRESENT) w i) where
-  pub here-low : x < 2048
+  pub here-low : x < limit.POINTS
   here-low = rw e (r .present-in)
 
-  pub next-low : (n : ℕ) → n ≡ cell (pt NEXT) w x → n < 2048
+  pub next-low : (n : ℕ) → n ≡ cell (pt NEXT) w x → n < limit.POINTS
   next-low n f = rw (f, e) (r .next-in)
 
-  pub prev-low : (p : ℕ) → p ≡ cell (pt PREV) w x → p < 2048
+  pub prev-low : (p : ℕ) → p ≡ cell (pt PREV) w x → p < limit.POINTS
   prev-low p f = rw (f, e) (r .prev-in)
 
-  pub second-low : (y z : ℕ) → y ≡ cell (pt NEXT) w x → z ≡ cell (pt NEXT) w y → z < 2048
+  pub second-low : (y z : ℕ) → y ≡ cell (pt NEXT) w x → z ≡ cell (pt NEXT) w y → z < limit.POINTS
   second-low y z f g = rw (g, f, e) (r .second-in)
 
 -- ---- what is written
 module _ (w w₁ w₂ : List ℕ) (i : ℕ) where
-  pub discarded : w₁ ≡ put (rc FIRST) w i 65535 → w₂ ≡ put (rc MARK) w₁ i 4 → w₂ ≡ onWords w (discardWrites i)
+  pub discarded : w₁ ≡ put (rc FIRST) w i NONE → w₂ ≡ put (rc MARK) w₁ i 4 → w₂ ≡ onWords w (discardWrites i)
   discarded e₁ e₂ = rw (e₂, e₁)
 
   pub looped : (n : ℕ) → w₁ ≡ put (rc PRESENT) w i n → w₂ ≡ put (rc START) w₁ i n → w₂ ≡ put (rc START) (put (rc PRESENT) w i n) i n
@@ -66,12 +64,40 @@ first-is w w′ i x p f e h q = let t : eqb (cell (rc FIRST) w i) x ≡ true = e
 pub first-not : (w w′ : List ℕ) (i x p f : ℕ) → f ≡ cell (rc FIRST) w i → f ≢ x → w′ ≡ put (rc FIRST) w i f → w′ ≡ put (rc FIRST) w i (cond (eqb (cell (rc FIRST) w i) x) p (cell (rc FIRST) w i))
 first-not w w′ i x p f e h q = let t : eqb (cell (rc FIRST) w i) x ≡ false = ne-eqb (cell (rc FIRST) w i) x (λ z. h (e ∙ z)) in rw t (q ∙ ap (put (rc FIRST) w i) e)
 
-module _ (w w₁ w₂ w₃ : List ℕ) (i : ℕ) where
-  pub dropped : (x n p : ℕ) → x ≡ cell (rc PRESENT) w i → n ≡ cell (pt NEXT) w x → p ≡ cell (pt PREV) w x
-      → w₁ ≡ put (rc FIRST) w i (cond (eqb (cell (rc FIRST) w i) x) p (cell (rc FIRST) w i)) → w₂ ≡ onWords w₁ (unlinkWrites p n) → w₃ ≡ put (rc START) (put (rc PRESENT) w₂ i n) i n
-      → w₃ ≡ onWords w (dropWrites (view w) i)
-  dropped x n p ex en ep e₁ e₂ e₃ = rw (e₃, e₂, e₁, en, ep, ex)
+-- the first point is set: the present point and its neighbours are where they were; it goes out
+module _ (w w₁ : List ℕ) (i x p : ℕ) (r : Reach w i) (e : x ≡ cell (rc PRESENT) w i)
+    (e₁ : w₁ ≡ put (rc FIRST) w i (cond (eqb (cell (rc FIRST) w i) x) p (cell (rc FIRST) w i))) where
+  abbrev v : ℕ
+  v = cond (eqb (cell (rc FIRST) w i) x) p (cell (rc FIRST) w i)
 
+  kept : (c : PointCol) → view w₁ (pt c) x ≡ view w (pt c) x
+  kept c = rw e₁ (ap (λ (s : Store). s (pt c) x) (view-put w (r .long) (rc FIRST) i v (r .record-in)))
+
+  pub beside : Beside w₁ x
+  beside =
+      record {
+        long = rw (e₁, length-put (rc FIRST) w i v) (r .long);
+        here = here-low w i x r e;
+        next = rw (kept NEXT, e) (r .next-in);
+        prev = rw (kept PREV, e) (r .prev-in);
+      }
+
+  module _ (n : ℕ) (w₂ : List ℕ) (e₂ : disposed n w₂ ≡ disposeOutPt w₁ x) where
+    next-is : n ≡ cell (pt NEXT) w x
+    unfolding disposeOutPt
+    next-is = let d : n ≡ nextOf w₁ x = cc in d ∙ kept NEXT
+
+    pub went-low : n < 2 ^ 32
+    went-low = let l = next-low w i x r e n next-is in omega arith
+
+    pub dropped : (w₃ : List ℕ) → p ≡ cell (pt PREV) w x → w₃ ≡ put (rc START) (put (rc PRESENT) w₂ i n) i n
+        → w₃ ≡ onWords w (dropWrites (view w) i)
+    unfolding disposeOutPt
+    dropped w₃ ep e₃ =
+        let d : w₂ ≡ onWords w₁ (unlinkWrites (prevOf w₁ x) (nextOf w₁ x)) = cc in
+        rw (e₃, d, kept PREV, kept NEXT, e₁, next-is, ep, e)
+
+module _ (w w₁ w₂ w₃ : List ℕ) (i : ℕ) where
   pub went-to : (p m : ℕ) (d : Due) → m ≡ markOf d → w₁ ≡ put (rc FIRST) w i p → w₂ ≡ put (rc PRESENT) w₁ i p → w₃ ≡ put (rc MARK) w₂ i m → w₃ ≡ onWords w (placeWrites i p d)
   went-to p m d em e₁ e₂ e₃ = rw (e₃, e₂, e₁, em)
 
@@ -91,10 +117,6 @@ pub cut-out : (w w₁ w₂ : List ℕ) (i x y z p : ℕ) (d : Due) → x ≡ cel
     → w₁ ≡ onWords w (unlinkWrites p z) → w₂ ≡ onWords w₁ (placeWrites i p d) → w₂ ≡ onWords w (cutWrites (view w) i d)
 cut-out w w₁ w₂ i x y z p d ex ey ez ep e₁ e₂ = rw (e₂, e₁, ez, ey, ep, ex)
 
-pub new-point : (w w′ : List ℕ) (k x y r : ℕ) (v : Point) → NewPoint w k v → x ≡ wordOf (toZ w32 (ofZ w32 (v .x))) → y ≡ wordOf (toZ w32 (ofZ w32 (v .y))) → w′ ≡ onWords w (pointWrites k x y r)
-    → w′ ≡ onWords w (pointWrites k (wordOf (v .x)) (wordOf (v .y)) r)
-new-point w w′ k x y r v h ex ey e = subst (λ (a : ℕ). w′ ≡ onWords w (pointWrites k a (wordOf (v .y)) r)) (ex ∙ ap wordOf (toZ-ofZ (fits (v .x) (h .in-table .x)))) (subst (λ (b : ℕ). w′ ≡ onWords w (pointWrites k x b r)) (ey ∙ ap wordOf (toZ-ofZ (fits (v .y) (h .in-table .y)))) e)
-
 pub took-record : (w w₁ w₂ w₃ : List ℕ) (r x y : ℕ) → w₁ ≡ put (ct RECORDS) w 0 (r + 1) → w₂ ≡ put (pt REC) w₁ x r → w₃ ≡ put (pt REC) w₂ y r → w₃ ≡ onWords w (recordWrites r x y)
 took-record w w₁ w₂ w₃ r x y e₁ e₂ e₃ = rw (e₃, e₂, e₁, add-one r)
 
@@ -107,14 +129,14 @@ made-offcut w w₁ w₂ w₃ i x y vx vy r b o er eb eo e₁ e₂ e₃ = rw (e�
 pub free-point : (w : List ℕ) (k : ℕ) (v : Point) → LENGTH ≤ length w → PointFits w v → k ≡ cell (ct POINTS) w 0 → NewPoint w k v
 free-point w k v l h e = record { long = l; low = rw e (h .free); in-table = h .in-table }
 
-pub free-low : (w : List ℕ) (k : ℕ) (v : Point) → PointFits w v → k ≡ cell (ct POINTS) w 0 → k < 2048
+pub free-low : (w : List ℕ) (k : ℕ) (v : Point) → PointFits w v → k ≡ cell (ct POINTS) w 0 → k < limit.POINTS
 free-low w k v h e = rw e (h .free)
 
 module _ (w : List ℕ) (i x y : ℕ) (v : Point) (h : OffcutFits w i x y v) where
-  pub record-low : (r : ℕ) → r ≡ cell (ct RECORDS) w 0 → r < 512
+  pub record-low : (r : ℕ) → r ≡ cell (ct RECORDS) w 0 → r < limit.RECORDS
   record-low r e = rw e (h .record-free)
 
-  pub offcut-low : (b : ℕ) → b ≡ cell (ct POINTS) w 0 → b < 2048
+  pub offcut-low : (b : ℕ) → b ≡ cell (ct POINTS) w 0 → b < limit.POINTS
   offcut-low b e = rw e (h .free)
 
   pub offcut-point : (w′ : List ℕ) (b : ℕ) → length w′ ≡ length w → b ≡ cell (ct POINTS) w 0 → NewPoint w′ b v
@@ -134,21 +156,21 @@ module _ (w w′ : List ℕ) (i : ℕ) (v : Point) (b : Bool) (d : Due) where
 pub cut-fits : (w : List ℕ) (i : ℕ) (v : Point) (b off : Bool) (d : Due) → Applies w i (cut v b off d) → CutFits w i v b
 cut-fits w i v b off d a = record { reach = a .reach; free = λ e. record { free = room b off e (a .points-fit); in-table = a .new-in } }
   where
-    room : (b off : Bool) → b ≡ true → pts (view w) + takesPoints (cut v b off d) ≤ 2048 → pts (view w) < 2048
+    room : (b off : Bool) → b ≡ true → pts (view w) + takesPoints (cut v b off d) ≤ limit.POINTS → pts (view w) < limit.POINTS
     room true true e h = omega arith
     room true false e h = omega arith
     room false off e h = let y : _≡_ {A = ℕ} 0 1 = cc in absurd (omega arith)
 
 -- the counts after the ring's own part of a cut with an offcut
-cut-within : (w : List ℕ) (i : ℕ) (v : Point) (b : Bool) (d : Due) → Reach w i → pts (view w) + takesPoints (cut v b true d) ≤ 2048 → Within (ringWrites raised (view w) i v b d)
-cut-within w i v true d r h = let k : pts (view w) < 2048 = omega arith in (omega arith, (k, (k, (k, (k, (k, (r .prev-in, (r .second-in, (r .record-in, (r .record-in, (r .record-in, tt)))))))))))
+cut-within : (w : List ℕ) (i : ℕ) (v : Point) (b : Bool) (d : Due) → Reach w i → pts (view w) + takesPoints (cut v b true d) ≤ limit.POINTS → Within (ringWrites raised (view w) i v b d)
+cut-within w i v true d r h = let k : pts (view w) < limit.POINTS = omega arith in (omega arith, (k, (k, (k, (k, (k, (r .prev-in, (r .second-in, (r .record-in, (r .record-in, (r .record-in, tt)))))))))))
 cut-within w i v false d r h = (r .prev-in, (r .second-in, (r .record-in, (r .record-in, (r .record-in, tt)))))
 
-points-left : (w : List ℕ) (i : ℕ) (v : Point) (b : Bool) (d : Due) → pts (view w) + takesPoints (cut v b true d) ≤ 2048 → onStore (view w) (ringWrites raised (view w) i v b d) (ct POINTS) 0 < 2048
+points-left : (w : List ℕ) (i : ℕ) (v : Point) (b : Bool) (d : Due) → pts (view w) + takesPoints (cut v b true d) ≤ limit.POINTS → onStore (view w) (ringWrites raised (view w) i v b d) (ct POINTS) 0 < limit.POINTS
 points-left w i v true d h = omega arith
 points-left w i v false d h = omega arith
 
-records-left : (w : List ℕ) (i : ℕ) (v : Point) (b : Bool) (d : Due) → recs (view w) + 1 ≤ 512 → onStore (view w) (ringWrites raised (view w) i v b d) (ct RECORDS) 0 < 512
+records-left : (w : List ℕ) (i : ℕ) (v : Point) (b : Bool) (d : Due) → recs (view w) + 1 ≤ limit.RECORDS → onStore (view w) (ringWrites raised (view w) i v b d) (ct RECORDS) 0 < limit.RECORDS
 records-left w i v true d h = omega arith
 records-left w i v false d h = omega arith
 
@@ -162,8 +184,8 @@ module _ (w w₁ : List ℕ) (i : ℕ) (v : Point) (b : Bool) (d : Due) (x y : �
         record-in = a′ .reach .record-in;
         x-in = here-low w i x (a′ .reach) ex;
         y-in = next-low w i x (a′ .reach) ex y ey;
-        free = subst (λ (u : List ℕ). view u (ct POINTS) 0 < 2048) (sym e₁) (subst (λ (s : Store). s (ct POINTS) 0 < 2048) (sym q) (points-left w i v b d (a′ .points-fit)));
-        record-free = subst (λ (u : List ℕ). view u (ct RECORDS) 0 < 512) (sym e₁) (subst (λ (s : Store). s (ct RECORDS) 0 < 512) (sym q) (records-left w i v b d (a′ .records-fit)));
+        free = subst (λ (u : List ℕ). view u (ct POINTS) 0 < limit.POINTS) (sym e₁) (subst (λ (s : Store). s (ct POINTS) 0 < limit.POINTS) (sym q) (points-left w i v b d (a′ .points-fit)));
+        record-free = subst (λ (u : List ℕ). view u (ct RECORDS) 0 < limit.RECORDS) (sym e₁) (subst (λ (s : Store). s (ct RECORDS) 0 < limit.RECORDS) (sym q) (records-left w i v b d (a′ .records-fit)));
         in-table = a′ .new-in;
       }
 

@@ -8,6 +8,7 @@ use native.Mathlib.Omega.{arith}
 use lib.Dec.{eqb, ltb, leb}
 use lib.IntN.{ℤ, pos, natAbs}
 use lib.Signed.{ltZ}
+use lib.Ieee.{Float}
 use borrow.Author.Tests.{eq-eqb, ne-eqb, lt-ltb, le-ltb, le-leb, lt-leb}
 use mir.Syntax.{w64}
 use mir.Val.{toZ, ofZ, SFits}
@@ -17,13 +18,12 @@ use Rattle.rings.specs.Progress as rings
 use Rattle.rings.specs.Walk.{walk}
 use Rattle.geometry.specs.declared.Point.{Point}
 use Rattle.geometry.specs.Plane.{samePoint, isVerySmallTriangle, removable, segmentsIntersect, areaTriangle, areaOutpt}
-use Rattle.geometry.specs.declared.EdgePair.{EdgePair}
+use Rattle.geometry.specs.declared.Edges.{Edges}
 use Rattle.geometry.specs.declared.Crossing.{Crossing}
-use Rattle.geometry.specs.Crossing.{edgePair, pointOf, Crossed}
-use Rattle.geometry.specs.Floats.{divisorF, alongF, fractionF, pairIntersectsF, Meets}
-use Rattle.geometry.proofs.Edges.{pair-of}
-use Rattle.geometry.proofs.Crossings.{crossed-of, meets-of, point-crossing}
-use Rattle.turns.specs.declared.Corner.{Corner}
+use Rattle.geometry.specs.declared.Crossing.the-variants.{Parallel, Start, End, Inside}
+use Rattle.geometry.specs.Crossing.{edgesOf, Paired, crossing, pointAt, Crossed}
+use Rattle.geometry.proofs.Differences.{paired-of}
+use Rattle.geometry.proofs.Crossings.{crossed-as}
 use Rattle.lone.specs.Ring.{Act, stay, discard, dropPoint, moveOn, toFirst, double, cut}
 use Rattle.lone.specs.Lone.{isValidClosedPath}
 use Rattle.lone.specs.Plane.{plane}
@@ -37,7 +37,7 @@ use Rattle.turns.specs.declared.Due.{Due}
 use Rattle.turns.specs.declared.Due.the-variants.{Validity, Removal, Triangle, Split, Done}
 use Rattle.turns.specs.Code.{dueIs}
 use Rattle.turns.specs.Form.{raised, geometryOf}
-use Rattle.turns.specs.Reads.{Found, Valued, Going, Three, Four, Cornered, CornerOf}
+use Rattle.turns.specs.Reads.{Found, Valued, Going, Three, Four, EdgesAt}
 use Rattle.turns.specs.Decide.{keepsBy, smallAt, removeAt, validWithout, removalAt, validityAt, triangleAt, threeFrom, threeLeft, dueOn, ringFrom, cutAt, splitOpAt, crossedAt, splitAt, decideDue, decideAt}
 use Rattle.turns.proofs.Reading.{low, found}
 use Rattle.turns.proofs.Sizes.{ring-fits}
@@ -159,23 +159,33 @@ module _ (w : List ℕ) (i k f : ℕ) (ef : f ≡ cell (rc FIRST) w i) where
     pub goes-on : k ≢ s → split ≡ dueOn (view w) i k
     goes-on h = rw (not-first, ne-eqb k (cell (rc START) w i) (λ z. h (z ∙ sym es)))
 
-pub corner-of : (w : List ℕ) (p x y z : ℕ) (a b c d : Point) (e : EdgePair) → Valued w p a → Valued w x b → Valued w y c → Valued w z d → e ≡ edgePair a b c d → CornerOf w p x y z (record { prev = a; pt = b; next = c; after = d; pair = e })
-corner-of w p x y z a b c d e A B C D q =
+pub edges-at : (w : List ℕ) (p x y z : ℕ) (a b c d : Point) (e : Edges) → Valued w p a → Valued w x b → Valued w y c → Valued w z d → e ≡ edgesOf a b c d → EdgesAt w p x y z e
+edges-at w p x y z a b c d e A B C D q =
     record {
-      corner = record { prev-in = A .in-table; pt-in = B .in-table; next-in = C .in-table; after-in = D .in-table; pair-is = q };
-      prev-is = A .is;
-      pt-is = B .is;
-      next-is = C .is;
-      after-is = D .is;
+      paired = paired-of (A .in-table) (B .in-table) (C .in-table) (D .in-table) q;
+      prev-is = rw q (A .is);
+      pt-is = rw q (B .is);
+      next-is = rw q (C .is);
+      after-is = rw q (D .is);
     }
 
--- the crossing, by its kind
-pub meets : (c : Corner) (f : Crossing) → Cornered c → f ≡ fractionF (alongF (c .prev .x) (c .prev .y) (c .next .x) (c .next .y) (c .pair .dx2) (c .pair .dy2)) (divisorF (c .pair)) → Meets (c .pair) (c .prev) (c .pt) f
-meets c f k e = meets-of (k .prev-in) (k .pt-in) (k .next-in) (k .after-in) (k .pair-is) e
+-- the crossing point, by the crossing's kind
+module _ (e : Edges) (f : Crossing) (p : Paired e) (q : f ≡ crossing (e .a) (e .b) (e .c) (e .d)) where
+  pub crossed-parallel : f ≡ Parallel → Crossed (e .a) (e .b) (e .c) (e .d) (e .a)
+  crossed-parallel h = crossed-as p q h refl
 
-pub crossed : (c : Corner) (f : Crossing) (r : Point) → Cornered c → f ≡ fractionF (alongF (c .prev .x) (c .prev .y) (c .next .x) (c .next .y) (c .pair .dx2) (c .pair .dy2)) (divisorF (c .pair))
-    → r ≡ pointOf (c .prev) (c .pt) (c .prev) f → Crossed (c .prev) (c .pt) (c .next) (c .after) r
-crossed c f r k e h = crossed-of (c .next) (c .after) (k .prev-in) (k .pt-in) (point-crossing (c .prev) (k .prev-in) (k .pt-in) (k .next-in) (k .after-in) (k .pair-is) e h)
+  pub crossed-start : f ≡ Start → Crossed (e .a) (e .b) (e .c) (e .d) (e .a)
+  crossed-start h = crossed-as p q h refl
+
+  pub crossed-end : f ≡ End → Crossed (e .a) (e .b) (e .c) (e .d) (e .b)
+  crossed-end h = crossed-as p q h refl
+
+  pub crossed-inside : (t s : Float) (r : Point) → f ≡ Inside t s → r ≡ pointAt (e .a) (e .b) t → Crossed (e .a) (e .b) (e .c) (e .d) r
+  crossed-inside t s r h k = crossed-as p q h k
+
+-- what the second crossing test asks
+pub twice-paired : (w : List ℕ) (k : Edges) (u : ℕ) (v : Point) (g : Edges) → Paired k → Valued w u v → g ≡ edgesOf (k .a) (k .b) (k .d) v → Paired g
+twice-paired w k u v g P W q = paired-of (P .a-in) (P .b-in) (P .d-in) (W .in-table) q
 
 pub put-is : (ip prev z : Point) (a b : Bool) → a ≡ samePoint ip prev → b ≡ samePoint ip z → not (a || b) ≡ not (samePoint ip prev || samePoint ip z)
 put-is ip prev z a b e f = rw (e, f)
@@ -229,44 +239,44 @@ left-done t u e h = rw (sym e ∙ h)
 pub left-more : (t u : Bool) → t ≡ u → t ≡ false → split ≡ cond u done split
 left-more t u e h = rw (sym e ∙ h)
 
-pub cut-is : (w : List ℕ) (x : ℕ) (k : Corner) (area1 : ℤ) (ip : Point) (put off : Bool) (due : rings.Due) → SFits w64 area1 → Crossed (k .prev) (k .pt) (k .next) (k .after) ip
-    → put ≡ not (samePoint ip (k .prev) || samePoint ip (k .after)) → off ≡ keepsBy (toZ w64 (ofZ w64 area1)) (areaTriangle ip (k .pt) (k .next)) → due ≡ cond (threeLeft (view w) put x) done split
-    → cut ip put off due ≡ cutAt (raised .of) (geometryOf (view w)) (view w) area1 x (k .prev) (k .pt) (k .next) (k .after)
+pub cut-is : (w : List ℕ) (x : ℕ) (k : Edges) (area1 : ℤ) (ip : Point) (put off : Bool) (due : rings.Due) → SFits w64 area1 → Crossed (k .a) (k .b) (k .c) (k .d) ip
+    → put ≡ not (samePoint ip (k .a) || samePoint ip (k .d)) → off ≡ keepsBy (toZ w64 (ofZ w64 area1)) (areaTriangle ip (k .b) (k .c)) → due ≡ cond (threeLeft (view w) put x) done split
+    → cut ip put off due ≡ cutAt (raised .of) (geometryOf (view w)) (view w) area1 x (k .a) (k .b) (k .c) (k .d)
 unfolding cutAt
 cut-is w x k area1 ip put off due f I ep eo ed = rw (ed, eo, toZ-ofZ f, ep, I .is)
 
-module _ (w : List ℕ) (p x : ℕ) (k : Corner) (area1 : ℤ) (n : ℕ) (o : OnRing w p) (ea : area1 ≡ areaOutpt (valuesFrom w p)) (en : n ≡ natAbs (toZ w64 (ofZ w64 area1))) where
+module _ (w : List ℕ) (p x : ℕ) (k : Edges) (area1 : ℤ) (n : ℕ) (o : OnRing w p) (ea : area1 ≡ areaOutpt (valuesFrom w p)) (en : n ≡ natAbs (toZ w64 (ofZ w64 area1))) where
   area-is : toZ w64 (ofZ w64 area1) ≡ areaOutpt (valuesFrom w p)
   area-is = rw ea (toZ-ofZ (ring-fits w p o))
 
-  pub too-small : n < 4 → discard ≡ splitOpAt (raised .of) (geometryOf (view w)) (view w) p x (k .prev) (k .pt) (k .next) (k .after)
+  pub too-small : n < 4 → discard ≡ splitOpAt (raised .of) (geometryOf (view w)) (view w) p x (k .a) (k .b) (k .c) (k .d)
   unfolding splitOpAt
   too-small h = rw (lt-ltb (natAbs (areaOutpt (valuesFrom w p))) 4 (rw (← area-is, ← en) h))
 
-  pub large : (r : Act Point) → 4 ≤ n → r ≡ cutAt (raised .of) (geometryOf (view w)) (view w) (toZ w64 (ofZ w64 area1)) x (k .prev) (k .pt) (k .next) (k .after)
-      → r ≡ splitOpAt (raised .of) (geometryOf (view w)) (view w) p x (k .prev) (k .pt) (k .next) (k .after)
+  pub large : (r : Act Point) → 4 ≤ n → r ≡ cutAt (raised .of) (geometryOf (view w)) (view w) (toZ w64 (ofZ w64 area1)) x (k .a) (k .b) (k .c) (k .d)
+      → r ≡ splitOpAt (raised .of) (geometryOf (view w)) (view w) p x (k .a) (k .b) (k .c) (k .d)
   unfolding splitOpAt
-  large r h e = rw (le-ltb (natAbs (areaOutpt (valuesFrom w p))) 4 (rw (← area-is, ← en) h)) (e ∙ ap (λ (m : ℤ). cutAt (raised .of) (geometryOf (view w)) (view w) m x (k .prev) (k .pt) (k .next) (k .after)) area-is)
+  large r h e = rw (le-ltb (natAbs (areaOutpt (valuesFrom w p))) 4 (rw (← area-is, ← en) h)) (e ∙ ap (λ (m : ℤ). cutAt (raised .of) (geometryOf (view w)) (view w) m x (k .a) (k .b) (k .c) (k .d)) area-is)
 
-module _ (w : List ℕ) (i p x z u : ℕ) (k : Corner) (v : Point) (t : Bool) (U : Found w (cell (pt NEXT) w z) u) (W : Valued w u v) (et : t ≡ segmentsIntersect (k .prev) (k .pt) (k .after) v) where
-  twice-is : t ≡ segmentsIntersect (k .prev) (k .pt) (k .after) (value.pointOf w (cell (pt NEXT) w z))
-  twice-is = et ∙ ap (segmentsIntersect (k .prev) (k .pt) (k .after)) (W .is ∙ ap (value.pointOf w) (U .is))
+module _ (w : List ℕ) (i p x z u : ℕ) (k : Edges) (v : Point) (t : Bool) (g : Edges) (U : Found w (cell (pt NEXT) w z) u) (W : Valued w u v) (eg : g ≡ edgesOf (k .a) (k .b) (k .d) v) (et : t ≡ segmentsIntersect (g .a) (g .b) (g .c) (g .d)) where
+  twice-is : t ≡ segmentsIntersect (k .a) (k .b) (k .d) (value.pointOf w (cell (pt NEXT) w z))
+  twice-is = (rw eg at et) ∙ ap (segmentsIntersect (k .a) (k .b) (k .d)) (W .is ∙ ap (value.pointOf w) (U .is))
 
-  pub doubles : (d : rings.Due) → t ≡ true → d ≡ dueOn (view w) i x → double (k .after) d ≡ crossedAt (raised .of) (geometryOf (view w)) (view w) i p x z (k .prev) (k .pt) (k .next) (k .after)
+  pub doubles : (d : rings.Due) → t ≡ true → d ≡ dueOn (view w) i x → double (k .d) d ≡ crossedAt (raised .of) (geometryOf (view w)) (view w) i p x z (k .a) (k .b) (k .c) (k .d)
   unfolding crossedAt
   doubles d h ed = rw (sym twice-is ∙ h, ed)
 
-  pub splits : (r : Act Point) → t ≡ false → r ≡ splitOpAt (raised .of) (geometryOf (view w)) (view w) p x (k .prev) (k .pt) (k .next) (k .after)
-      → r ≡ crossedAt (raised .of) (geometryOf (view w)) (view w) i p x z (k .prev) (k .pt) (k .next) (k .after)
+  pub splits : (r : Act Point) → t ≡ false → r ≡ splitOpAt (raised .of) (geometryOf (view w)) (view w) p x (k .a) (k .b) (k .c) (k .d)
+      → r ≡ crossedAt (raised .of) (geometryOf (view w)) (view w) i p x z (k .a) (k .b) (k .c) (k .d)
   unfolding crossedAt
   splits r h e = rw (sym twice-is ∙ h) e
 
-module _ (w : List ℕ) (i p x y z : ℕ) (k : Corner) (t : Bool) (X : Found w (cell (rc PRESENT) w i) x) (Y : Found w (cell (pt NEXT) w x) y) (Z : Found w (cell (pt NEXT) w y) z) (Q : Found w (cell (pt PREV) w x) p)
-    (K : CornerOf w p x y z k) (et : t ≡ pairIntersectsF (k .pair) (k .prev) (k .next)) where
+module _ (w : List ℕ) (i p x y z : ℕ) (k : Edges) (t : Bool) (X : Found w (cell (rc PRESENT) w i) x) (Y : Found w (cell (pt NEXT) w x) y) (Z : Found w (cell (pt NEXT) w y) z) (Q : Found w (cell (pt PREV) w x) p)
+    (K : EdgesAt w p x y z k) (et : t ≡ segmentsIntersect (k .a) (k .b) (k .c) (k .d)) where
   hit-is : t ≡ segmentsIntersect (value.pointOf w p) (value.pointOf w x) (value.pointOf w y) (value.pointOf w z)
-  hit-is = rw (← K .prev-is, ← K .pt-is, ← K .next-is, ← K .after-is) (et ∙ pair-of (K .corner .prev-in) (K .corner .pt-in) (K .corner .next-in) (K .corner .after-in) (K .corner .pair-is))
+  hit-is = rw (← K .prev-is, ← K .pt-is, ← K .next-is, ← K .after-is) et
 
-  pub crosses : (r : Act Point) → t ≡ true → r ≡ crossedAt (raised .of) (geometryOf (view w)) (view w) i p x z (k .prev) (k .pt) (k .next) (k .after) → r ≡ splitAt (raised .of) (geometryOf (view w)) (view w) i
+  pub crosses : (r : Act Point) → t ≡ true → r ≡ crossedAt (raised .of) (geometryOf (view w)) (view w) i p x z (k .a) (k .b) (k .c) (k .d) → r ≡ splitAt (raised .of) (geometryOf (view w)) (view w) i
   unfolding splitAt
   crosses r h e = rw (← X .is) (rw (← Y .is, ← Q .is) (rw (← Z .is) (rw (sym hit-is ∙ h) (rw (← K .prev-is, ← K .pt-is, ← K .next-is, ← K .after-is) e))))
 

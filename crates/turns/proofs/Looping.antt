@@ -19,7 +19,7 @@ use Rattle.store.specs.Words.{view}
 use Rattle.store.specs.Sound.{recs, isOpen, loneAt}
 use Rattle.store.specs.Value.{preserveCollinear}
 use Rattle.acts.specs.Step.{Outcome, outcome, actAt, roomFor, answerS, stepByW, stepW, stepOf}
-use Rattle.acts.specs.Finish.{Finishes, wordsLeft, andThen, stepsByW, finishRecord, finishFromW, finishW}
+use Rattle.acts.specs.Finish.{Finishes, wordsLeft, RingsEnd, ringsDone, ringsFull, andThen, stepsByW, finishRecord, finishFromW, finishW}
 use Rattle.acts.proofs.Stepping.{length-step}
 use Rattle.acts.proofs.Finishing.{settings-kept, finishes-step, words-fall, words-bound, finishes-record, settings-record, length-record}
 use Rattle.turns.specs.Form.{raised, geometryOf}
@@ -113,7 +113,7 @@ module _ (G : Geo Point) (w : List ℕ) where
       go zero = refl
       go (suc n) = refl
 
-  none-left : (m i : ℕ) → recs (view w) ≤ i → finishFromW G raised m w i ≡ outcome ok w
+  none-left : (m i : ℕ) → recs (view w) ≤ i → finishFromW G raised m w i ≡ ringsDone w
   none-left zero i h = refl
   none-left (suc m) i h = ap (λ (o : Outcome). andThen o (λ (u : List ℕ). finishFromW G raised m u (suc i))) (idle i h) ∙ none-left m (suc i) (omega (arith, h))
 
@@ -160,10 +160,10 @@ module _ (w₀ : List ℕ) (i : ℕ) (w : List ℕ) (R : Remaining w₀ i w) whe
           go full h = let y : _≡_ {A = ℕ} 0 1 = cc in absurd (omega arith)
           go outOfTurn h = refl
 
-      pub stop-all : b ≡ true → outcome full w′ ≡ finishW (geometryOf (view w₀)) raised w₀
+      pub stop-all : b ≡ true → ringsFull w′ ≡ finishW (geometryOf (view w₀)) raised w₀
       stop-all h = sym (here ∙ go a (sym eb ∙ h))
         where
-          go : (x : Answer) → isFull x ≡ true → andThen (outcome x w′) (λ (u : List ℕ). finishFromW (geometryOf (view w₀)) raised (512 - (i + 1)) u (i + 1)) ≡ outcome full w′
+          go : (x : Answer) → isFull x ≡ true → andThen (outcome x w′) (λ (u : List ℕ). finishFromW (geometryOf (view w₀)) raised (512 - (i + 1)) u (i + 1)) ≡ ringsFull w′
           go ok h = let y : _≡_ {A = ℕ} 0 1 = cc in absurd (omega arith)
           go full h = refl
           go outOfTurn h = let y : _≡_ {A = ℕ} 0 1 = cc in absurd (omega arith)
@@ -172,8 +172,8 @@ module _ (w₀ : List ℕ) (i : ℕ) (w : List ℕ) (R : Remaining w₀ i w) whe
   long-all = R .finishes .rep .long
 
   -- past the records nothing is left to do
-  pub past-all : (n : ℕ) → n ≡ recs (view w) → n ≤ i → outcome ok w ≡ finishW (geometryOf (view w₀)) raised w₀
+  pub past-all : (n : ℕ) → n ≡ recs (view w) → n ≤ i → ringsDone w ≡ finishW (geometryOf (view w₀)) raised w₀
   past-all n e h = sym (R .is ∙ none-left (geometryOf (view w₀)) w (512 - i) i (omega (arith, e, h)))
 
-  pub end-all : 512 ≤ i → outcome ok w ≡ finishW (geometryOf (view w₀)) raised w₀
+  pub end-all : 512 ≤ i → ringsDone w ≡ finishW (geometryOf (view w₀)) raised w₀
   end-all h = let n : 512 - i ≡ 0 = omega arith in sym (R .is ∙ ap (λ (m : ℕ). finishFromW (geometryOf (view w₀)) raised m w i) n)

@@ -1,6 +1,6 @@
 -- Signed numbers of the deciding code: the size of a number, and that areas fit.
-use Prim.Native.Nat.{ℕ, zero, suc, _+_, _*_, _≤_, _<_, _^_}
-use mathlib.Core.Path.{_≡_, refl, ap, _∙_, sym, subst}
+use Prim.Native.Nat.{ℕ, zero, suc, _+_, _≤_, _<_, _^_}
+use mathlib.Core.Path.{_≡_, refl, ap, _∙_}
 use mathlib.Core.Bool.{Bool, true, false}
 use mathlib.Core.List.{List, [], _∷_, map}
 use native.Mathlib.Omega.{arith}
@@ -14,18 +14,20 @@ use borrow.Author.Tests.{lt-ltb, ltb-true}
 use mir.Syntax.{w64}
 use mir.Val.{toZ, ofZ, SFits, Fits}
 use mir.Facts.{toZ-ofZ}
-use Rattle.exact.proofs.Size.{fits-size, size-add, within-add}
-use Rattle.rings.specs.Circle.{lastOf}
+use Rattle.exact.proofs.Size.{fits-size}
+use Rattle.job.specs.Limits as limit
 use Rattle.rings.specs.Count.{occ}
-use Rattle.rings.proofs.Counting.{occ-head, pigeon}
+use Rattle.rings.proofs.Counting.{occ-head}
 use Rattle.geometry.specs.declared.Point.{Point}
-use Rattle.geometry.specs.Plane.{InTable, edgeArea, areaFrom, areaOutpt, areaTriangle}
-use Rattle.geometry.proofs.Coordinates.{edge-within}
+use Rattle.geometry.specs.Plane.{InTable, AllInTable, areaOutpt, areaTriangle}
+use Rattle.geometry.proofs.Circles.{area-within-53}
+use Rattle.geometry.proofs.Triangles.{triangle-within}
 use Rattle.store.specs.Words.{view}
 use Rattle.store.specs.Sound.{PointIn}
 use Rattle.store.specs.Value.{pointOf}
+use Rattle.store.specs.Named.{ringOf}
 use Rattle.walks.specs.Ring.{OnRing, valuesFrom}
-use Rattle.walks.proofs.Visiting.{Split, split, table-at}
+use Rattle.walks.proofs.Visiting.{ring-short, table-at}
 use Rattle.turns.specs.Decide.{keepsBy}
 
 -- ---- the size of a number
@@ -99,35 +101,18 @@ module _ (a : ℤ) (f : SFits w64 a) where
       go (negsuc n) f e = let y : _≡_ {A = ℕ} 0 1 = cc in absurd (omega arith)
 
 -- ---- areas fit
-abbrev Tables : List Point → Type 0
-Tables [] = Unit {0}
-Tables (p ∷ ps) = InTable p × Tables ps
-
-area-size : (prev : Point) (l : List Point) → InTable prev → Tables l → natAbs (areaFrom prev l) ≤ length l * 4398046511104
-area-size prev [] h t = omega arith
-area-size prev (p ∷ ps) h t = omega (arith, size-add (edgeArea prev p) (areaFrom p ps), edge-within h (t .0) .size, area-size p ps (t .0) (t .1))
-
-last-in : (p : Point) (ps : List Point) → InTable p → Tables ps → InTable (lastOf p ps)
-last-in p [] h t = h
-last-in p (q ∷ qs) h t = last-in q qs (t .0) (t .1)
-
-tables-of : (w : List ℕ) (l : List ℕ) → ((k : ℕ) → 0 < occ k l → PointIn (view w) k) → Tables (map (pointOf w) l)
+tables-of : (w : List ℕ) (l : List ℕ) → ((k : ℕ) → 0 < occ k l → PointIn (view w) k) → AllInTable (map (pointOf w) l)
 tables-of w [] h = tt
 tables-of w (k ∷ l) h = (table-at w k (h k (occ-head k l)), tables-of w l (λ j p. h j (omega arith)))
 
 pub ring-fits : (w : List ℕ) (a : ℕ) → OnRing w a → SFits w64 (areaOutpt (valuesFrom w a))
-unfolding areaOutpt
 ring-fits w a o =
-    let q : Split w a = split w a o in
-    let t : Tables (map (pointOf w) (a ∷ q .others)) = tables-of w (a ∷ q .others) (λ k p. o .points-in k (subst (λ (c : List ℕ). 0 < occ k c) (sym (q .is)) p)) in
-    let n : length (a ∷ q .others) ≤ 2048 = omega (arith, pigeon _ (a ∷ q .others) (q .ring .once) (q .ring .below), o .few) in
-    subst (λ (c : List ℕ). SFits w64 (areaOutpt (map (pointOf w) c))) (sym (q .is))
-    (fits-size w64 (areaOutpt (map (pointOf w) (a ∷ q .others)))
-    (omega (arith, area-size (lastOf (pointOf w a) (map (pointOf w) (q .others))) (map (pointOf w) (a ∷ q .others)) (last-in (pointOf w a) (map (pointOf w) (q .others)) (t .0) (t .1)) t, length-map (a ∷ q .others) (pointOf w))))
+    let n : length (valuesFrom w a) ≤ limit.POINTS = omega (arith, length-map (ringOf w a) (pointOf w), ring-short w a o) in
+    let k = area-within-53 (valuesFrom w a) (tables-of w (ringOf w a) (o .points-in)) n .size in
+    fits-size w64 (areaOutpt (valuesFrom w a)) (omega arith)
 
 pub triangle-fits : (a b c : Point) → InTable a → InTable b → InTable c → SFits w64 (areaTriangle a b c)
-unfolding areaTriangle
-triangle-fits a b c A B C = fits-size w64 (edgeArea c a +ℤ edgeArea a b +ℤ edgeArea b c) (omega (arith, within-add (within-add (edge-within C A) (edge-within A B)) (edge-within B C) .size))
+triangle-fits a b c A B C = let k = triangle-within A B C .size in fits-size w64 (areaTriangle a b c) (omega arith)
 
 -- ---- an argument that is passed on
 pub passed : (a b : ℤ) (r : Bool) (x y z : Point) → SFits w64 a → InTable x → InTable y → InTable z → b ≡ areaTriangle x y z → r ≡ keepsBy (toZ w64 (ofZ w64 a)) (toZ w64 (ofZ w64 b)) → r ≡ keepsBy a (areaTriangle x y z)

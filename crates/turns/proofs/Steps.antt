@@ -26,32 +26,22 @@ use Rattle.turns.specs.declared.Due as due
 use Rattle.turns.specs.Code.{dueIs, actIs}
 use Rattle.turns.specs.Form.{raised, geometryOf}
 use Rattle.turns.specs.Reads.{Steps, SoundWords}
-use Rattle.turns.specs.Takes.{placesOf}
 use Rattle.turns.specs.Applies.{NewIn, Applies}
 use Rattle.turns.proofs.Ready.{laws, in-codes, reach}
 
 -- ---- the places that an act takes
-pub both-taken : (put off : Bool) → put ≡ true → off ≡ true → 2 ≡ placesOf put off
-both-taken put off e f = rw (e, f)
-
-pub put-taken : (put off : Bool) → put ≡ true → off ≡ false → 1 ≡ placesOf put off
-put-taken put off e f = rw (e, f)
-
-pub off-taken : (put off : Bool) → put ≡ false → off ≡ true → 1 ≡ placesOf put off
-off-taken put off e f = rw (e, f)
-
-pub none-taken : (put off : Bool) → put ≡ false → off ≡ false → 0 ≡ placesOf put off
-none-taken put off e f = rw (e, f)
-
-cut-takes : (v : Point) (put off : Bool) (d : Due) → takesPoints (cut v put off d) ≡ placesOf put off
-cut-takes v true true d = refl
-cut-takes v true false d = refl
-cut-takes v false true d = refl
-cut-takes v false false d = refl
-
 module _ (t : code.Act) (v : Point) (put off : Bool) (d : due.Due) (e : t ≡ Cut v put off d) where
-  pub cut-taken : (r : ℕ) → r ≡ placesOf put off → r ≡ takesPoints (actIs t)
-  cut-taken r h = h ∙ sym (ap (λ (t : code.Act). takesPoints (actIs t)) e ∙ cut-takes v put off (dueIs d))
+  pub both-taken : put ≡ true → off ≡ true → 2 ≡ takesPoints (actIs t)
+  both-taken h k = rw (e, h, k)
+
+  pub put-taken : put ≡ true → off ≡ false → 1 ≡ takesPoints (actIs t)
+  put-taken h k = rw (e, h, k)
+
+  pub off-taken : put ≡ false → off ≡ true → 1 ≡ takesPoints (actIs t)
+  off-taken h k = rw (e, h, k)
+
+  pub none-taken : put ≡ false → off ≡ false → 0 ≡ takesPoints (actIs t)
+  none-taken h k = rw (e, h, k)
 
   pub record-taken : off ≡ true → 1 ≡ takesRecord (actIs t)
   record-taken h = sym (ap (λ (t : code.Act). takesRecord (actIs t)) e ∙ ap (λ (o : Bool). takesRecord (cut v put o (dueIs d))) h)

@@ -1,4 +1,6 @@
--- The code's names for the steps due, the acts and the answers.
+-- The code's names for the steps due, the acts, the answers and how finishing ends.
+use Prim.Native.Nat.{ℕ}
+use mathlib.Core.List.{List}
 use Rattle.geometry.specs.declared.Point.{Point}
 use Rattle.rings.specs.Progress.{validity, removal, triangle, split, done}
 use Rattle.rings.specs.Progress as rings
@@ -12,6 +14,10 @@ use Rattle.turns.specs.declared.Act.{Act}
 use Rattle.turns.specs.declared.Act.the-variants.{Stay, Discard, Drop, MoveOn, ToFirst, Double, Cut}
 use Rattle.turns.specs.declared.Answer.{Answer}
 use Rattle.turns.specs.declared.Answer.the-variants.{Ok, Full, OutOfTurn}
+use Rattle.turns.specs.declared.RingsEnd.{RingsEnd}
+use Rattle.turns.specs.declared.RingsEnd.the-variants as ends
+use Rattle.acts.specs.Finish as acts
+use Rattle.acts.specs.Finish.{ringsDone, ringsFull}
 
 abbrev pub dueIs : Due → rings.Due
 dueIs Validity = validity
@@ -33,3 +39,8 @@ abbrev pub answerIs : Answer → forest.Answer
 answerIs Ok = ok
 answerIs Full = full
 answerIs OutOfTurn = outOfTurn
+
+-- with the words left
+abbrev pub endIs : RingsEnd → List ℕ → acts.RingsEnd
+endIs ends.Done w = ringsDone w
+endIs ends.Full w = ringsFull w

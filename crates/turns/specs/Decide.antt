@@ -1,14 +1,14 @@
 -- A step decided on the store, by its links and the values of its points: what the code reads. That it is the lone ring's decision is a law.
-use Prim.Native.Nat.{ℕ, _*_}
-use mathlib.Core.Bool.{Bool, true, false, cond, not, _&&_, _||_, Bool·beq}
+use Prim.Native.Nat.{ℕ}
+use mathlib.Core.Bool.{Bool, true, false, cond, not, _||_}
 use mathlib.Core.List.{List, map}
-use lib.Dec.{eqb, ltb, leb}
-use lib.IntN.{ℤ, pos, natAbs}
-use lib.Signed.{ltZ}
+use lib.Dec.{eqb}
+use lib.IntN.{ℤ}
 use Rattle.rings.specs.Progress.{Due, validity, removal, triangle, split, done}
 use Rattle.rings.specs.Walk.{walk}
 use Rattle.lone.specs.Ring.{Act, stay, discard, dropPoint, moveOn, toFirst, double, cut}
 use Rattle.lone.specs.Lone.{Geo, isValidClosedPath, tooSmall}
+pub use Rattle.lone.specs.Lone.{keepsBy}
 use Rattle.store.specs.Field.{pt, rc, NEXT, PREV, FIRST, PRESENT, START}
 use Rattle.store.specs.Words.{Store}
 use Rattle.store.specs.Sound.{dueAt}
@@ -31,11 +31,6 @@ module _ (s : Store) where
   -- the triangle test
   abbrev pub triangleAt : {P : Type 0} → ℕ → Act P
   triangleAt i = toFirst (cond (threeFrom (s (rc FIRST) i)) done split)
-
--- "An offcut needs |area_triangle| at least 1.0, which is twice the area, and then a larger magnitude than the ring's area or its sign", by the
--- doubled area of the ring and that of the triangle
-abbrev pub keepsBy : ℤ → ℤ → Bool
-keepsBy area1 area2 = leb 1 (natAbs area2) && (ltb (natAbs area1) (2 * natAbs area2) || Bool·beq (ltZ (pos 0) area2) (ltZ (pos 0) area1))
 
 module _ {P : Type 0} (of : ℕ → ℕ → P) (G : Geo P) (s : Store) where
   -- of a ring of three from a: are two of them really close

@@ -4,11 +4,12 @@ use mathlib.Core.Path.{_≡_}
 use mathlib.Core.List.{List}
 use mathlib.Core.Bool.{false}
 use lib.ListN.{length}
+use Rattle.job.specs.Limits as limit
 use Rattle.rings.specs.Progress.{isDone}
 use Rattle.geometry.specs.declared.Point.{Point}
 use Rattle.geometry.specs.Plane.{InTable}
-use Rattle.geometry.specs.Crossing.{edgePair}
-use Rattle.turns.specs.declared.Corner.{Corner}
+use Rattle.geometry.specs.declared.Edges.{Edges}
+use Rattle.geometry.specs.Crossing.{Paired}
 use Rattle.store.specs.Field.{rc, FIRST, PRESENT, LENGTH}
 use Rattle.store.specs.Words.{view}
 use Rattle.store.specs.Sound.{Sound, Closed, dueAt}
@@ -19,7 +20,7 @@ use Rattle.walks.specs.Ring.{OnRing}
 pub record Found (w : List ℕ) (k r : ℕ) : Type 0 where
   pub is : r ≡ k
   pub on : OnRing w r
-  pub low : r < 2048
+  pub low : r < limit.POINTS
 
 -- p is the value of the point k
 pub record Valued (w : List ℕ) (k : ℕ) (p : Point) : Type 0 where
@@ -36,7 +37,7 @@ pub record Steps (w : List ℕ) (i : ℕ) : Type 0 where
 -- what its decision reads: its first point and its present place are on a ring
 pub record Going (w : List ℕ) (i : ℕ) : Type 0 where
   pub long : LENGTH ≤ length w
-  pub record-in : i < 512
+  pub record-in : i < limit.RECORDS
   pub first-on : OnRing w (view w (rc FIRST) i)
   pub present-on : OnRing w (view w (rc PRESENT) i)
 
@@ -57,18 +58,10 @@ pub record SoundWords (w : List ℕ) : Type 0 where
   pub long : LENGTH ≤ length w
   pub sound : Sound (view w)
 
--- a corner's points are on the table, and its pair is that of the edge to its point and of the edge after the next
-pub record Cornered (c : Corner) : Type 0 where
-  pub prev-in : InTable (c .prev)
-  pub pt-in : InTable (c .pt)
-  pub next-in : InTable (c .next)
-  pub after-in : InTable (c .after)
-  pub pair-is : c .pair ≡ edgePair (c .prev) (c .pt) (c .next) (c .after)
-
--- the corner of the points p, x, y and z
-pub record CornerOf (w : List ℕ) (p x y z : ℕ) (c : Corner) : Type 0 where
-  pub corner : Cornered c
-  pub prev-is : c .prev ≡ pointOf w p
-  pub pt-is : c .pt ≡ pointOf w x
-  pub next-is : c .next ≡ pointOf w y
-  pub after-is : c .after ≡ pointOf w z
+-- the edges from the point p to x and from y to z
+pub record EdgesAt (w : List ℕ) (p x y z : ℕ) (e : Edges) : Type 0 where
+  pub paired : Paired e
+  pub prev-is : e .a ≡ pointOf w p
+  pub pt-is : e .b ≡ pointOf w x
+  pub next-is : e .c ≡ pointOf w y
+  pub after-is : e .d ≡ pointOf w z

@@ -3,12 +3,12 @@ use crate::Act;
 use crate::Due;
 use geometry::Point;
 use store::Col;
-use store::NONE;
 use store::get;
+use store::points::dispose_out_pt;
+use store::points::dispose_out_pts;
 use store::points::link_between;
-use store::points::raise;
+use store::points::new_out_pt;
 use store::points::start_record;
-use store::points::take_point;
 use store::points::unlink;
 use store::set;
 ghost use mathlib.Core.Path.{_≡_};
@@ -16,10 +16,10 @@ ghost use mathlib.Core.Bool.{cond};
 ghost use Prim.Native.Nat.{_+_, _<_, _≤_, _^_};
 ghost use lib.Dec.{eqb};
 ghost use lib.ListN.{length};
+ghost use Rattle.job.specs.Limits as limit;
 ghost use Rattle.store.specs.Field.{rc, FIRST, PRESENT, START, LENGTH};
 ghost use Rattle.store.specs.Sound.{markOf};
 ghost use Rattle.store.specs.Words.{cell, put, view, onWords};
-ghost use Rattle.store.specs.Primitive.{pointWrites};
 ghost use Rattle.acts.specs.Writes.{moveWrites, toFirstWrites, discardWrites, dropWrites, putWrites, doubleWrites, placeWrites, cutWrites, cutPutWrites, recordWrites, offcutWrites};
 ghost use Rattle.acts.specs.Apply.{ringWrites, afterW};
 ghost use Rattle.turns.specs.Code.{dueIs, actIs};
@@ -55,7 +55,7 @@ fn move_on(w: &mut [u32], i: usize, d: Due)
 
 // Present place and loop's start are n.
 fn set_loop(w: &mut [u32], i: usize, n: usize)
-    requires { ⌜ (LENGTH ≤ length (now w)) × (i < 512) × (n < 2 ^ 32) ⌝ }
+    requires { ⌜ (LENGTH ≤ length (now w)) × (i < limit.RECORDS) × (n < 2 ^ 32) ⌝ }
     ensures { λ _. ⌜ now (w .exit) ≡ put (rc START) (put (rc PRESENT) (now (w .entry)) i n) i n ⌝ }
 {
     set(w, Col::Present, i, n);
@@ -73,18 +73,18 @@ fn to_first(w: &mut [u32], i: usize, d: Due)
     set(w, Col::Mark, i, m);
 }
 
-// The record is emptied: `dispose_out_pts`.
+// The record is emptied, and the ring is done.
 fn discard_ring(w: &mut [u32], i: usize)
     requires { ⌜ Reach (now w) i ⌝ }
     ensures { λ _. ⌜ now (w .exit) ≡ onWords (now (w .entry)) (discardWrites i) ⌝ }
 {
-    set(w, Col::First, i, NONE);
+    dispose_out_pts(w, i);
     set(w, Col::Mark, i, 4);
 }
 
 // A first point that is x is p from now on.
 fn fix_first(w: &mut [u32], i: usize, x: usize, p: usize)
-    requires { ⌜ (LENGTH ≤ length (now w)) × (i < 512) × (p < 2 ^ 32) ⌝ }
+    requires { ⌜ (LENGTH ≤ length (now w)) × (i < limit.RECORDS) × (p < 2 ^ 32) ⌝ }
     ensures { λ _. ⌜ now (w .exit) ≡ put (rc FIRST) (now (w .entry)) i (cond (eqb (cell (rc FIRST) (now (w .entry)) i) x) p (cell (rc FIRST) (now (w .entry)) i)) ⌝ }
 {
     let f = get(w, Col::First, i);
@@ -95,35 +95,24 @@ fn fix_first(w: &mut [u32], i: usize, x: usize, p: usize)
     set(w, Col::First, i, f);
 }
 
-// The present point goes out: `dispose_out_pt`.
+// The present point goes out.
 fn drop_point(w: &mut [u32], i: usize)
     requires { ⌜ Reach (now w) i ⌝ }
     ensures { λ _. ⌜ now (w .exit) ≡ onWords (now (w .entry)) (dropWrites (view (now (w .entry))) i) ⌝ }
 {
     let x = get(w, Col::Present, i);
-    let n = get(w, Col::Next, x);
     let p = get(w, Col::Prev, x);
     fix_first(w, i, x, p);
-    unlink(w, p, n);
+    let n = dispose_out_pt(w, x);
     set_loop(w, i, n);
-}
-
-// A point of value v is taken: `new_out_pt`.
-fn new_point(w: &mut [u32], k: usize, v: Point, r: usize)
-    requires { ⌜ NewPoint (now w) k v × (r < 2 ^ 32) ⌝ }
-    ensures { λ _. ⌜ now (w .exit) ≡ onWords (now (w .entry)) (pointWrites k (wordOf (v .x)) (wordOf (v .y)) r) ⌝ }
-{
-    let x = raise(v.x);
-    let y = raise(v.y);
-    take_point(w, k, x, y, r);
 }
 
 // A new point k of value v between p and n.
 fn put_between(w: &mut [u32], k: usize, v: Point, r: usize, p: usize, n: usize)
-    requires { ⌜ NewPoint (now w) k v × (r < 2 ^ 32) × (p < 2048) × (n < 2048) ⌝ }
+    requires { ⌜ NewPoint (now w) k v × (r < 2 ^ 32) × (p < limit.POINTS) × (n < limit.POINTS) ⌝ }
     ensures { λ _. ⌜ now (w .exit) ≡ onWords (now (w .entry)) (putWrites k (wordOf (v .x)) (wordOf (v .y)) r p n) ⌝ }
 {
-    new_point(w, k, v, r);
+    new_out_pt(w, k, v, r);
     link_between(w, p, k, n);
 }
 
@@ -143,7 +132,7 @@ fn double_point(w: &mut [u32], i: usize, v: Point, d: Due)
 
 // First point and present place are p.
 fn set_place(w: &mut [u32], i: usize, p: usize, d: Due)
-    requires { ⌜ (LENGTH ≤ length (now w)) × (i < 512) × (p < 2 ^ 32) ⌝ }
+    requires { ⌜ (LENGTH ≤ length (now w)) × (i < limit.RECORDS) × (p < 2 ^ 32) ⌝ }
     ensures { λ _. ⌜ now (w .exit) ≡ onWords (now (w .entry)) (placeWrites i p (dueIs d)) ⌝ }
 {
     let m = mark_of(d);
@@ -180,9 +169,9 @@ fn cut_put(w: &mut [u32], i: usize, v: Point, d: Due)
     set_place(w, i, p, d);
 }
 
-// A record is taken for x and y: `new_out_rec`.
+// A record is taken for x and y: `new_out_rec`, but for what `start_record` sets.
 fn take_record(w: &mut [u32], r: usize, x: usize, y: usize)
-    requires { ⌜ (LENGTH ≤ length (now w)) × (r < 512) × (x < 2048) × (y < 2048) ⌝ }
+    requires { ⌜ (LENGTH ≤ length (now w)) × (r < limit.RECORDS) × (x < limit.POINTS) × (y < limit.POINTS) ⌝ }
     ensures { λ _. ⌜ now (w .exit) ≡ onWords (now (w .entry)) (recordWrites r x y) ⌝ }
 {
     set(w, Col::Records, 0, r + 1);

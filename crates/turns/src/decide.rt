@@ -1,11 +1,12 @@
 // Deciding a step: reads only. Ports of `clean_collinear`, `fix_self_intersects` and `do_split_op`.
 use crate::Act;
-use crate::Corner;
 use crate::Due;
 use crate::ring::due_at;
 use crate::ring::next_of;
 use crate::ring::point_at;
 use crate::ring::prev_of;
+use geometry::Crossing;
+use geometry::Edges;
 use geometry::Point;
 use store::Col;
 use store::get;
@@ -15,9 +16,10 @@ ghost use mathlib.Core.Bool.{cond, not, _||_};
 ghost use Prim.Native.Nat.{_+_, _<_, _≤_};
 ghost use lib.IntN.{natAbs};
 ghost use lib.ListN.{length};
+ghost use Rattle.job.specs.Limits as limit;
 ghost use Rattle.rings.specs.Progress.{split, done};
 ghost use Rattle.geometry.specs.Plane.{InTable, samePoint, areaTriangle};
-ghost use Rattle.geometry.specs.Crossing.{Crossed};
+ghost use Rattle.geometry.specs.Crossing.{Paired, Crossed};
 ghost use Rattle.lone.specs.Ring.{dropPoint, discard};
 ghost use Rattle.store.specs.Field.{rc, FIRST, PRESENT, LENGTH};
 ghost use Rattle.store.specs.Words.{cell, view};
@@ -25,7 +27,7 @@ ghost use Rattle.store.specs.Value.{preserveCollinear};
 ghost use Rattle.walks.specs.Ring.{OnRing};
 ghost use Rattle.turns.specs.Code.{dueIs, actIs};
 ghost use Rattle.turns.specs.Form.{raised, geometryOf};
-ghost use Rattle.turns.specs.Reads.{Found, Steps, Going, Three, Four, Cornered, CornerOf};
+ghost use Rattle.turns.specs.Reads.{Found, Steps, Going, Three, Four, EdgesAt};
 ghost use Rattle.turns.specs.Decide.{keepsBy, smallAt, removeAt, validWithout, removalAt, validityAt, triangleAt, threeFrom, threeLeft, dueOn, cutAt, splitOpAt, crossedAt, splitAt, decideAt};
 ghost use Rattle.acts.specs.Step.{actAt};
 
@@ -187,7 +189,7 @@ fn size_of(a: i64) -> usize
 
 // Whether the loop ends at k: it is the first point or the loop's start.
 fn due_on(w: &[u32], i: usize, k: usize) -> Due
-    requires { ⌜ (LENGTH ≤ length (now w)) × (i < 512) ⌝ }
+    requires { ⌜ (LENGTH ≤ length (now w)) × (i < limit.RECORDS) ⌝ }
     ensures { λ r. ⌜ dueIs r ≡ dueOn (view (now (w .entry))) i k ⌝ }
 {
     let f = get(w, Col::First, i);
@@ -201,23 +203,16 @@ fn due_on(w: &[u32], i: usize, k: usize) -> Due
     Due::Split
 }
 
-// The corner of the points p, x, y and z.
-fn corner_at(w: &[u32], p: usize, x: usize, y: usize, z: usize) -> Corner
+// The edges from p to x and from y to z.
+fn edges_at(w: &[u32], p: usize, x: usize, y: usize, z: usize) -> Edges
     requires { ⌜ Four (now w) p x y z ⌝ }
-    ensures { λ r. ⌜ CornerOf (now (w .entry)) p x y z r ⌝ }
+    ensures { λ r. ⌜ EdgesAt (now (w .entry)) p x y z r ⌝ }
 {
     let prev = point_at(w, p);
     let pt = point_at(w, x);
     let next = point_at(w, y);
     let after = point_at(w, z);
-    let pair = geometry::edge_pair(prev, pt, next, after);
-    Corner {
-        prev,
-        pt,
-        next,
-        after,
-        pair,
-    }
+    geometry::edges_of(prev, pt, next, after)
 }
 
 // Whether the crossing is put into the ring: it is neither the point before nor the second after.
@@ -285,54 +280,67 @@ fn due_left(w: &[u32], x: usize, put: bool) -> Due
     Due::Split
 }
 
-// Where the edges of a corner cross: from its pair, by the crossing's kind.
-fn crossing_of(c: Corner) -> Point
-    requires { ⌜ Cornered c ⌝ }
-    ensures { λ r. ⌜ Crossed (c .prev) (c .pt) (c .next) (c .after) r ⌝ }
+// Where the edges cross, by the crossing's kind; the Rust's `ip` begins as the first edge's start, and parallel edges leave it.
+fn crossing_of(e: Edges) -> Point
+    requires { ⌜ Paired e ⌝ }
+    ensures { λ r. ⌜ Crossed (e .a) (e .b) (e .c) (e .d) r ⌝ }
 {
-    let f = geometry::crossing_at(c.pair, c.prev, c.next);
-    geometry::point_on(c.pair, c.prev, c.pt, f, c.prev)
+    let f = geometry::get_segment_intersect_pt(e);
+    match f {
+        Crossing::Parallel => {
+            return e.a;
+        }
+        Crossing::Start => {
+            return e.a;
+        }
+        Crossing::End => {
+            return e.b;
+        }
+        Crossing::Inside { first, second: _ } => {
+            return geometry::point_inside(e, first);
+        }
+    }
 }
 
-// The cut at x, of a ring whose doubled area is area1.
-fn cut_at(w: &[u32], x: usize, c: Corner, area1: i64) -> Act
-    requires { ⌜ OnRing (now w) x × Cornered c ⌝ }
-    ensures { λ r. ⌜ actIs r ≡ cutAt (raised .of) (geometryOf (view (now (w .entry)))) (view (now (w .entry))) area1 x (c .prev) (c .pt) (c .next) (c .after) ⌝ }
+// The cut at x, of a ring whose doubled area is area1; the edges are those to x and from the next.
+fn cut_at(w: &[u32], x: usize, e: Edges, area1: i64) -> Act
+    requires { ⌜ OnRing (now w) x × Paired e ⌝ }
+    ensures { λ r. ⌜ actIs r ≡ cutAt (raised .of) (geometryOf (view (now (w .entry)))) (view (now (w .entry))) area1 x (e .a) (e .b) (e .c) (e .d) ⌝ }
 {
-    let ip = crossing_of(c);
-    let put = put_in(ip, c.prev, c.after);
-    let off = keeps_offcut(area1, ip, c.pt, c.next);
+    let ip = crossing_of(e);
+    let put = put_in(ip, e.a, e.d);
+    let off = keeps_offcut(area1, ip, e.b, e.c);
     let due = due_left(w, x, put);
     Act::Cut(ip, put, off, due)
 }
 
 // `do_split_op` at x, after the point p.
-fn do_split_op(w: &[u32], p: usize, x: usize, c: Corner) -> Act
-    requires { ⌜ OnRing (now w) p × OnRing (now w) x × Cornered c ⌝ }
-    ensures { λ r. ⌜ actIs r ≡ splitOpAt (raised .of) (geometryOf (view (now (w .entry)))) (view (now (w .entry))) p x (c .prev) (c .pt) (c .next) (c .after) ⌝ }
+fn do_split_op(w: &[u32], p: usize, x: usize, e: Edges) -> Act
+    requires { ⌜ OnRing (now w) p × OnRing (now w) x × Paired e ⌝ }
+    ensures { λ r. ⌜ actIs r ≡ splitOpAt (raised .of) (geometryOf (view (now (w .entry)))) (view (now (w .entry))) p x (e .a) (e .b) (e .c) (e .d) ⌝ }
 {
     let area1 = area_outpt(w, p);
     let n = size_of(area1);
     if n < 4 {
         return Act::Discard;
     }
-    cut_at(w, x, c, area1)
+    cut_at(w, x, e, area1)
 }
 
 // A split turn where the edges about x cross; z is the second after it.
-fn crossed_turn(w: &[u32], i: usize, p: usize, x: usize, z: usize, c: Corner) -> Act
-    requires { ⌜ Going (now w) i × Three (now w) p x z × Cornered c ⌝ }
-    ensures { λ r. ⌜ actIs r ≡ crossedAt (raised .of) (geometryOf (view (now (w .entry)))) (view (now (w .entry))) i p x z (c .prev) (c .pt) (c .next) (c .after) ⌝ }
+fn crossed_turn(w: &[u32], i: usize, p: usize, x: usize, z: usize, e: Edges) -> Act
+    requires { ⌜ Going (now w) i × Three (now w) p x z × Paired e ⌝ }
+    ensures { λ r. ⌜ actIs r ≡ crossedAt (raised .of) (geometryOf (view (now (w .entry)))) (view (now (w .entry))) i p x z (e .a) (e .b) (e .c) (e .d) ⌝ }
 {
     let u = next_of(w, z);
     let v = point_at(w, u);
-    let twice = geometry::segments_intersect(c.prev, c.pt, c.after, v);
+    let twice = geometry::segments_intersect(geometry::edges_of(e.a, e.b, e.d, v));
     if twice {
         let d = due_on(w, i, x);
-        let after = c.after;
+        let after = e.d;
         return Act::Double(after, d);
     }
-    do_split_op(w, p, x, c)
+    do_split_op(w, p, x, e)
 }
 
 fn split_turn(w: &[u32], i: usize) -> Act
@@ -343,10 +351,10 @@ fn split_turn(w: &[u32], i: usize) -> Act
     let y = next_of(w, x);
     let z = next_of(w, y);
     let p = prev_of(w, x);
-    let c = corner_at(w, p, x, y, z);
-    let hit = geometry::pair_intersects(c.pair, c.prev, c.next);
+    let e = edges_at(w, p, x, y, z);
+    let hit = geometry::segments_intersect(e);
     if hit {
-        return crossed_turn(w, i, p, x, z, c);
+        return crossed_turn(w, i, p, x, z, e);
     }
     let d = due_on(w, i, y);
     Act::MoveOn(d)

@@ -1,5 +1,6 @@
 // Finishing: one record, or all in rising order, stepped until done; it ends where a step is full.
 use crate::Answer;
+use crate::RingsEnd;
 use crate::step::step_record;
 use job::Job;
 use store::Col;
@@ -10,7 +11,7 @@ ghost use Rattle.lone.specs.Forest.{isOk};
 ghost use Rattle.store.specs.Words.{view};
 ghost use Rattle.acts.specs.Step.{outcome};
 ghost use Rattle.acts.specs.Finish.{Finishes, finishRecord, finishW};
-ghost use Rattle.turns.specs.Code.{answerIs};
+ghost use Rattle.turns.specs.Code.{answerIs, endIs};
 ghost use Rattle.turns.specs.Form.{raised, geometryOf};
 ghost use Rattle.turns.specs.Takes.{isFull};
 
@@ -49,22 +50,22 @@ pub fn finish_record(w: &mut [u32], i: usize) -> Answer
 }
 
 // Every record in rising order, offcuts as they come: done, or full.
-pub fn finish_records(w: &mut [u32]) -> Answer
+pub fn finish_records(w: &mut [u32]) -> RingsEnd
     requires { ⌜ Finishes (geometryOf (view (now w))) raised (now w) ⌝ }
-    ensures { λ r. ⌜ outcome (answerIs r) (now (w .exit)) ≡ finishW (geometryOf (view (now (w .entry)))) raised (now (w .entry)) ⌝ }
+    ensures { λ r. ⌜ endIs r (now (w .exit)) ≡ finishW (geometryOf (view (now (w .entry)))) raised (now (w .entry)) ⌝ }
 {
     let mut i = 0;
     while i < Job::RECORDS {
         let n = get(w, Col::Records, 0);
         if n <= i {
-            return Answer::Ok;
+            return RingsEnd::Done;
         }
         let a = finish_record(w, i);
         let full = is_full(a);
         if full {
-            return Answer::Full;
+            return RingsEnd::Full;
         }
         i += 1;
     }
-    Answer::Ok
+    RingsEnd::Done
 }

@@ -1,5 +1,4 @@
 // One step of a ring: decided by reading only, then applied as a list of writes.
-use geometry::EdgePair;
 use geometry::Point;
 
 // The step due, or done.
@@ -23,20 +22,17 @@ pub enum Act {
     Cut(Point, bool, bool, Due),
 }
 
-// A point by value, the one before it, the next and the one after; and the pair of the edge to the point and of the edge from the next, made once.
-pub struct Corner {
-    pub prev: Point,
-    pub pt: Point,
-    pub next: Point,
-    pub after: Point,
-    pub pair: EdgePair,
-}
-
 // What a step on a record answers: carried out, refused with 10, refused with 12.
 pub enum Answer {
     Ok,
     Full,
     OutOfTurn,
+}
+
+// How finishing all rings ends: every one is done, or a step was refused with 10.
+pub enum RingsEnd {
+    Done,
+    Full,
 }
 
 pub mod apply;

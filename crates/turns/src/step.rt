@@ -18,23 +18,6 @@ ghost use Rattle.acts.specs.Step.{outcome, fits, live, stepOf};
 ghost use Rattle.turns.specs.Code.{actIs, answerIs};
 ghost use Rattle.turns.specs.Form.{raised, geometryOf};
 ghost use Rattle.turns.specs.Reads.{Steps, SoundWords};
-ghost use Rattle.turns.specs.Takes.{placesOf};
-
-// How many points a cut takes.
-fn cut_takes(put: bool, off: bool) -> usize
-    ensures { λ r. ⌜ (r ≡ placesOf put off) × (r ≤ 2) ⌝ }
-{
-    if put {
-        if off {
-            return 2;
-        }
-        return 1;
-    }
-    if off {
-        return 1;
-    }
-    0
-}
 
 // How many points an act takes.
 fn takes_points(act: Act) -> usize
@@ -47,7 +30,18 @@ fn takes_points(act: Act) -> usize
         Act::MoveOn(_) => 0,
         Act::ToFirst(_) => 0,
         Act::Double(_, _) => 1,
-        Act::Cut(_, put, off, _) => cut_takes(put, off),
+        Act::Cut(_, put, off, _) => {
+            if put {
+                if off {
+                    return 2;
+                }
+                return 1;
+            }
+            if off {
+                return 1;
+            }
+            return 0;
+        }
     }
 }
 

@@ -139,35 +139,9 @@ module _ (w : List ℕ) (stop a : ℕ) (Q : List ℕ → Type 0) where
     at-end : Left w stop a Q → q ≡ stop → Q (a ∷ [])
     at-end t d = last (t .todo) (t .seg) (t .out) (t .says) d
 
--- ---- counting: k points were passed, of t in all
-
-pub record Counting (w : List ℕ) (stop a k t : ℕ) : Type 0 where
-  pub ring : OnRing w stop
-  pub left : Left w stop a (λ l. k + length l ≡ t)
-  pub few : t ≤ 2048
-
-ring-short : (w : List ℕ) (s : ℕ) → OnRing w s → length (ringOf w s) ≤ 2048
+-- a ring has at most as many points as there may be
+pub ring-short : (w : List ℕ) (s : ℕ) → OnRing w s → length (ringOf w s) ≤ limit.POINTS
 ring-short w s r = omega (arith, pigeon (pointsOf w) (ringOf w s) (r .whole .once) (r .whole .below), r .few)
-
-pub count-begun : (w : List ℕ) (s : ℕ) → OnRing w s → Counting w s s 0 (length (ringOf w s))
-count-begun w s r = record { ring = r; left = begin w s (λ l. 0 + length l ≡ length (ringOf w s)) r (omega arith); few = ring-short w s r }
-
-module _ (w : List ℕ) (stop a k t : ℕ) where
-  pub count-low : Counting w stop a k t → a < limit.POINTS
-  count-low c = here-low w stop a (λ l. k + length l ≡ t) (c .ring) (c .left)
-
-  pub count-less : Counting w stop a k t → k < 2048
-  count-less c = omega (arith, c .left .says, c .few)
-
-  module _ (q : ℕ) (e : q ≡ nextOf w a) where
-    pub count-on : Counting w stop a k t → q ≢ stop → Counting w stop q (k + 1) t
-    count-on c d = record { ring = c .ring; left = on-to w stop a (λ l. k + length l ≡ t) q e (λ l. k + 1 + length l ≡ t) (c .left) (λ m g. omega arith) d; few = c .few }
-
-    pub count-falls : Counting w stop a k t → q ≢ stop → toGo w stop q < toGo w stop a
-    count-falls c d = falls w stop a (λ l. k + length l ≡ t) q e (c .left) d
-
-    pub count-end : Counting w stop a k t → q ≡ stop → k + 1 ≡ t
-    count-end c d = at-end w stop a (λ l. k + length l ≡ t) q e (c .left) d
 
 -- ---- summing: z, and the edges to the points from a on, come to t
 

@@ -1,4 +1,4 @@
-// Walks round a ring: how many points, the doubled area, whether it is valid.
+// Walks round a ring: the doubled area, whether it is valid.
 use geometry::edge_area;
 use store::Col;
 use store::NONE;
@@ -6,31 +6,12 @@ use store::get;
 use store::points::point;
 ghost use mathlib.Core.Path.{_≡_};
 ghost use mathlib.Core.Bool.{true};
-ghost use Prim.Native.Nat.{_+_};
-ghost use lib.ListN.{length};
 ghost use Rattle.geometry.specs.Plane.{edgeArea, areaOutpt, isVerySmallTriangle};
 ghost use Rattle.lone.specs.Lone.{isValidClosedPath};
 ghost use Rattle.lone.specs.Plane.{plane};
-ghost use Rattle.store.specs.Named.{prevOf, ringOf};
+ghost use Rattle.store.specs.Named.{prevOf};
 ghost use Rattle.store.specs.Value.{pointOf};
 ghost use Rattle.walks.specs.Ring.{OnRing, MaybeOnRing, Edge, Three, valuesFrom, valuesOf, isVerySmall};
-
-// How many points the ring has.
-pub fn point_count(w: &[u32], op_start: usize) -> usize
-    requires { ⌜ OnRing (now w) «op_start» ⌝ }
-    ensures { λ r. ⌜ r ≡ length (ringOf (now (w .entry)) «op_start») ⌝ }
-{
-    let mut op2 = op_start;
-    let mut cnt: usize = 0;
-    loop {
-        op2 = get(w, Col::Next, op2);
-        cnt += 1;
-        if op2 == op_start {
-            break;
-        }
-    }
-    cnt
-}
 
 // The part of the edge to op in the doubled area.
 fn edge_to(w: &[u32], op: usize) -> i64

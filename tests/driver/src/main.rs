@@ -1,6 +1,7 @@
 // The differential driver: the proved entry points against the oracle, in one process. docs/DIFFERENTIAL.md says what is compared.
 mod alter;
 mod altered;
+mod audits;
 mod calls;
 mod damage;
 mod finish;
@@ -13,6 +14,7 @@ mod room;
 mod runs;
 mod steps;
 mod tally;
+mod tidied;
 mod words;
 
 use calls::{Fault, FAULTS};
@@ -21,7 +23,7 @@ use runs::{Kind, Run, KINDS};
 
 const USAGE: &str =
     "usage: driver finish|large|steps|bytes|altered SEED COUNT THREADS [FROM], driver faults SEED COUNT, \
-                     or driver fault NAME KIND SEED COUNT";
+                     driver fault NAME KIND SEED COUNT, or driver audits";
 
 fn run_of(kind: &str, seed: &str, count: &str, threads: &str, from: u64) -> Result<Run, String> {
     let kind = Kind::named(kind).ok_or(USAGE)?;
@@ -60,6 +62,7 @@ fn run(words: &[&str]) -> Result<(), String> {
         return Err(format!("outline_work_words answers {stated}, not {}", words::WORDS));
     }
     match words {
+        ["audits"] => oracle::output(audits::lines().as_bytes()),
         ["faults", seed, count] => faults(number(seed)?, number(count)?),
         ["fault", name, kind, seed, count] => {
             let fault = FAULTS.into_iter().find(|fault| format!("{fault:?}") == *name).ok_or(USAGE)?;

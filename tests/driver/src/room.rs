@@ -3,6 +3,7 @@ use crate::altered::Base;
 use crate::calls::{Calls, Fault};
 use crate::lent::Lent;
 use crate::tally::Tally;
+use crate::tidied::Passes;
 use crate::words::WORDS;
 use oracle::guard::Guard;
 
@@ -25,6 +26,8 @@ pub struct Room {
     pub work: Lent<u32>,
     pub tray: Lent<u8>,
     pub tally: Tally,
+    /// Kinds `large` and `steps`: the rings as they were at their start.
+    pub passes: Passes,
     /// Kind `altered`: the work space that this row of cases starts from.
     pub base: Base,
     /// The present case's job, from a place in a longer slice on; and its calls and alterations in order, for the report.
@@ -41,6 +44,7 @@ impl Room {
             work: Lent::new(WORDS + 64, 0x5a5a_5a5a),
             tray: Lent::new(TRAY + 64, 0x5a),
             tally: Tally::default(),
+            passes: Passes::default(),
             base: Base::default(),
             paper: Vec::new(),
             at: 0,

@@ -4,6 +4,7 @@ use crate::model::{same_counts, same_forest, same_record, stray};
 use crate::open::open_job;
 use crate::plain;
 use crate::room::{expect, Room, Same, TRAY};
+use crate::tidied::Passes;
 use crate::words::*;
 use oracle::answer::Answer;
 use oracle::model::forest::Forest;
@@ -25,6 +26,7 @@ pub fn case(room: &mut Room, rng: &mut Rng) -> Same {
     };
     let mut model = forest(&opened);
     same_forest(room.work.get(), &model)?;
+    room.passes = Passes::opened(room.work.get())?;
     let whole = rng.one_in(8) || model.points <= FEW;
     let most = if whole { 8 * LONG } else { LONG / 4 };
     let rising = steps(room, rng, &mut model, most)?;
@@ -122,6 +124,7 @@ fn step(room: &mut Room, rng: &mut Rng, model: &mut Forest, number: u32) -> Resu
         return Ok(answer);
     };
     let record = number as usize;
+    room.passes.stepped(&before, w, record, &mut room.tally)?;
     if let Some(at) = stray(&before, w, record) {
         return Err(format!("a step on record {record} writes word {at}"));
     }

@@ -6,6 +6,7 @@ pub mod batch;
 pub mod cases;
 pub mod check;
 pub mod compare;
+pub mod fraction;
 pub mod gen;
 pub mod guard;
 pub mod job;

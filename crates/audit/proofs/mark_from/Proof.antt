@@ -1,6 +1,7 @@
 -- mark_from meets its contract: the loop follows `markFrom`, with `left` points to go.
 use mathlib.Core.Path.{_≡_, refl}
 use borrow.Author.Needs.{needs}
+use Rattle.job.specs.Limits as limit
 use Rattle.store.specs.Named.{pointsOf, nextOf}
 use Rattle.audit.specs.Marks.{markFrom}
 use Rattle.audit.proofs.Testing.{mark-out, mark-met, mark-on, mark-over}
@@ -8,7 +9,7 @@ use Rattle.audit.proofs.mark_from.Statement.{statement}
 use Rattle.audit.proofs.mark_from.Tie as tie
 
 abbrev Inv-loop : tie.InvT-loop
-Inv-loop w marks₀ a m p₀ left₀ marks p left = markFrom left (nextOf w) (pointsOf w) marks p ≡ markFrom 2048 (nextOf w) (pointsOf w) marks₀ a
+Inv-loop w marks₀ a m p₀ left₀ marks p left = markFrom left (nextOf w) (pointsOf w) marks p ≡ markFrom limit.POINTS (nextOf w) (pointsOf w) marks₀ a
 
 abbrev μ-loop : tie.MeasureT-loop
 μ-loop w marks₀ a m p₀ left₀ marks p left = left

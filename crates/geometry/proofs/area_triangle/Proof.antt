@@ -1,4 +1,4 @@
--- `geometry::area_triangle` meets its contract: three parts of 2 ^ 42 fit. Assumes nothing.
+-- `geometry::area_triangle` meets its contract: three parts of 2 ^ 42 fit.
 use borrow.Author.Needs.{needs}
 use Rattle.exact.proofs.Words.{held-64, held-add, fits-64}
 use Rattle.geometry.specs.Plane.{areaTriangle}

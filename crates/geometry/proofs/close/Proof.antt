@@ -1,4 +1,4 @@
--- `geometry::close` meets its contract. Assumes nothing.
+-- `geometry::close` meets its contract.
 use borrow.Author.Needs.{needs}
 use Rattle.geometry.proofs.Coordinates.{close-of}
 use Rattle.geometry.proofs.close.Statement.{statement}

@@ -1,4 +1,4 @@
--- `geometry::diff` meets its contract. Assumes nothing.
+-- `geometry::diff` meets its contract.
 use mir.Facts.{toZ-ofZ}
 use Rattle.exact.proofs.Words.{cast-wide, wide-is, sub-wide}
 use Rattle.geometry.proofs.diff.Statement.{statement}

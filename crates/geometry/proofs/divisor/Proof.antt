@@ -1,4 +1,4 @@
--- `geometry::divisor` meets its contract. Assumes nothing.
+-- `geometry::divisor` meets its contract.
 use mathlib.Core.Path.{refl}
 use Rattle.geometry.proofs.divisor.Statement.{statement}
 use Rattle.geometry.proofs.divisor.Tie as tie

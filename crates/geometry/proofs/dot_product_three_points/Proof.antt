@@ -1,4 +1,4 @@
--- `geometry::dot_product_three_points` meets its contract. Assumes nothing.
+-- `geometry::dot_product_three_points` meets its contract.
 use borrow.Author.Needs.{needs}
 use Rattle.exact.proofs.Words.{held-64, held-add, fits-64}
 use Rattle.geometry.specs.Plane.{dotProductThreePoints}

@@ -1,4 +1,4 @@
--- `geometry::edge_area` meets its contract. Assumes nothing.
+-- `geometry::edge_area` meets its contract.
 use borrow.Author.Needs.{needs}
 use Rattle.exact.proofs.Words.{held-is, held-64, held-mul, asked}
 use Rattle.geometry.proofs.Coordinates.{diff-of, sum-of}

@@ -1,5 +1,5 @@
--- `geometry::edge_pair` meets its contract. Assumes nothing.
-use Rattle.geometry.proofs.Edges.{edge-pair-of}
+-- `geometry::edge_pair` meets its contract.
+use Rattle.geometry.proofs.Differences.{edge-pair-of}
 use Rattle.geometry.proofs.edge_pair.Statement.{statement}
 use Rattle.geometry.proofs.edge_pair.Tie as tie
 

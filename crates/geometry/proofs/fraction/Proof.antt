@@ -1,4 +1,5 @@
--- `geometry::fraction` meets its contract. Assumes nothing.
+-- `geometry::fraction` meets its contract.
+use borrow.Author.Needs.{needs}
 use Rattle.geometry.specs.Floats.{fractionF}
 use Rattle.geometry.proofs.fraction.Statement.{statement}
 use Rattle.geometry.proofs.fraction.Tie as tie
@@ -11,4 +12,5 @@ fraction-spec =
     (λ c. rw (c .if1 .taken))
     (λ c. rw (c .before .if1 .left, c .if2 .taken))
     (λ c. rw (c .before .before .if1 .left, c .before .if2 .left, c .if3 .taken))
-    (λ c. rw (c .before .before .if1 .left, c .before .if2 .left, c .if3 .left)))
+    (λ c κs. search needs)
+    (λ c. rw (c .before .before .before .if1 .left, c .before .before .if2 .left, c .before .if3 .left, c .quotient .ensures)))

@@ -1,6 +1,6 @@
--- `geometry::get_segment_intersect_pt` meets its contract. Assumes nothing.
+-- `geometry::get_segment_intersect_pt` meets its contract.
 use borrow.Author.Needs.{needs}
-use Rattle.geometry.proofs.Crossings.{meets-of, point-crossing}
+use Rattle.geometry.proofs.Fractions.{crossing-of}
 use Rattle.geometry.proofs.get_segment_intersect_pt.Statement.{statement}
 use Rattle.geometry.proofs.get_segment_intersect_pt.Tie as tie
 
@@ -10,7 +10,6 @@ get-segment-intersect-pt-spec =
     (tie.spec
     (λ c κs. search needs)
     (λ c κs. search needs)
-    (λ c κs. let h = c .before .before .pre in meets-of (h .0) (h .1 .0) (h .1 .1 .0) (h .1 .1 .1) (c .before .edge-pair .ensures) (c .crossing-at .ensures))
-    (λ c.
-    let h = c .before .before .before .pre in
-    point-crossing (c .before .before .before .args .ip) (h .0) (h .1 .0) (h .1 .1 .0) (h .1 .1 .1) (c .before .before .edge-pair .ensures) (c .before .crossing-at .ensures) (c .point-on .ensures)))
+    (λ c κs. search needs)
+    (λ c κs. search needs)
+    (λ c. search (crossing-of)))

@@ -1,4 +1,4 @@
--- `geometry::is_collinear` meets its contract. Assumes nothing.
+-- `geometry::is_collinear` meets its contract.
 use borrow.Author.Needs.{needs}
 use Rattle.exact.proofs.Words.{held-eq}
 use Rattle.geometry.specs.Plane.{isCollinear}

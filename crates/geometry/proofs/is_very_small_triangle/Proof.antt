@@ -1,4 +1,4 @@
--- `geometry::is_very_small_triangle` meets its contract. Assumes nothing.
+-- `geometry::is_very_small_triangle` meets its contract.
 use borrow.Author.Needs.{needs}
 use Rattle.geometry.specs.Plane.{isVerySmallTriangle}
 use Rattle.geometry.proofs.is_very_small_triangle.Statement.{statement}

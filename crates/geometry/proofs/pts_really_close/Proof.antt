@@ -1,4 +1,4 @@
--- `geometry::pts_really_close` meets its contract. Assumes nothing.
+-- `geometry::pts_really_close` meets its contract.
 use borrow.Author.Needs.{needs}
 use Rattle.geometry.proofs.Coordinates.{both-close}
 use Rattle.geometry.proofs.pts_really_close.Statement.{statement}

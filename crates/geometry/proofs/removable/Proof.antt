@@ -1,4 +1,4 @@
--- `geometry::removable` meets its contract. Assumes nothing.
+-- `geometry::removable` meets its contract.
 use borrow.Author.Needs.{needs}
 use Rattle.geometry.proofs.Coordinates.{removable-of}
 use Rattle.geometry.proofs.removable.Statement.{statement}

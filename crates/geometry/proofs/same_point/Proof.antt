@@ -1,4 +1,4 @@
--- `geometry::same_point` meets its contract: equal bits are equal numbers. Assumes nothing.
+-- `geometry::same_point` meets its contract: equal bits are equal numbers.
 use Rattle.geometry.proofs.Coordinates.{same-of}
 use Rattle.geometry.proofs.same_point.Statement.{statement}
 use Rattle.geometry.proofs.same_point.Tie as tie

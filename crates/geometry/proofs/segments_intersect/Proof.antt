@@ -1,7 +1,6 @@
--- `geometry::segments_intersect` meets its contract. Assumes nothing.
+-- `geometry::segments_intersect` meets its contract.
 use borrow.Author.Needs.{needs}
-use mathlib.Core.Path.{_∙_}
-use Rattle.geometry.proofs.Edges.{pair-of}
+use Rattle.geometry.proofs.Differences.{parallel-of, intersect-of}
 use Rattle.geometry.proofs.segments_intersect.Statement.{statement}
 use Rattle.geometry.proofs.segments_intersect.Tie as tie
 
@@ -10,5 +9,9 @@ segments-intersect-spec =
     tie.close
     (tie.spec
     (λ c κs. search needs)
+    (λ c. search (parallel-of))
     (λ c κs. search needs)
-    (λ c. let h = c .before .before .pre in c .pair-intersects .ensures ∙ pair-of (h .0) (h .1 .0) (h .1 .1 .0) (h .1 .1 .1) (c .before .edge-pair .ensures)))
+    (λ c κs. search needs)
+    (λ c κs. search needs)
+    (λ c κs. search needs)
+    (λ c. search (intersect-of)))

@@ -1,4 +1,4 @@
--- `geometry::stepped` meets its contract. Assumes nothing.
+-- `geometry::stepped` meets its contract.
 use Rattle.geometry.proofs.Box.{stepped-range, stepped-cast, stepped-is}
 use Rattle.geometry.proofs.stepped.Statement.{statement}
 use Rattle.geometry.proofs.stepped.Tie as tie

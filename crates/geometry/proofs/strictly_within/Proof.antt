@@ -1,4 +1,4 @@
--- `geometry::strictly_within` meets its contract. Assumes nothing.
+-- `geometry::strictly_within` meets its contract.
 use Rattle.geometry.specs.Floats.{strictlyWithinF}
 use Rattle.geometry.proofs.strictly_within.Statement.{statement}
 use Rattle.geometry.proofs.strictly_within.Tie as tie

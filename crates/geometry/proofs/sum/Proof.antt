@@ -1,4 +1,4 @@
--- `geometry::sum` meets its contract. Assumes nothing.
+-- `geometry::sum` meets its contract.
 use mir.Facts.{toZ-ofZ}
 use Rattle.exact.proofs.Words.{cast-wide, wide-is, add-wide}
 use Rattle.geometry.proofs.sum.Statement.{statement}

@@ -1,4 +1,4 @@
--- `geometry::times` meets its contract: a product of 2 ^ 42 fits. Assumes nothing.
+-- `geometry::times` meets its contract: a product of 2 ^ 42 fits.
 use Rattle.exact.proofs.Words.{held-here, held-64, held-mul, fits-64}
 use Rattle.geometry.proofs.times.Statement.{statement}
 use Rattle.geometry.proofs.times.Tie as tie

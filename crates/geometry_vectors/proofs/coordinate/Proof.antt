@@ -1,4 +1,4 @@
--- `geometry_vectors::coordinate` meets its contract. Assumes nothing.
+-- `geometry_vectors::coordinate` meets its contract.
 use borrow.Author.Needs.{needs}
 use Rattle.exact.proofs.Words.{i64, held-here, held-32, fits-32, asked}
 use Rattle.geometry_vectors.proofs.Limits.{limited}

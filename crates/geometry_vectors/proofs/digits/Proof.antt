@@ -1,4 +1,4 @@
--- `geometry_vectors::digits` ends. Assumes nothing.
+-- `geometry_vectors::digits` ends.
 use borrow.Author.Needs.{needs}
 use Rattle.geometry_vectors.proofs.digits.Statement.{statement}
 use Rattle.geometry_vectors.proofs.digits.Tie as tie

@@ -1,4 +1,4 @@
--- `geometry_vectors::past_line` ends. Assumes nothing.
+-- `geometry_vectors::past_line` ends.
 use borrow.Author.Needs.{needs}
 use Rattle.geometry_vectors.proofs.past_line.Statement.{statement}
 use Rattle.geometry_vectors.proofs.past_line.Tie as tie

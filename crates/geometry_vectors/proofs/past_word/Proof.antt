@@ -1,4 +1,4 @@
--- `geometry_vectors::past_word` ends. Assumes nothing.
+-- `geometry_vectors::past_word` ends.
 use borrow.Author.Needs.{needs}
 use Rattle.geometry_vectors.proofs.past_word.Statement.{statement}
 use Rattle.geometry_vectors.proofs.past_word.Tie as tie

@@ -1,4 +1,4 @@
--- `geometry_vectors::run` ends. Assumes nothing.
+-- `geometry_vectors::run` ends.
 use borrow.Author.Needs.{needs}
 use Prim.Native.Nat.{_-_}
 use Rattle.geometry_vectors.proofs.run.Statement.{statement}

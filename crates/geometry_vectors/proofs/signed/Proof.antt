@@ -1,4 +1,4 @@
--- `geometry_vectors::signed` is safe: at most 18 digits can be negated. Assumes nothing.
+-- `geometry_vectors::signed` is safe: at most 18 digits can be negated.
 use borrow.Author.Needs.{needs}
 use Prim.Native.Nat.{zero-le}
 use native.Mathlib.Nat.{le-of-lt}

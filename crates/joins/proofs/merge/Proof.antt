@@ -1,12 +1,10 @@
 -- `joins::merge` meets its contract.
 use borrow.Author.Needs.{needs}
-use Rattle.joins.specs.Join.{mergeOf}
-use Rattle.joins.proofs.Turns.{pair-four, pair-long, pair-low-one, pair-low-two}
+use Rattle.joins.proofs.Turns.{pair-four, pair-long, pair-low-one, pair-low-two, merge-done}
 use Rattle.joins.proofs.merge.Statement.{statement}
 use Rattle.joins.proofs.merge.Tie as tie
 
 pub merge-spec : {M : Type 1} → statement M
-unfolding mergeOf
 merge-spec =
     tie.close
     (tie.spec
@@ -14,4 +12,4 @@ merge-spec =
     (λ c κs. search (needs, pair-long, pair-low-two))
     (λ c κs. search (needs, pair-long, pair-low-one, pair-low-two))
     (λ c. search needs)
-    (λ c. cc))
+    (λ c. search merge-done))

@@ -1,6 +1,7 @@
--- `rows::rows` meets its contract: one row after the other.
+-- `rows::rows` meets its contract: the first verdict's two cases.
+use mathlib.Core.Path.{sym, _∙_}
 use borrow.Author.Needs.{needs}
-use Rattle.rows.proofs.Judging.{row-4, row-5, row-6, row-7, row-8, passed, both-named}
+use Rattle.rows.proofs.Judging.{first-refused}
 use Rattle.rows.proofs.rows.Statement.{statement}
 use Rattle.rows.proofs.rows.Tie as tie
 
@@ -9,18 +10,10 @@ rows-spec =
     tie.close
     (tie.spec
     (λ c κs. search needs)
-    (λ c. search (needs, row-4))
-    (λ c κs. search needs)
-    (λ c. search (needs, row-5))
-    (λ c κs. search needs)
-    (λ c. search (needs, row-6))
     (λ c. search needs)
-    (λ c κs. search needs)
-    (λ c. search (needs, row-7))
+    (λ c κs. (c .before .before .before .before .before .before .pre, sym (c .before .before .first-rows .ensures) ∙ c .enum-told .given .1))
     (λ c. search needs)
-    (λ c κs.
-    let a = c .before .before .before .before .before .before .before in
-    let n = both-named (a .before .before .before .before .before .before .before .pre) _ (a .before .no-such-number .ensures) (a .if2 .left) _ (c .before .before .before .muddled .ensures .0) (c .before .if4 .left) in
-    (n .0, n .1, search needs))
-    (λ c. search (needs, row-8))
-    (λ c. search (needs, passed)))
+    (λ c. search needs)
+    (λ c.
+    let e = sym (c .before .before .before .first-rows .ensures) ∙ c .before .v .given .1 in
+    search first-refused))

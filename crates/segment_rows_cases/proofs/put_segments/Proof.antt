@@ -3,7 +3,6 @@ use Prim.Native.Nat.{_-_}
 use mathlib.Core.Path.{_≡_, refl}
 use lib.ListN.{length}
 use borrow.Author.Needs.{needs}
-use Rattle.segment_rows_cases.proofs.Answers.{even-kept}
 use Rattle.segment_rows_cases.proofs.put_segments.Statement.{statement}
 use Rattle.segment_rows_cases.proofs.put_segments.Tie as tie
 
@@ -22,7 +21,11 @@ put-segments-spec =
     (λ c. (refl, refl, refl, refl))
     (λ c. search needs)
     (λ c. search needs)
-    (λ c κs. (search needs, search needs, search even-kept))
+    (λ c κs. search needs)
+    (λ c κs. search needs)
+    (λ c κs. search needs)
+    (λ c κs. search needs)
+    (λ c κs. search needs)
     (λ c. search needs)
     (λ c. search needs)
     (λ c. (search needs, search needs, search needs, search needs))

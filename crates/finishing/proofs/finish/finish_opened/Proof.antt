@@ -1,7 +1,7 @@
 -- `finish_opened` meets its contract.
 use borrow.Author.Needs.{needs}
 use Rattle.finishing.proofs.Starting.{finishes}
-use Rattle.finishing.proofs.InOneCall.{may-write, rings-done, rings-full, rings-out}
+use Rattle.finishing.proofs.InOneCall.{may-write, rings-done, rings-full}
 use Rattle.finishing.proofs.finish.finish_opened.Statement.{statement}
 use Rattle.finishing.proofs.finish.finish_opened.Tie as tie
 
@@ -15,13 +15,8 @@ finish-opened-spec =
     (λ c. search needs)
     (λ c κs. search needs)
     (λ c. search needs)
-    (λ c κs. search needs)
-    (λ c. search needs)
     (λ c. search needs)
     (λ c. search rings-done)
     (λ c. search needs)
     (λ c. search needs)
-    (λ c. search rings-full)
-    (λ c. search needs)
-    (λ c. search needs)
-    (λ c. search rings-out))
+    (λ c. search rings-full))

@@ -4,6 +4,7 @@ use mathlib.Core.Bool.{false}
 use Prim.Native.Nat.{_-_, _≤_}
 use lib.ListN.{length}
 use borrow.Author.Needs.{needs}
+use Rattle.job.specs.Limits.{RECORDS}
 use Rattle.store.specs.Named.{recordsOf}
 use Rattle.audit.specs.Tests.{anyBelow}
 use Rattle.audit.proofs.Testing.{none, whole}
@@ -14,7 +15,7 @@ use Rattle.rows.proofs.owners.any_circle.Statement.{statement}
 use Rattle.rows.proofs.owners.any_circle.Tie as tie
 
 abbrev Inv-loop : tie.InvT-loop
-Inv-loop w n lengths₀ i₀ lengths i = (i ≤ recordsOf w) × (anyBelow i (circles w) ≡ false) × Lengths w lengths × (length lengths ≡ 512)
+Inv-loop w n lengths₀ i₀ lengths i = (i ≤ recordsOf w) × (anyBelow i (circles w) ≡ false) × Lengths w lengths × (length lengths ≡ RECORDS)
 
 abbrev μ-loop : tie.MeasureT-loop
 μ-loop w n lengths₀ i₀ lengths i = recordsOf w - i

@@ -2,14 +2,15 @@
 use borrow.Author.Needs.{needs}
 use native.Mathlib.Omega.{arith}
 use Prim.Native.Nat.{_-_, _≤_}
+use Rattle.job.specs.Limits.{POINTS}
 use Rattle.stepped.proofs.print.count.Statement.{statement}
 use Rattle.stepped.proofs.print.count.Tie as tie
 
 abbrev Inv-loop : tie.InvT-loop
-Inv-loop w a p₀ n₀ p n = n ≤ 2048
+Inv-loop w a p₀ n₀ p n = n ≤ POINTS
 
 abbrev μ-loop : tie.MeasureT-loop
-μ-loop w a p₀ n₀ p n = 2048 - n
+μ-loop w a p₀ n₀ p n = POINTS - n
 
 pub count-spec : {M : Type 1} → statement M
 count-spec =

@@ -1,6 +1,6 @@
 -- new_out_pt meets its contract.
 use borrow.Author.Needs.{needs}
-use Rattle.store.proofs.Taking.{made-point, no-point}
+use Rattle.store.proofs.Taking.{new-point}
 use Rattle.store.proofs.points.new_out_pt.Statement.{statement}
 use Rattle.store.proofs.points.new_out_pt.Tie as tie
 
@@ -12,6 +12,4 @@ new-out-pt-spec =
     (λ c κs. search needs)
     (λ c κs. search needs)
     (λ c. search needs)
-    (λ c. search made-point)
-    (λ c. search needs)
-    (λ c. search no-point))
+    (λ c. search new-point))

@@ -1,6 +1,6 @@
 -- `drop_point` meets its contract.
 use borrow.Author.Needs.{needs}
-use Rattle.turns.proofs.Applying.{next-low, prev-low, dropped}
+use Rattle.turns.proofs.Applying.{beside, went-low, dropped}
 use Rattle.turns.proofs.apply.drop_point.Statement.{statement}
 use Rattle.turns.proofs.apply.drop_point.Tie as tie
 
@@ -11,8 +11,9 @@ drop-point-spec =
     (λ c κs. search needs)
     (λ c κs. search needs)
     (λ c κs. search needs)
-    (λ c κs. search needs)
-    (λ c κs. search (next-low, prev-low, dropped, needs))
-    (λ c κs. search needs)
+    (λ c κs. beside _ _ _ _ _ (c .before .before .before .before .before .before .before .before .before .before .pre) (c .before .before .before .before .before .before .before .get .ensures .0) (c .before .before .before .fix-first .ensures))
+    (λ c κs.
+    let l = went-low _ _ _ _ _ (c .before .before .before .before .before .before .before .before .before .before .before .before .before .before .pre) (c .before .before .before .before .before .before .before .before .before .before .before .get .ensures .0) (c .before .before .before .before .before .before .before .fix-first .ensures) _ _ (c .before .before .before .dispose-out-pt .ensures) in
+    (search needs, search needs, l))
     (λ c. search needs)
-    (λ c. search (next-low, prev-low, dropped)))
+    (λ c. dropped _ _ _ _ _ (c .before .before .before .before .before .before .before .before .before .before .before .before .before .before .before .before .before .pre) (c .before .before .before .before .before .before .before .before .before .before .before .before .before .before .get .ensures .0) (c .before .before .before .before .before .before .before .before .before .before .fix-first .ensures) _ _ (c .before .before .before .before .before .before .dispose-out-pt .ensures) _ (c .before .before .before .before .before .before .before .before .before .before .before .before .get2 .ensures .0) (c .before .before .set-loop .ensures)))

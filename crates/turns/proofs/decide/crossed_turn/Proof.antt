@@ -1,6 +1,6 @@
 -- `crossed_turn` meets its contract.
 use borrow.Author.Needs.{needs}
-use Rattle.turns.proofs.Decisions.{doubles, splits}
+use Rattle.turns.proofs.Decisions.{twice-paired, doubles, splits}
 use Rattle.turns.proofs.decide.crossed_turn.Statement.{statement}
 use Rattle.turns.proofs.decide.crossed_turn.Tie as tie
 
@@ -11,6 +11,7 @@ crossed-turn-spec =
     (λ c κs. search needs)
     (λ c κs. search needs)
     (λ c κs. search needs)
+    (λ c κs. search (twice-paired, needs))
     (λ c κs. search needs)
     (λ c. search (doubles))
     (λ c κs. search needs)

@@ -1,6 +1,7 @@
 -- `crossing_of` meets its contract.
 use borrow.Author.Needs.{needs}
-use Rattle.turns.proofs.Decisions.{meets, crossed}
+use Rattle.geometry.proofs.Crossings.{meet-of}
+use Rattle.turns.proofs.Decisions.{crossed-parallel, crossed-start, crossed-end, crossed-inside}
 use Rattle.turns.proofs.decide.crossing_of.Statement.{statement}
 use Rattle.turns.proofs.decide.crossing_of.Tie as tie
 
@@ -9,5 +10,12 @@ crossing-of-spec =
     tie.close
     (tie.spec
     (λ c κs. search needs)
-    (λ c κs. search (meets, needs))
-    (λ c. search (crossed)))
+    (λ c. search needs)
+    (λ c. search (crossed-parallel))
+    (λ c. search needs)
+    (λ c. search (crossed-start))
+    (λ c. search needs)
+    (λ c. search (crossed-end))
+    (λ c. search needs)
+    (λ c κs. search (meet-of, needs))
+    (λ c. search (crossed-inside)))

@@ -1,6 +1,6 @@
 -- `takes_points` meets its contract.
 use borrow.Author.Needs.{needs}
-use Rattle.turns.proofs.Steps.{cut-taken}
+use Rattle.turns.proofs.Steps.{both-taken, put-taken, off-taken, none-taken}
 use Rattle.turns.proofs.step.takes_points.Statement.{statement}
 use Rattle.turns.proofs.step.takes_points.Tie as tie
 
@@ -15,11 +15,13 @@ takes-points-spec =
     (λ c. search needs)
     (λ c. search needs)
     (λ c. search needs)
-    (λ c κs. search needs)
+    (λ c. search (both-taken, needs))
+    (λ c. search (put-taken, needs))
+    (λ c. search (off-taken, needs))
+    (λ c. search (none-taken, needs))
     (λ c. search needs)
     (λ c. search needs)
     (λ c. search needs)
     (λ c. search needs)
     (λ c. search needs)
-    (λ c. search needs)
-    (λ c. search (cut-taken, needs)))
+    (λ c. search needs))

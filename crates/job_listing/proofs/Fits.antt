@@ -1,0 +1,60 @@
+-- A job's listing has at most `TEXT` bytes: so a program that lends as many always has room for it.
+use Prim.Native.Nat.{ℕ, _≤_}
+use mathlib.Core.Path.{_≡_, refl, sym, ap, _∙_, subst}
+use mathlib.Core.List.{List, _++_}
+use native.Mathlib.Omega.{arith}
+use lib.ListN.{length, take, drop, length-append, length-take, length-drop}
+use borrow.Author.Tests.{le-leb}
+use Rattle.job.specs.Refusal.{numberOf}
+use Rattle.store.specs.Words.{view}
+use Rattle.store.specs.Sound.{Sound}
+use Rattle.acts.specs.Finish.{RingsEnd, ringsDone, ringsFull}
+use Rattle.paths.specs.declared.Written.{Written}
+use Rattle.paths.specs.declared.Written.the-variants.{Paths, Refused}
+use Rattle.paths.specs.Wrote.{Wrote, wrote, buildPaths64}
+use Rattle.opening.specs.declared.open.Opened.the-variants.{Accepted}
+use Rattle.opening.specs.declared.open.Opened.the-variants as opened
+use Rattle.opening.specs.Open.{End, end, openOf}
+use Rattle.finishing.specs.Opened.{OpeningLeft}
+use Rattle.finishing.specs.Finish.{finishRings}
+use Rattle.finishing.specs.InOneCall.{Finished, afterWriting, afterSteps, afterOpening, finishOf}
+use Rattle.finishing.proofs.InOneCall.{done-ready, opening-left}
+use Rattle.listing.specs.declared.Listed.{Listed}
+use Rattle.listing.specs.declared.Listed.the-variants.{Bytes}
+use Rattle.listing.specs.Lines.{TEXT}
+use Rattle.listing.specs.Told.{Told, told, answerAt, tell, Whole}
+use Rattle.listing.proofs.Answers.{written-out}
+use Rattle.listing.proofs.Room.{listing-le, refusal-le}
+use Rattle.job_listing.specs.Cutlist.{listedAs, listedFrom, cutlistOf, ListedJob, listedJob, listJobOf}
+
+module _ (t : List ℕ) where
+  after-writing : (w : List ℕ) → Sound (view w) → (r : Written) (u : List ℕ) → wrote r u ≡ buildPaths64 (view w) t → length (listedFrom (afterWriting w r u)) ≤ TEXT
+  after-writing w s (Paths c o) u e = let p = written-out (view w) c o t u e in rw (p .closed, p .opened, p .tray) (listing-le (view w) s (length t))
+  after-writing w s (Refused x) u e = refusal-le (numberOf x)
+
+  after-steps : (w : List ℕ) → OpeningLeft w → (r : RingsEnd) → finishRings w ≡ r → length (listedFrom (afterSteps r t)) ≤ TEXT
+  after-steps w l (ringsDone w₁) e = after-writing w₁ (done-ready w w₁ l e .sound) (buildPaths64 (view w₁) t .answer) (buildPaths64 (view w₁) t .tray) refl
+  after-steps w l (ringsFull w₁) e = refusal-le 10
+
+  pub cutlist-fits : (bytes : List ℕ) (n : ℕ) → length (cutlistOf bytes n t) ≤ TEXT
+  unfolding cutlistOf finishOf
+  cutlist-fits bytes n = go (openOf bytes n) refl
+    where
+      go : (r : End) → openOf bytes n ≡ r → length (listedFrom (afterOpening r t)) ≤ TEXT
+      go (end Accepted w) h = after-steps w (opening-left bytes n w h) (finishRings w) refl
+      go (end (opened.Refused x) w) h = refusal-le (numberOf x)
+
+-- the text that is told in a slice of so many bytes is told whole
+tell-whole : (text out : List ℕ) → length text ≤ length out → Whole (tell text out .answer) (length (tell text out .out))
+unfolding tell
+tell-whole text out h =
+    rw (le-leb (length text) (length out) h)
+    (omega (arith, length-append (take (length out) text) (drop (length text) out), length-take (length out) text, length-drop (length text) out))
+
+-- so `list_job` never answers that there is no room
+pub listed-whole : (bytes : List ℕ) (n : ℕ) (t w′ t′ out out′ : List ℕ) (a : Listed) → TEXT ≤ length out → listedJob (told a out′) w′ t′ ≡ listJobOf bytes n t out → Whole a (length out′)
+unfolding listJobOf cutlistOf
+listed-whole bytes n t w′ t′ out out′ a h e =
+    let f : Finished = finishOf bytes n t in
+    subst (λ (x : Told). Whole (x .answer) (length (x .out))) (sym (ap (λ (x : ListedJob). x .text) e))
+    (tell-whole (listedFrom f) out (omega (arith, h, cutlist-fits t bytes n)))

@@ -1,0 +1,63 @@
+-- Document 01's listing in one piece, by computing: the job's bytes give the three lines.
+use Prim.Native.Nat.{ℕ}
+use mathlib.Core.Path.{_≡_, refl}
+use mathlib.Core.List.{List, [], _∷_, _++_}
+use lib.Ieee.{toSigned, add, ofInt, mul}
+use lib.ListN.{replicate}
+use Rattle.geometry.specs.Plane.{samePoint, isCollinear, dotProductThreePoints, areaTriangle, areaOutpt, ptsReallyClose, isVerySmallTriangle, removable, strictlyWithin, segmentsIntersect}
+use Rattle.geometry.specs.Crossing.{fractionOf, crossing, coordinateAt, getSegmentIntersectPt}
+use Rattle.job.specs.Field.{bodyOf, fieldOf}
+use Rattle.rings.specs.Walk as walk
+use Rattle.lone.specs.Lone.{removalTurn, doSplitOp, splitTurn, decide, actOf}
+use Rattle.lone.specs.Path.{buildPath64FromOutpt}
+use Rattle.store.specs.Field.{LENGTH}
+use Rattle.store.specs.Words.{cell, put}
+use Rattle.store.specs.Value.{wordOf}
+use Rattle.audit.specs.Tests.{anyBelow}
+use Rattle.reading.specs.Fill.{turnOf, run, fillOf}
+use Rattle.reading.specs.Read.{readOf}
+use Rattle.rows.specs.Owners.{endsIn, findIn}
+use Rattle.rows.specs.Rings.{anyIn}
+use Rattle.rows.specs.Rows.{rowsOf}
+use Rattle.accepting.specs.Accept.{acceptOf}
+use Rattle.sorting.specs.Sorted.{sorted}
+use Rattle.converting.specs.Make.{outerFrom, sortedSegments, pairsOf, convertHorzSegsToJoins}
+use Rattle.segments.specs.Update.{updateFrom, segmentsOf}
+use Rattle.joins.specs.Join.{joinsFrom}
+use Rattle.opening.specs.Start.{startRing, startTo, startRings}
+use Rattle.opening.specs.Open.{stagesOf, openOf}
+use Rattle.acts.specs.Step.{answerS, stepW}
+use Rattle.acts.specs.Finish.{finishRecord, finishW}
+use Rattle.paths.specs.Path.{pointAt, pathAt, pathIf}
+use Rattle.paths.specs.Tray.{pointBytes, pathField, fieldsOf}
+use Rattle.paths.specs.Wrote.{buildPaths64}
+use Rattle.finishing.specs.Finish.{finishRings}
+use Rattle.finishing.specs.InOneCall.{finishOf}
+use Rattle.listing.specs.Text.{digits}
+use Rattle.listing.specs.Fields.{pointIn}
+use Rattle.listing.specs.Lines.{listingOf}
+use Rattle.job_listing.specs.Cutlist.{cutlistOf}
+
+-- "settings 0, points (0,0) (10,10) (10,0) (0,12) linked in that order, all of record 0, closed, no owner, first point 0"
+abbrev job : List ℕ
+job =
+    (1 ∷ 1 ∷ 0 ∷ 0 ∷ [])
+    ++ (2 ∷ 14 ∷ 0 ∷ 0 ∷ 0 ∷ 0 ∷ 0 ∷ 0 ∷ 0 ∷ 0 ∷ 0 ∷ 1 ∷ 0 ∷ 3 ∷ 0 ∷ 0 ∷ 0 ∷ [])
+    ++ (2 ∷ 14 ∷ 0 ∷ 10 ∷ 0 ∷ 0 ∷ 0 ∷ 10 ∷ 0 ∷ 0 ∷ 0 ∷ 2 ∷ 0 ∷ 0 ∷ 0 ∷ 0 ∷ 0 ∷ [])
+    ++ (2 ∷ 14 ∷ 0 ∷ 10 ∷ 0 ∷ 0 ∷ 0 ∷ 0 ∷ 0 ∷ 0 ∷ 0 ∷ 3 ∷ 0 ∷ 1 ∷ 0 ∷ 0 ∷ 0 ∷ [])
+    ++ (2 ∷ 14 ∷ 0 ∷ 0 ∷ 0 ∷ 0 ∷ 0 ∷ 12 ∷ 0 ∷ 0 ∷ 0 ∷ 0 ∷ 0 ∷ 2 ∷ 0 ∷ 0 ∷ 0 ∷ [])
+    ++ (3 ∷ 5 ∷ 0 ∷ 0 ∷ 255 ∷ 255 ∷ 0 ∷ 0 ∷ [])
+
+-- closed 2 open 0
+-- piece 3 60 5,5 0,12 0,0
+-- hole 3 -50 10,10 10,0 5,5
+abbrev text : List ℕ
+text =
+    (99 ∷ 108 ∷ 111 ∷ 115 ∷ 101 ∷ 100 ∷ 32 ∷ 50 ∷ 32 ∷ 111 ∷ 112 ∷ 101 ∷ 110 ∷ 32 ∷ 48 ∷ 10 ∷ [])
+    ++ (112 ∷ 105 ∷ 101 ∷ 99 ∷ 101 ∷ 32 ∷ 51 ∷ 32 ∷ 54 ∷ 48 ∷ 32 ∷ 53 ∷ 44 ∷ 53 ∷ 32 ∷ 48 ∷ 44 ∷ 49 ∷ 50 ∷ 32 ∷ 48 ∷ 44 ∷ 48 ∷ 10 ∷ [])
+    ++ (104 ∷ 111 ∷ 108 ∷ 101 ∷ 32 ∷ 51 ∷ 32 ∷ 45 ∷ 53 ∷ 48 ∷ 32 ∷ 49 ∷ 48 ∷ 44 ∷ 49 ∷ 48 ∷ 32 ∷ 49 ∷ 48 ∷ 44 ∷ 48 ∷ 32 ∷ 53 ∷ 44 ∷ 53 ∷ 10 ∷ [])
+
+-- in a tray that holds sevens
+pub paper : cutlistOf job LENGTH (replicate 64 7) ≡ text
+unfolding cutlistOf finishOf openOf stagesOf acceptOf readOf fillOf run turnOf fieldOf bodyOf rowsOf endsIn findIn anyIn walk.run anyBelow cell put convertHorzSegsToJoins pairsOf sortedSegments segmentsOf updateFrom sorted outerFrom joinsFrom startRings startTo startRing finishRings finishW finishRecord answerS stepW wordOf samePoint isCollinear dotProductThreePoints areaTriangle areaOutpt ptsReallyClose isVerySmallTriangle removable strictlyWithin segmentsIntersect fractionOf crossing coordinateAt getSegmentIntersectPt removalTurn doSplitOp splitTurn decide actOf buildPath64FromOutpt pointAt pathAt pathIf pointBytes pathField fieldsOf buildPaths64 toSigned add ofInt mul listingOf digits pointIn
+paper = refl

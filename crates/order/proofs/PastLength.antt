@@ -1,0 +1,99 @@
+-- A step and writing out on a work space that is longer than it must be: as without the words past the fixed length.
+use Prim.Native.Nat.{ℕ, zero, suc, _*_, _≤_}
+use mathlib.Core.Path.{_≡_, refl, ap, _∙_, sym, fun-ext}
+use mathlib.Core.Bool.{Bool, cond, not, _&&_, _||_}
+use mathlib.Core.List.{List, _++_}
+use native.Mathlib.Omega.{arith}
+use lib.Dec.{eqb, ltb}
+use lib.ListN.{length, length-append}
+use Rattle.job.specs.Limits as limit
+use Rattle.job.specs.declared.refusal.Refusal.the-variants.{OutOfTurn, Crowded, OffTheTable, NoSuch, Loose, Muddled}
+use Rattle.store.specs.Field.{pt, rc, ct, X, Y, NEXT, PREV, REC, OWNER, FIRST, MARK, PRESENT, POINTS, RECORDS, LENGTH}
+use Rattle.store.specs.Sound.{ringless, ringAt, isOpen}
+use Rattle.store.specs.Value.{preserveCollinear}
+use Rattle.store.specs.Words.{Store, view}
+use Rattle.audit.specs.declared.Verdict.{Verdict}
+use Rattle.audit.specs.declared.Verdict.the-variants as verdict
+use Rattle.audit.specs.Tests.{isIn, anyBelow, reach, reachedBy, namesNothing, testsOf}
+use Rattle.audit.proofs.Agreeing.{passed-sound}
+use Rattle.acts.proofs.Beyond.{view-more, step-more}
+use Rattle.acts.specs.Step.{answerS, stepW}
+use Rattle.paths.specs.declared.Written.the-variants as written
+use Rattle.paths.specs.Wrote.{wrote, buildPaths64}
+use Rattle.turns.specs.Form.{raised, geometryOf}
+use Rattle.turns.proofs.Ready.{laws}
+use Rattle.finishing.specs.declared.Stepped.the-variants.{Refused}
+use Rattle.finishing.specs.Step.{Left, left, steppedAs, stepBy, stepOf}
+use Rattle.finishing.specs.Write.{anyLive, writeBy, writeOf}
+use Rattle.finishing.proofs.Entering.{long-step, long-write}
+use Rattle.order.specs.PastLength.{PastLength}
+
+-- ---- the tests read the store only
+
+-- the points reached, from the store and those reached before
+abbrev further : Store → List ℕ → ℕ → List ℕ
+further s seen i = reach limit.POINTS (s (pt NEXT)) (s (ct POINTS) 0) seen (s (rc FIRST) i)
+
+reached-same : (w v : List ℕ) → view w ≡ view v → (i : ℕ) → reachedBy w i ≡ reachedBy v i
+unfolding reachedBy
+reached-same w v e zero = refl
+reached-same w v e (suc i) = ap (λ (s : Store). further s (reachedBy w i) i) e ∙ ap (λ (l : List ℕ). further (view v) l i) (reached-same w v e i)
+
+-- the tests, by the store and the points reached
+abbrev testsIn : Store → (ℕ → List ℕ) → Verdict
+testsIn s reached =
+    let any : (ℕ → Bool) → Bool = λ (q : ℕ → Bool). anyBelow (s (ct POINTS) 0) (λ (k : ℕ). isIn k (reached (s (ct RECORDS) 0)) && q k) in
+    let every : (ℕ → Bool) → Bool = λ (q : ℕ → Bool). anyBelow (s (ct RECORDS) 0) q in
+    cond (ltb limit.POINTS (s (ct POINTS) 0) || ltb limit.RECORDS (s (ct RECORDS) 0)) (verdict.Refused Crowded)
+    (cond (any (λ (k : ℕ). ltb (2 * limit.COORDINATE) (s (pt X) k) || ltb (2 * limit.COORDINATE) (s (pt Y) k))) (verdict.Refused OffTheTable)
+    (cond (any (λ (k : ℕ). not (ltb (s (pt NEXT) k) (s (ct POINTS) 0)) || (not (ltb (s (pt PREV) k) (s (ct POINTS) 0)) || not (ltb (s (pt REC) k) (s (ct RECORDS) 0)))) || every (λ (i : ℕ). namesNothing (s (ct RECORDS) 0) (s (rc OWNER) i) || namesNothing (s (ct POINTS) 0) (s (rc FIRST) i))) (verdict.Refused NoSuch)
+    (cond (any (λ (k : ℕ). not (eqb (s (pt NEXT) (s (pt PREV) k)) k) || not (eqb (s (pt PREV) (s (pt NEXT) k)) k))) (verdict.Refused Loose)
+    (cond (every (λ (i : ℕ). isIn (s (rc FIRST) i) (reached i)) || every (λ (i : ℕ). not (ringless s i) && not (isOpen s i) && (ltb 4 (s (rc MARK) i) || (ltb (s (rc MARK) i) 4 && not (isIn (s (rc PRESENT) i) (ringAt s i)))))) (verdict.Refused Muddled) verdict.Passed))))
+
+tests-are : (w : List ℕ) → testsOf w ≡ testsIn (view w) (reachedBy w)
+unfolding testsOf
+tests-are w = refl
+
+tests-same : (w v : List ℕ) → view w ≡ view v → testsOf w ≡ testsOf v
+tests-same w v e =
+    tests-are w
+    ∙ ap (λ (s : Store). testsIn s (reachedBy w)) e
+    ∙ ap (testsIn (view v)) (fun-ext (reached-same w v e))
+    ∙ sym (tests-are v)
+
+module _ (v m : List ℕ) (n : length v ≡ LENGTH) where
+  long : LENGTH ≤ length v
+  long = omega arith
+
+  longer : LENGTH ≤ length (v ++ m)
+  longer = omega (arith, length-append v m)
+
+  same-tests : testsOf (v ++ m) ≡ testsOf v
+  same-tests = tests-same (v ++ m) v (view-more m v long)
+
+  steps : (i : ℕ) → stepOf (v ++ m) i ≡ left (stepOf v i .answer) (stepOf v i .words ++ m)
+  steps i =
+      long-step (v ++ m) i longer
+      ∙ ap (λ (t : Verdict). stepBy t (v ++ m) i) same-tests
+      ∙ by (testsOf v) refl
+      ∙ ap (λ (l : Left). left (l .answer) (l .words ++ m)) (sym (long-step v i long))
+    where
+      by : (t : Verdict) → testsOf v ≡ t → stepBy t (v ++ m) i ≡ left (stepBy t v i .answer) (stepBy t v i .words ++ m)
+      by (verdict.Refused r) e = refl
+      by verdict.Passed e =
+          ap (λ (s : Store). left (steppedAs (answerS (geometryOf s) raised s i)) (stepW (geometryOf s) raised (v ++ m) i)) (view-more m v long)
+          ∙ ap (left (steppedAs (answerS (geometryOf (view v)) raised (view v) i))) (step-more m raised v long i (geometryOf (view v)) (laws (preserveCollinear (view v))) (passed-sound v e))
+
+  writings : (t : List ℕ) → writeOf (v ++ m) t ≡ writeOf v t
+  writings t =
+      long-write (v ++ m) t longer
+      ∙ ap (λ (x : Verdict). writeBy x (v ++ m) t) same-tests
+      ∙ by (testsOf v)
+      ∙ sym (long-write v t long)
+    where
+      by : (x : Verdict) → writeBy x (v ++ m) t ≡ writeBy x v t
+      by (verdict.Refused r) = refl
+      by verdict.Passed = ap (λ (s : Store). cond (anyLive s) (wrote (written.Refused OutOfTurn) t) (buildPaths64 s t)) (view-more m v long)
+
+pub past-length : PastLength
+past-length = record { steps = steps; writings = writings }

@@ -1,0 +1,2 @@
+-- The starred bench examples hold.
+pub mod Rows

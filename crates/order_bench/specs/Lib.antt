@@ -1,0 +1,2 @@
+-- The starred bench examples.
+pub mod Bench

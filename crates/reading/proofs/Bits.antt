@@ -1,0 +1,124 @@
+-- Row 2 has passed: of a job that was read the settings and every record's flags use bits 0 and 1 only.
+use Prim.Native.Nat.{ℕ, zero, suc, _+_, _≤_, _<_}
+use mathlib.Core.Path.{_≡_, refl, ap, _∙_, sym, subst}
+use mathlib.Core.Bool.{Bool, true, false, cond}
+use mathlib.Core.List.{List, [], _∷_}
+use native.Mathlib.Omega.{arith}
+use native.Mathlib.Decide.{ℕ-discrete}
+use lib.Dec.{eqb, ltb}
+use lib.ListN.{length, drop}
+use borrow.Author.Tests.{eq-eqb, ne-eqb, ltb-false}
+use Rattle.job.specs.Field.{HEADER, fieldIn, valueOf, sizeOf, tornHeader, strangeTag, tornValue, strangeBits, crowded, tagOf, kindOf, bodyOf, fieldOf}
+use Rattle.job.specs.Job.{fresh, past, Within}
+use Rattle.job.specs.declared.Job.{Job}
+use Rattle.job.specs.declared.refusal.Refusal.the-variants.{Torn, Strange, Crowded}
+use Rattle.job.specs.declared.field.Kind.{Kind}
+use Rattle.job.specs.declared.field.Kind.the-variants as kind
+use Rattle.job.specs.declared.field.Field.{Field}
+use Rattle.job.specs.declared.field.Field.the-variants.{Settings, Point, Record, Segment, Join}
+use Rattle.job.specs.declared.field.Reading.{Reading}
+use Rattle.job.specs.declared.field.Reading.the-variants as reading
+use Rattle.job.proofs.Accepted.{passed, accepted}
+use Rattle.store.specs.Field.{pt, rc, ct, X, Y, NEXT, PREV, REC, FLAGS, OWNER, FIRST, SETTINGS, POINTS, RECORDS, LENGTH}
+use Rattle.store.specs.Words.{Store, view, Write, write, onWords, onStore}
+use Rattle.store.specs.Named.{settingsOf, recordsOf}
+use Rattle.store.proofs.Storing.{view-writes, length-writes}
+use Rattle.reading.specs.declared.fill.Outcome.the-variants.{State, Refused}
+use Rattle.reading.specs.Fill.{End, end, placed, taken, turnOf, follow, run, fillOf, Room}
+use Rattle.reading.proofs.Placing.{has-room}
+use Rattle.reading.specs.Read.{counted, withCounts, readOf, Bits}
+
+-- a field that was read has no unused bit set
+bits-body : (k : Kind) (j : Job) (s : List ℕ) (f : Field) (n : ℕ) → bodyOf k j s ≡ reading.Read f n → strangeBits f ≡ false
+unfolding bodyOf
+bits-body k j s f n e =
+    let g = fieldIn k (valueOf s) in
+    let full = cond (crowded k j) (reading.Refused Crowded) (reading.Read g (HEADER + sizeOf k)) in
+    let a = passed (tornValue k s) Torn (cond (strangeBits g) (reading.Refused Strange) full) f n e in
+    let b = passed (strangeBits g) Strange full f n (a .1) in
+    let d = passed (crowded k j) Crowded (reading.Read g (HEADER + sizeOf k)) f n (b .1) in
+    let i : g ≡ f = cc (d .1) in
+    subst (λ (x : Field). strangeBits x ≡ false) i (b .0)
+
+bits-read : (j : Job) (s : List ℕ) (f : Field) (n : ℕ) → fieldOf j s ≡ reading.Read f n → strangeBits f ≡ false
+unfolding fieldOf
+bits-read j s f n e =
+    let a = passed (tornHeader s) Torn (cond (strangeTag (j .last) (tagOf s)) (reading.Refused Strange) (bodyOf (kindOf (tagOf s)) j s)) f n e in
+    let b = passed (strangeTag (j .last) (tagOf s)) Strange (bodyOf (kindOf (tagOf s)) j s) f n (a .1) in
+    bits-body (kindOf (tagOf s)) j s f n (b .1)
+
+-- what reading keeps from field to field
+record Tame (j : Job) (w : List ℕ) : Type 0 where
+  bits : j .bits ≤ 3
+  flags : (i : ℕ) → i < j .records → view w (rc FLAGS) i ≤ 3
+  long : LENGTH ≤ length w
+
+abbrev TameEnd : End → Type 0
+TameEnd (end (State j) w ss js) = Tame j w
+TameEnd (end (Refused r) w ss js) = Unit {0}
+
+module _ (j : Job) (w ss js : List ℕ) (t : Tame j w) where
+  tame-placed : (f : Field) (n : ℕ) → Room f j → strangeBits f ≡ false → TameEnd (placed f n j w ss js)
+  tame-placed (Settings b) n l c = record { bits = ltb-false 3 b c; flags = t .flags; long = t .long }
+  tame-placed (Point x y nx pv r) n l c =
+      let i = j .points in
+      let xs = write (pt X) i x ∷ write (pt Y) i y ∷ write (pt NEXT) i nx ∷ write (pt PREV) i pv ∷ write (pt REC) i r ∷ [] in
+      let v : view (onWords w xs) ≡ onStore (view w) xs = view-writes w xs (t .long) (l, (l, (l, (l, (l, tt))))) in
+      record { bits = t .bits; flags = λ k h. omega (arith, ap (λ (z : Store). z (rc FLAGS) k) v, t .flags k h); long = omega (arith, t .long, length-writes w xs) }
+  tame-placed (Record b o p) n l c =
+      let i = j .records in
+      let xs = write (rc FLAGS) i b ∷ write (rc OWNER) i o ∷ write (rc FIRST) i p ∷ [] in
+      let v : view (onWords w xs) ≡ onStore (view w) xs = view-writes w xs (t .long) (l, (l, (l, tt))) in
+      record { bits = t .bits; flags = λ k h. subst (λ (z : Store). z (rc FLAGS) k ≤ 3) (sym v) (one i k b h (ltb-false 3 b c) (ℕ-discrete k i)); long = omega (arith, t .long, length-writes w xs) }
+    where
+      one : (i k b : ℕ) → k < j .records + 1 → b ≤ 3 → Dec (k ≡ i) → cond (eqb k (j .records)) b (view w (rc FLAGS) k) ≤ 3
+      one i k b h l d = go (ℕ-discrete k (j .records))
+        where
+          go : Dec (k ≡ j .records) → cond (eqb k (j .records)) b (view w (rc FLAGS) k) ≤ 3
+          go (yes e) = rw (eq-eqb k (j .records) e) l
+          go (no e) = rw (ne-eqb k (j .records) e) (t .flags k (omega arith))
+  tame-placed (Segment p) n l c = record { bits = t .bits; flags = t .flags; long = t .long }
+  tame-placed (Join a′ b′) n l c = record { bits = t .bits; flags = t .flags; long = t .long }
+
+  tame-turn : (bytes : List ℕ) → TameEnd (turnOf bytes j w ss js)
+  unfolding turnOf
+  tame-turn bytes = go (fieldOf j (drop (j .at) bytes)) refl
+    where
+      go : (r : Reading) → fieldOf j (drop (j .at) bytes) ≡ r → TameEnd (taken r j w ss js)
+      go (reading.Read f n) e = tame-placed f n (has-room j (drop (j .at) bytes) f n (accepted j (drop (j .at) bytes) f n e)) (bits-read j (drop (j .at) bytes) f n e)
+      go (reading.Refused x) e = tt
+
+tame-run : (k : ℕ) (bytes : List ℕ) (j : Job) (w ss js : List ℕ) → Tame j w → TameEnd (run k bytes j w ss js)
+unfolding run
+tame-run zero bytes j w ss js t = tt
+tame-run (suc k) bytes j w ss js t = by (ltb (j .at) (length bytes)) (turnOf bytes j w ss js) (tame-turn j w ss js t bytes) (λ i v ts ks u. tame-run k bytes i v ts ks u)
+  where
+    on : (T : End) → TameEnd T → ((i : Job) (v ts ks : List ℕ) → Tame i v → TameEnd (run k bytes i v ts ks)) → TameEnd (follow (run k bytes) T)
+    on (end (State i) v ts ks) u r = r i v ts ks u
+    on (end (Refused x) v ts ks) u r = tt
+
+    by : (b : Bool) (T : End) → TameEnd T → ((i : Job) (v ts ks : List ℕ) → Tame i v → TameEnd (run k bytes i v ts ks)) → TameEnd (cond b (follow (run k bytes) T) (end (State j) w ss js))
+    by true T u r = on T u r
+    by false T u r = t
+
+tame-fill : (bytes w ss js : List ℕ) → LENGTH ≤ length w → TameEnd (fillOf bytes w ss js)
+unfolding fillOf
+tame-fill bytes w ss js l = go (eqb (length bytes) 0)
+  where
+    go : (b : Bool) → TameEnd (cond b (end (Refused Strange) w ss js) (run (suc (length bytes)) bytes fresh w ss js))
+    go true = tt
+    go false = tame-run (suc (length bytes)) bytes fresh w ss js (record { bits = omega arith; flags = λ i h. absurd (omega arith); long = l })
+
+pub bits-of : (bytes w ss js : List ℕ) → LENGTH ≤ length w → (j : Job) (v ts ks : List ℕ) → readOf bytes w ss js ≡ end (State j) v ts ks → Bits v
+unfolding readOf
+bits-of bytes w ss js l j v ts ks e = go (fillOf bytes w ss js) (tame-fill bytes w ss js l) e
+  where
+    go : (T : End) → TameEnd T → withCounts T ≡ end (State j) v ts ks → Bits v
+    go (end (State i) u us ls) t d =
+        let b : counted i u ≡ v = cc (d) in
+        let xs = write (ct SETTINGS) 0 (i .bits) ∷ write (ct POINTS) 0 (i .points) ∷ write (ct RECORDS) 0 (i .records) ∷ [] in
+        let c : view (onWords u xs) ≡ onStore (view u) xs = view-writes u xs (t .long) (omega arith, (omega arith, (omega arith, tt))) in
+        let p : settingsOf (counted i u) ≡ i .bits = ap (λ (z : Store). z (ct SETTINGS) 0) c in
+        let q : recordsOf (counted i u) ≡ i .records = ap (λ (z : Store). z (ct RECORDS) 0) c in
+        subst Bits b (record { settings = omega (arith, p, t .bits); flags = λ k h. omega (arith, ap (λ (z : Store). z (rc FLAGS) k) c, t .flags k (omega (arith, q))) })
+    go (end (Refused x) u us ls) t d = absurd (let z : _≡_ {A = ℕ} 0 1 = cc in omega arith)

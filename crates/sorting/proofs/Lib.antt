@@ -1,0 +1,3 @@
+-- Laws of the sort of level segments.
+pub mod Stable
+pub mod Sinking

@@ -1,0 +1,2 @@
+-- Definition of the sort of level segments.
+pub mod Sorted

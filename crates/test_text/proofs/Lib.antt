@@ -1,0 +1,2 @@
+-- Laws of places past the end.
+pub mod Past

@@ -1,0 +1,2 @@
+-- Definitions of the test programs' reading.
+pub mod Places

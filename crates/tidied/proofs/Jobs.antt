@@ -1,0 +1,12 @@
+-- Request 6, of every job that opening accepts: the work space that it leaves.
+use Prim.Native.Nat.{ℕ}
+use mathlib.Core.Path.{_≡_}
+use mathlib.Core.List.{List}
+use Rattle.opening.specs.declared.open.Opened.the-variants.{Accepted}
+use Rattle.opening.specs.Open.{end, openOf}
+use Rattle.finishing.proofs.InOneCall.{opening-left}
+use Rattle.tidied.specs.Tidied.{NothingLeft}
+use Rattle.tidied.proofs.Theorem.{nothing-left}
+
+pub of-job : (bytes : List ℕ) (n : ℕ) (w : List ℕ) → openOf bytes n ≡ end Accepted w → NothingLeft w
+of-job bytes n w e = nothing-left w (opening-left bytes n w e)

@@ -1,0 +1,97 @@
+//! The rings that a work space holds: docs/WORKSPACE.md's layout, read here and nowhere else.
+
+const HEAD: usize = 16;
+const POINTS: usize = 2_048;
+const RECORDS: usize = 512;
+/// How far a coordinate's word is raised.
+const RAISED: i32 = 1_048_576;
+const NONE: usize = 65_535;
+
+/// The columns of a point and of a record, in their order.
+enum Point {
+    X,
+    Y,
+    Next,
+}
+enum Record {
+    Flags = 0,
+    First = 2,
+    Mark = 3,
+    Present = 4,
+    Cut = 6,
+}
+
+/// A record's ring: its points from the first in walk order, and how far it is.
+#[derive(Clone, Debug, Default, PartialEq)]
+pub struct Ring {
+    pub open: bool,
+    /// The step due: 0 validity test, 1 removal turn, 2 triangle test, 3 split turn; 4 done.
+    pub due: u32,
+    /// Where on the ring its loop is.
+    pub present: usize,
+    /// The record that it was cut from.
+    pub cut_from: Option<usize>,
+    pub points: Vec<(i32, i32)>,
+}
+
+fn of_point(work: &[u32], column: Point, point: usize) -> usize {
+    work[HEAD + POINTS * column as usize + point] as usize
+}
+
+fn of_record(work: &[u32], column: Record, record: usize) -> usize {
+    work[HEAD + POINTS * 5 + RECORDS * column as usize + record] as usize
+}
+
+fn place(work: &[u32], point: usize) -> (i32, i32) {
+    (of_point(work, Point::X, point) as i32 - RAISED, of_point(work, Point::Y, point) as i32 - RAISED)
+}
+
+/// How many records are in use.
+pub fn records(work: &[u32]) -> usize {
+    work[2] as usize
+}
+
+/// The ring of a record in a work space that the library left.
+pub fn ring(work: &[u32], record: usize) -> Ring {
+    let first = of_record(work, Record::First, record);
+    let cut = of_record(work, Record::Cut, record);
+    let mut ring = Ring {
+        open: of_record(work, Record::Flags, record) & 1 == 1,
+        due: of_record(work, Record::Mark, record) as u32,
+        cut_from: (cut != NONE).then_some(cut),
+        ..Ring::default()
+    };
+    let mut at = first;
+    while at != NONE && ring.points.len() < POINTS {
+        if at == of_record(work, Record::Present, record) {
+            ring.present = ring.points.len();
+        }
+        ring.points.push(place(work, at));
+        at = of_point(work, Point::Next, at);
+        if at == first {
+            break;
+        }
+    }
+    ring
+}
+
+pub fn rings(work: &[u32]) -> Vec<Ring> {
+    (0..records(work)).map(|record| ring(work, record)).collect()
+}
+
+#[cfg(test)]
+mod tests {
+    use super::*;
+
+    #[test]
+    fn the_sample_as_opened() {
+        let mut work = vec![7; outline::WORK_WORDS];
+        outline::open(include_bytes!("../../../../../samples/crossed.job"), &mut work).unwrap();
+        let points = vec![(0, 0), (10, 10), (10, 0), (0, 12)];
+        assert_eq!(rings(&work), [Ring { points, ..Ring::default() }]);
+        while outline::step(&mut work, 0).is_ok() {}
+        let cut = Ring { cut_from: Some(0), points: vec![(5, 5), (10, 10), (10, 0)], ..Ring::default() };
+        assert_eq!(rings(&work)[1], cut);
+        assert_eq!((rings(&work)[0].due, rings(&work)[0].points.len()), (4, 3));
+    }
+}

@@ -1,0 +1,199 @@
+"""A job as fields and as text, for the tools beside it. docs/JOB.md has both formats."""
+import re
+import struct
+
+NONE = 65535
+OPEN = 1
+# What one text may unroll to: more lines than any job has fields, so that a slip in `times` ends.
+LINES = 1_000_000
+# Tag of each field, and how its value is laid out.
+SETTINGS, POINT, RECORD, SEGMENT, JOIN = 1, 2, 3, 4, 5
+LAYOUT = {SETTINGS: "<B", POINT: "<iiHHH", RECORD: "<BHH", SEGMENT: "<H", JOIN: "<HH"}
+
+
+class Bad(Exception):
+    """What is wrong with a line of a job's text."""
+
+
+def field(tag, *numbers):
+    value = struct.pack(LAYOUT[tag], *numbers)
+    return struct.pack("<BH", tag, len(value)) + value
+
+
+class Job:
+    """The fields of a job by tag, and the bytes that follow what can be read as fields."""
+
+    def __init__(self):
+        self.fields = {tag: [] for tag in LAYOUT}
+        self.tail = b""
+
+    points = property(lambda self: self.fields[POINT])
+    records = property(lambda self: self.fields[RECORD])
+
+    def bytes(self):
+        return b"".join(field(tag, *value) for tag in LAYOUT for value in self.fields[tag]) + self.tail
+
+    def add_ring(self, flags, owner, places):
+        """New points linked in this order, and a record that starts at the first of them."""
+        base, count, record = len(self.points), len(places), len(self.records)
+        if base + count > NONE or record >= NONE:
+            raise Bad("more points or records than two bytes can number")
+        for k, (x, y) in enumerate(places):
+            self.points.append((x, y, base + (k + 1) % count, base + (k - 1) % count, record))
+        self.records.append((flags, owner, base if count else NONE))
+
+    def ring(self, record):
+        """The places along next from a record's first point, as far as numbers name points and none comes twice."""
+        at, seen = self.records[record][2], {}
+        while at < len(self.points) and at not in seen:
+            seen[at] = self.points[at][:2]
+            at = self.points[at][2]
+        return list(seen.values())
+
+
+def read(data):
+    """The fields that a job begins with, in order and of the right length; the rest is its tail."""
+    job, at, last = Job(), 0, 0
+    while at + 3 <= len(data):
+        tag, length = struct.unpack_from("<BH", data, at)
+        expected = tag == SETTINGS if last == 0 else tag > SETTINGS and tag >= last
+        if not expected or tag not in LAYOUT or length != struct.calcsize(LAYOUT[tag]) or at + 3 + length > len(data):
+            break
+        job.fields[tag].append(struct.unpack_from(LAYOUT[tag], data, at + 3))
+        at, last = at + 3 + length, tag
+    job.tail = data[at:]
+    return job
+
+
+def number(word, least, most):
+    if not re.fullmatch(r"-?[0-9]{1,12}" if least < 0 else r"[0-9]{1,12}", word) or not least <= int(word) <= most:
+        raise Bad(f"not a number from {least} to {most}: {word}")
+    return int(word)
+
+
+def byte(word):
+    return number(word, 0, 255)
+
+
+def index(word):
+    return number(word, 0, NONE)
+
+
+def maybe(word):
+    return NONE if word == "-" else index(word)
+
+
+def place(word):
+    x, comma, y = word.partition(",")
+    if not comma:
+        raise Bad(f"not a point x,y: {word}")
+    return number(x, -(2**31), 2**31 - 1), number(y, -(2**31), 2**31 - 1)
+
+
+# The numbers of the lines that are one field: how each word is read.
+WORDS = {"record": (RECORD, byte, maybe, maybe), "segment": (SEGMENT, index), "join": (JOIN, index, index)}
+
+
+class Text:
+    """A job being read from its text, line by line."""
+
+    def __init__(self):
+        self.job = Job()
+        self.lines = 0
+
+    def take(self, line):
+        self.lines += 1
+        if self.lines > LINES:
+            raise Bad(f"more than {LINES:,} lines, counting those that `times` repeats")
+        name, *words = line.split()
+        if name == "times" and len(words) > 1:
+            for _ in range(index(words[0])):
+                for part in " ".join(words[1:]).split(" ; "):
+                    self.take(part)
+        elif name == "bytes":
+            self.take_bytes("".join(words))
+        elif name == "settings" and len(words) == 1:
+            if self.job.fields[SETTINGS]:
+                raise Bad("settings a second time")
+            self.job.fields[SETTINGS].append((byte(words[0]),))
+        elif not self.job.fields[SETTINGS]:
+            raise Bad(f"before any settings: {line}")
+        else:
+            self.take_field(line, name, words)
+
+    def take_bytes(self, digits):
+        if len(digits) % 2 or not re.fullmatch(r"[0-9a-fA-F]*", digits):
+            raise Bad(f"not bytes in hex: {digits}")
+        self.job.tail += bytes.fromhex(digits)
+
+    def take_field(self, line, name, words):
+        if name == "point" and len(words) == 4:
+            self.job.points.append((*place(words[0]), *map(index, words[1:])))
+        elif name in WORDS and len(words) == len(WORDS[name]) - 1:
+            tag, *readers = WORDS[name]
+            self.job.fields[tag].append(tuple(reader(word) for reader, word in zip(readers, words)))
+        elif name == "ring" and len(words) >= 2:
+            self.job.add_ring(byte(words[0]), maybe(words[1]), [place(word) for word in words[2:]])
+        elif name == "fill" and len(words) == 1:
+            self.job.add_ring(OPEN, NONE, [(0, 0)] * index(words[0]))
+        else:
+            raise Bad(f"not a line of a job: {line}")
+
+
+def from_text(text):
+    """The job that a text writes. What is wrong with it is raised as Bad, with the number of its line."""
+    reading = Text()
+    for count, line in enumerate(text.split("\n"), 1):
+        line = line.split("#")[0].strip()
+        try:
+            if line:
+                reading.take(line)
+        except Bad as bad:
+            raise Bad(f"line {count}: {bad}") from None
+        except RecursionError:
+            raise Bad(f"line {count}: `times` within `times` too often") from None
+    return reading.job
+
+
+def ring_length(job, base, record):
+    """How many points from `base` on are linked in their order and name this record; 0 where the record does not start there."""
+    if job.records[record][2] != base or base >= len(job.points):
+        return 0
+    count = job.points[base][3] - base + 1
+    if not 0 < count <= len(job.points) - base:
+        return 0
+    links = [(base + (k + 1) % count, base + (k - 1) % count, record) for k in range(count)]
+    return count if [point[2:] for point in job.points[base : base + count]] == links else 0
+
+
+def ring_lines(job):
+    """Points and records as text: rings where they stand in order, then field by field."""
+    none = lambda n: "-" if n == NONE else n
+    base, record = 0, 0
+    while record < len(job.records):
+        flags, owner, first = job.records[record]
+        count = ring_length(job, base, record)
+        if count:
+            places = " ".join(f"{x},{y}" for x, y, *_ in job.points[base : base + count])
+            yield f"ring {flags} {none(owner)} {places}    # record {record}, points {base} to {base + count - 1}"
+        elif first == NONE or first < base:
+            yield f"record {flags} {none(owner)} {none(first)}    # record {record}"
+        else:
+            break
+        base, record = base + count, record + 1
+    for k, (x, y, following, before, name) in enumerate(job.points[base:], base):
+        yield f"point {x},{y} {following} {before} {name}    # point {k}"
+    for k, (flags, owner, first) in enumerate(job.records[record:], record):
+        yield f"record {flags} {none(owner)} {none(first)}    # record {k}"
+
+
+def to_text(data):
+    """A job's bytes as text, from which `from_text` makes the same bytes."""
+    job = read(data)
+    lines = [f"settings {settings}" for (settings,) in job.fields[SETTINGS]]
+    lines += ring_lines(job)
+    lines += [f"segment {point}" for (point,) in job.fields[SEGMENT]]
+    lines += [f"join {first} {second}" for first, second in job.fields[JOIN]]
+    if job.tail:
+        lines.append(f"bytes {job.tail.hex()}")
+    return "".join(line + "\n" for line in lines)
