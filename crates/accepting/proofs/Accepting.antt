@@ -14,16 +14,20 @@ use Rattle.store.proofs.Storing.{length-writes}
 use Rattle.audit.specs.Tests.{anyBelow, noSuch, noSuchOf}
 use Rattle.reading.specs.declared.fill.Outcome.{Outcome}
 use Rattle.reading.specs.declared.fill.Outcome.the-variants.{State, Refused}
-use Rattle.reading.specs.Fill.{End, end, fillOf, Space}
-use Rattle.reading.specs.Read.{counted, withCounts, readOf, Counts, Bits}
+use Rattle.reading.specs.Fill.{End, end, fillOf}
+use Rattle.reading.specs.Needs.{Space}
+use Rattle.reading.specs.Read.{counted, withCounts, readOf}
+use Rattle.reading.specs.Alike.{Counts, Bits}
 use Rattle.reading.proofs.Counted.{filled, counts}
 use Rattle.reading.proofs.Bits.{bits-of}
 use Rattle.audit.specs.declared.Verdict.{Verdict}
 use Rattle.audit.specs.declared.Verdict.the-variants as verdict
-use Rattle.rows.specs.Rows.{unnamed, rowsOf, Filled}
+use Rattle.rows.specs.Rows.{unnamed, rowsOf}
+use Rattle.rows.specs.Found.{Filled}
 use Rattle.rows.proofs.Homes.{or-left, or-right}
 use Rattle.rows.proofs.Readiness.{clear, chain-ends, ready}
-use Rattle.accepting.specs.Accept.{answer, judgeOf, judged, acceptOf, Accepted}
+use Rattle.accepting.specs.Accept.{answer, judgeOf, judged, acceptOf}
+use Rattle.accepting.specs.Accepted.{Accepted}
 
 -- a job that was read
 pub record Whole (j : Job) (w ss js : List ℕ) : Type 0 where

@@ -1,20 +1,14 @@
 -- Rows 1 to 8 of document 01's table: a job is read, then judged over the whole.
-use Prim.Native.Nat.{ℕ, _*_, _<_}
-use mathlib.Core.Path.{_≡_}
-use mathlib.Core.Bool.{true, false}
+use Prim.Native.Nat.{ℕ}
 use mathlib.Core.List.{List}
-use Rattle.job.specs.Limits.{RECORDS}
 use Rattle.job.specs.declared.Job.{Job}
-use Rattle.store.specs.Named.{recordsOf, ownerOf}
 use Rattle.reading.specs.declared.fill.Outcome.{Outcome}
 use Rattle.reading.specs.declared.fill.Outcome.the-variants.{State, Refused}
 use Rattle.reading.specs.Fill.{End, end}
-use Rattle.reading.specs.Read.{readOf, Counts, Bits}
+use Rattle.reading.specs.Read.{readOf}
 use Rattle.audit.specs.declared.Verdict.{Verdict}
 use Rattle.audit.specs.declared.Verdict.the-variants as verdict
-use Rattle.rows.specs.Owners.{endsIn}
-use Rattle.rows.specs.Rows.{unnamed, openEdge, rowsOf, Clear}
-use Rattle.joins.specs.Resolved.{Ready}
+use Rattle.rows.specs.Rows.{rowsOf}
 
 abbrev pub answer : Verdict → Job → Outcome
 answer verdict.Passed j = State j
@@ -31,14 +25,3 @@ judged (end (Refused r) w ss js) = end (Refused r) w ss js
 -- the first of rows 1 to 8 that holds, or the job as words and two lists
 unfoldable pub acceptOf : List ℕ → List ℕ → List ℕ → List ℕ → End
 acceptOf bytes w ss js = judged (readOf bytes w ss js)
-
--- what holds of a job that is accepted so far: what rows 1 to 8 found, and what follows for opening
-pub record Accepted (j : Job) (w ss js : List ℕ) : Type 0 where
-  pub counts : Counts j w
-  pub bits : Bits w
-  pub clear : Clear w ss (j .segments) js (j .joins)
-  pub chains : (i : ℕ) → i < recordsOf w → endsIn RECORDS (ownerOf w) i ≡ true
-  pub ready : Ready w
-  pub segments : unnamed w ss (j .segments) ≡ false
-  pub joins : unnamed w js (2 * j .joins) ≡ false
-  pub closed : openEdge w ss (j .segments) js (j .joins) ≡ false

@@ -1,2 +1,3 @@
 -- Definitions of accepting a job.
 pub mod Accept
+pub mod Accepted

@@ -3,8 +3,9 @@ use audit::Verdict;
 use job::Job;
 use reading::fill::Outcome;
 ghost use mathlib.Core.Path.{_≡_};
-ghost use Rattle.reading.specs.Fill.{end, Space};
-ghost use Rattle.rows.specs.Rows.{Filled};
+ghost use Rattle.reading.specs.Fill.{end};
+ghost use Rattle.reading.specs.Needs.{Space};
+ghost use Rattle.rows.specs.Found.{Filled};
 ghost use Rattle.accepting.specs.Accept.{judgeOf, acceptOf};
 
 // Rows 4 to 8 of a job that was read.

@@ -11,8 +11,10 @@ use Rattle.lone.specs.Ring.{Act, discard, dropPoint, moveOn, toFirst, double, c
 use Rattle.store.proofs.Keeping.{Kept}
 use Rattle.store.proofs.Storing.{hit}
 use Rattle.store.specs.Field.{pt, rc, X, Y, NEXT, PRESENT}
-use Rattle.store.specs.Sound.{pts, recs, dueAt, Closed, Sound}
-use Rattle.store.specs.Words.{Store, onStore}
+use Rattle.store.specs.Sound.{pts, recs, dueAt, Closed}
+use Rattle.store.specs.Good.{Sound}
+use Rattle.store.specs.Words.{Store}
+use Rattle.store.specs.Stores.{onStore}
 use Rattle.acts.proofs.Cutting.{Four, four, cut-steps}
 use Rattle.acts.proofs.CuttingAway.{plain-away, put-away}
 use Rattle.acts.proofs.Doubling.{double-steps}
@@ -22,8 +24,9 @@ use Rattle.acts.proofs.Positions.{Loop, inLoop}
 use Rattle.acts.proofs.Progressing.{move-steps, to-first-steps, discard-steps}
 use Rattle.acts.proofs.Putting.{put-steps}
 use Rattle.acts.proofs.Representing.{Stepped}
-use Rattle.acts.specs.Apply.{Coding, Codes, takesRecord, ringWrites, after}
-use Rattle.acts.specs.Rep.{value}
+use Rattle.acts.specs.Apply.{Coding, takesRecord, ringWrites}
+use Rattle.acts.specs.Codes.{Codes, after}
+use Rattle.acts.specs.Value.{value}
 use Rattle.acts.specs.Writes.{moveWrites, toFirstWrites, discardWrites, dropWrites, cutWrites, cutPutWrites, offcutWrites}
 
 module _ {P : Type 0} (f : Coding P) where

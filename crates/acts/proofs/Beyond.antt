@@ -13,8 +13,9 @@ use Rattle.lone.specs.Forest.{Answer, ok, full, outOfTurn}
 use Rattle.lone.specs.Ring.{Act, stay, discard, dropPoint, moveOn, toFirst, double, cut}
 use Rattle.store.proofs.Storing.{ends, length-put, length-writes}
 use Rattle.store.specs.Field.{Field, size, base, LENGTH}
-use Rattle.store.specs.Sound.{Sound}
-use Rattle.store.specs.Words.{Store, Write, cell, put, view, onWords, Within}
+use Rattle.store.specs.Good.{Sound}
+use Rattle.store.specs.Words.{Store, Write, cell, put, view, onWords}
+use Rattle.store.specs.Stores.{Within}
 use Rattle.acts.specs.Apply.{Coding, ringWrites, offWrites, afterW}
 use Rattle.acts.specs.Laws.{Laws}
 use Rattle.acts.specs.Step.{actAt, answerS, stepByW, stepW}

@@ -13,13 +13,15 @@ use Rattle.rings.specs.Circle.{lastOf, initOf, cutStart}
 use Rattle.rings.specs.Count.{one, occ}
 use Rattle.rings.specs.Place.{place}
 use Rattle.rings.specs.Progress.{Ring, Due, tidy}
-use Rattle.rings.specs.Walk.{Whole}
+use Rattle.rings.specs.Whole.{Whole}
 use Rattle.lone.specs.Ring.{cut, apply}
 use Rattle.store.proofs.Keeping.{Kept, Local, local-kept}
 use Rattle.store.proofs.Storing.{unwritten, hit, miss}
 use Rattle.store.specs.Field.{pt, rc, NEXT, PREV, PRESENT, START}
-use Rattle.store.specs.Sound.{pts, ringAt, Closed, PointIn, Sound}
-use Rattle.store.specs.Words.{Store, onStore}
+use Rattle.store.specs.Sound.{pts, ringAt, Closed}
+use Rattle.store.specs.Good.{PointIn, Sound}
+use Rattle.store.specs.Words.{Store}
+use Rattle.store.specs.Stores.{onStore}
 use Rattle.acts.proofs.Positions.{Positioned, Loop, lone-is, occ-from, sound-is}
 use Rattle.acts.proofs.Representing.{Stepped}
 use Rattle.acts.specs.Writes.{cutWrites}

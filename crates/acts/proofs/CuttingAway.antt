@@ -11,8 +11,10 @@ use Rattle.rings.specs.Progress.{Due}
 use Rattle.store.proofs.Keeping.{Kept, total-left}
 use Rattle.store.proofs.Storing.{miss}
 use Rattle.store.specs.Field.{pt, rc, X, Y, PREV, REC, PRESENT}
-use Rattle.store.specs.Sound.{pts, recs, ringAt, total, Closed, PointIn, Sound}
-use Rattle.store.specs.Words.{Store, onStore}
+use Rattle.store.specs.Sound.{pts, recs, ringAt, Closed}
+use Rattle.store.specs.Good.{total, PointIn, Sound}
+use Rattle.store.specs.Words.{Store}
+use Rattle.store.specs.Stores.{onStore}
 use Rattle.acts.proofs.Cutting.{Four, cut-steps, cut-occ}
 use Rattle.acts.proofs.Offcuts.{CutAway}
 use Rattle.acts.proofs.Positions.{Loop}

@@ -17,13 +17,15 @@ use Rattle.rings.specs.Circle.{omap, ahead, lastOf, initOf}
 use Rattle.rings.specs.Count.{occ}
 use Rattle.rings.specs.Place.{place}
 use Rattle.rings.specs.Progress.{Ring, tidy, removal}
-use Rattle.rings.specs.Walk.{Whole}
+use Rattle.rings.specs.Whole.{Whole}
 use Rattle.lone.specs.Ring.{dropPoint, apply}
 use Rattle.store.proofs.Keeping.{Kept, Local, local-kept}
 use Rattle.store.proofs.Storing.{unwritten, hit, miss}
 use Rattle.store.specs.Field.{pt, rc, NEXT, PREV, FIRST, MARK, PRESENT, START}
-use Rattle.store.specs.Sound.{pts, ringAt, dueAt, Closed, PointIn, Sound}
-use Rattle.store.specs.Words.{Store, onStore}
+use Rattle.store.specs.Sound.{pts, ringAt, dueAt, Closed}
+use Rattle.store.specs.Good.{PointIn, Sound}
+use Rattle.store.specs.Words.{Store}
+use Rattle.store.specs.Stores.{onStore}
 use Rattle.acts.proofs.Positions.{Positioned, Loop, mark-due, lone-is, sound-is}
 use Rattle.acts.proofs.Representing.{Stepped}
 use Rattle.acts.specs.Writes.{dropWrites}

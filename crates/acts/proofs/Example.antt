@@ -14,13 +14,15 @@ use Rattle.lone.specs.Forest.{Forest, closedRing, initial, runForest, at}
 use Rattle.lone.specs.Lone.{Geo}
 use Rattle.lone.specs.Order.{machine}
 use Rattle.store.specs.Field.{pt, rc, ct, X, Y, NEXT, PREV, REC, FLAGS, OWNER, FIRST, MARK, PRESENT, START, CUT, SETTINGS, POINTS, RECORDS, NONE}
-use Rattle.store.specs.Sound.{ringAt, PointIn, Good, Sound}
+use Rattle.store.specs.Sound.{ringAt}
+use Rattle.store.specs.Good.{PointIn, Good, Sound}
 use Rattle.store.specs.Words.{Store}
 use Rattle.acts.proofs.Stepping.{run-is}
 use Rattle.acts.specs.Apply.{Coding}
 use Rattle.acts.specs.Laws.{Laws}
-use Rattle.acts.specs.Rep.{value, Shows, as-closed, Rep}
-use Rattle.acts.specs.Step.{runS}
+use Rattle.acts.specs.Rep.{Shows, as-closed, Rep}
+use Rattle.acts.specs.Value.{value}
+use Rattle.acts.specs.Run.{runS}
 
 abbrev nx : ℕ → ℕ
 nx zero = 1

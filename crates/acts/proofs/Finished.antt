@@ -7,7 +7,8 @@ use Rattle.rings.specs.Progress.{Ring}
 use Rattle.lone.specs.Lone.{Geo}
 use Rattle.lone.specs.Forest.{Answer, ok, full, outOfTurn, Forest, answer, stepForest}
 use Rattle.lone.specs.Order.{machine}
-use Rattle.lone.specs.Finish.{stepsBy, stepsOn, finishFrom, finishForest, enough}
+use Rattle.lone.specs.Finish.{stepsBy, stepsOn, finishFrom, finishForest}
+use Rattle.lone.specs.Rounds.{enough}
 use Rattle.store.specs.Words.{view}
 use Rattle.acts.specs.Apply.{Coding}
 use Rattle.acts.specs.Laws.{Laws}

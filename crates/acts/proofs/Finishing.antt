@@ -11,17 +11,20 @@ use Rattle.lone.specs.Ring.{Act, stay, discard, dropPoint, moveOn, toFirst, dou
 use Rattle.lone.specs.Lone.{Geo}
 use Rattle.lone.specs.Forest.{Answer, ok, full, outOfTurn, isOk, Forest, State, closedRing, at, answer, stepState, stepForest}
 use Rattle.lone.specs.Order.{machine}
-use Rattle.lone.specs.Finish.{enough}
+use Rattle.lone.specs.Rounds.{enough}
 use Rattle.lone.proofs.Stepping.{at-closed, step-here, Accepted, Refused}
 use Rattle.lone.proofs.Stepping as lone
 use Rattle.lone.proofs.FinishingRings.{left, leftOf, kept, falls, bound}
 use Rattle.store.specs.Field.{ct, SETTINGS}
 use Rattle.store.specs.Words.{Store, view}
-use Rattle.acts.specs.Apply.{Coding, after}
+use Rattle.acts.specs.Apply.{Coding}
+use Rattle.acts.specs.Codes.{after}
 use Rattle.acts.specs.Laws.{Laws}
 use Rattle.acts.specs.Rep.{RepW}
-use Rattle.acts.specs.Step.{Outcome, outcome, actAt, answerS, stepBy, stepS, stepW}
-use Rattle.acts.specs.Finish.{Finishes, wordsLeft, stepsByW, finishRecord}
+use Rattle.acts.specs.Step.{Outcome, outcome, actAt, answerS, stepW}
+use Rattle.acts.specs.Run.{stepBy, stepS}
+use Rattle.acts.specs.Finish.{stepsByW, finishRecord}
+use Rattle.acts.specs.Finishable.{Finishes, wordsLeft}
 use Rattle.acts.proofs.Representing.{here}
 use Rattle.acts.proofs.Stepping.{answer-is, view-step, stepW-is, length-step}
 

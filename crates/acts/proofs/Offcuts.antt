@@ -20,8 +20,10 @@ use Rattle.lone.specs.Ring.{cut, takesPoints, ringsNew}
 use Rattle.store.proofs.Keeping.{Kept, kept-new, sound-after, once-new, lone-other, past}
 use Rattle.store.proofs.Storing.{unwritten, hit, miss}
 use Rattle.store.specs.Field.{pt, rc, X, Y, NEXT, PREV, REC, FLAGS, OWNER, PRESENT, START, CUT, NONE}
-use Rattle.store.specs.Sound.{pts, recs, ringAt, isOpen, loneAt, total, Closed, PointIn, Good, Sound}
-use Rattle.store.specs.Words.{Store, onStore}
+use Rattle.store.specs.Sound.{pts, recs, ringAt, isOpen, loneAt, Closed}
+use Rattle.store.specs.Good.{total, PointIn, Good, Sound}
+use Rattle.store.specs.Words.{Store}
+use Rattle.store.specs.Stores.{onStore}
 use Rattle.acts.proofs.Positions.{Positioned, Loop, lone-is, good-is, occ-from}
 use Rattle.acts.proofs.Representing.{Stepped}
 use Rattle.acts.specs.Writes.{offcutWrites}

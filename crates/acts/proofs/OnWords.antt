@@ -9,16 +9,19 @@ use Rattle.rings.proofs.Counting.{occ-head, occ-lastOf}
 use Rattle.rings.proofs.Linking.{prev-is}
 use Rattle.rings.specs.Circle.{lastOf}
 use Rattle.rings.specs.Progress.{Due}
-use Rattle.rings.specs.Walk.{Whole}
+use Rattle.rings.specs.Whole.{Whole}
 use Rattle.lone.specs.Ring.{Act, stay, discard, dropPoint, moveOn, toFirst, double, cut, takesPoints}
 use Rattle.store.proofs.Storing.{view-writes, length-writes}
 use Rattle.store.specs.Field.{pt, rc, NEXT, PREV, PRESENT, LENGTH}
-use Rattle.store.specs.Sound.{pts, recs, Closed, Sound}
-use Rattle.store.specs.Words.{Store, Write, view, onWords, onStore, Within}
+use Rattle.store.specs.Sound.{pts, recs, Closed}
+use Rattle.store.specs.Good.{Sound}
+use Rattle.store.specs.Words.{Store, Write, view, onWords}
+use Rattle.store.specs.Stores.{onStore, Within}
 use Rattle.acts.proofs.Acting.{Ready, to-discard, to-move, to-go-first, to-drop, to-double, to-cut}
 use Rattle.acts.proofs.Cutting.{Four, four}
 use Rattle.acts.proofs.Positions.{Loop}
-use Rattle.acts.specs.Apply.{Coding, ringWrites, offWrites, after, takesRecord, afterW}
+use Rattle.acts.specs.Apply.{Coding, ringWrites, offWrites, takesRecord, afterW}
+use Rattle.acts.specs.Codes.{after}
 use Rattle.acts.specs.Writes.{moveWrites, toFirstWrites, discardWrites, dropWrites, doubleWrites, cutWrites, cutPutWrites, offcutWrites}
 
 module _ {P : Type 0} (f : Coding P) where

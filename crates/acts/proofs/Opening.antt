@@ -13,10 +13,12 @@ use Rattle.rings.specs.Walk.{walk}
 use Rattle.lone.specs.Forest.{initial, leftRingless, leftOpen, leftClosed, enter, opening, at}
 use Rattle.store.proofs.Soundness.{from-first}
 use Rattle.store.specs.Field.{pt, rc, NEXT, FIRST}
-use Rattle.store.specs.Sound.{pts, recs, ringless, ringAt, isOpen, Sound, loneAt}
+use Rattle.store.specs.Sound.{pts, recs, ringless, ringAt, isOpen, loneAt}
+use Rattle.store.specs.Good.{Sound}
 use Rattle.store.specs.Words.{Store}
 use Rattle.acts.specs.Opened.{table, Fresh, openedAt, records}
-use Rattle.acts.specs.Rep.{value, Shows, as-ringless, as-open, as-closed, Rep}
+use Rattle.acts.specs.Rep.{Shows, as-ringless, as-open, as-closed, Rep}
+use Rattle.acts.specs.Value.{value}
 
 pub length-table : {A : Type 0} (g : ℕ → A) (k n : ℕ) → length (table g k n) ≡ n
 length-table g k zero = refl

@@ -16,11 +16,13 @@ use Rattle.rings.specs.Circle.{spin}
 use Rattle.rings.specs.Count.{occ}
 use Rattle.rings.specs.Place.{place}
 use Rattle.rings.specs.Progress.{Due, tidyAt, resting, validity, removal, triangle, split, done, isDone}
-use Rattle.rings.specs.Walk.{walk, Whole}
+use Rattle.rings.specs.Walk.{walk}
+use Rattle.rings.specs.Whole.{Whole}
 use Rattle.store.proofs.Keeping.{Kept, once-same, sound-after}
 use Rattle.store.proofs.Soundness.{whole, first-on, from-first, present-on}
 use Rattle.store.specs.Field.{pt, rc, NEXT, PREV, OWNER, FIRST, MARK, PRESENT, START, NONE}
-use Rattle.store.specs.Sound.{pts, recs, ringless, ringAt, dueAt, dueOf, markOf, Closed, PointIn, Good, Sound, looping, loneDue, loneAt}
+use Rattle.store.specs.Sound.{pts, recs, ringless, ringAt, dueAt, dueOf, markOf, Closed, looping, loneDue, loneAt}
+use Rattle.store.specs.Good.{PointIn, Good, Sound}
 use Rattle.store.specs.Words.{Store}
 
 pub due-mark : (d : Due) → dueOf (markOf d) ≡ d

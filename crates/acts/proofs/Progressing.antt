@@ -16,14 +16,17 @@ use Rattle.rings.specs.Count.{occ}
 use Rattle.rings.specs.Links.{Linked}
 use Rattle.rings.specs.Place.{place}
 use Rattle.rings.specs.Progress.{Ring, Due, tidyAt, tidy, resting, validity, removal, triangle, split, done}
-use Rattle.rings.specs.Walk.{walk, Whole}
+use Rattle.rings.specs.Walk.{walk}
+use Rattle.rings.specs.Whole.{Whole}
 use Rattle.lone.specs.Ring.{discard, moveOn, toFirst, apply}
 use Rattle.store.proofs.Keeping.{Local, local-kept, once-same, sound-after}
 use Rattle.store.proofs.Soundness.{whole, first-on}
 use Rattle.store.proofs.Storing.{unwritten, hit}
 use Rattle.store.specs.Field.{RecordCol, pt, rc, ct, X, Y, NEXT, PREV, REC, FIRST, MARK, PRESENT, START, POINTS, RECORDS, NONE}
-use Rattle.store.specs.Sound.{pts, recs, ringless, ringAt, dueAt, markOf, Closed, PointIn, Good, Sound, loneDue, loneAt}
-use Rattle.store.specs.Words.{Store, onStore}
+use Rattle.store.specs.Sound.{pts, recs, ringless, ringAt, dueAt, markOf, Closed, loneDue, loneAt}
+use Rattle.store.specs.Good.{PointIn, Good, Sound}
+use Rattle.store.specs.Words.{Store}
+use Rattle.store.specs.Stores.{onStore}
 use Rattle.acts.proofs.Positions.{Positioned, Loop, loop, inLoop, ringed, occ-from, lone-is, good-is}
 use Rattle.acts.proofs.Representing.{Stepped}
 use Rattle.acts.specs.Writes.{moveWrites, toFirstWrites, discardWrites}

@@ -17,14 +17,16 @@ use Rattle.lone.specs.Lone.{Geo, isZero, actOf, decide, removalTurn, splitTurn,
 use Rattle.lone.specs.Ring.{discard, dropPoint, moveOn, toFirst, double, cut}
 use Rattle.store.proofs.Soundness.{whole, first-on}
 use Rattle.store.specs.Field.{pt, rc, X, Y, NEXT, PREV, PRESENT, START, FIRST}
-use Rattle.store.specs.Sound.{pts, ringAt, Closed, PointIn, Sound, dueAt, loneAt}
+use Rattle.store.specs.Sound.{pts, ringAt, Closed, dueAt, loneAt}
+use Rattle.store.specs.Good.{PointIn, Sound}
 use Rattle.store.specs.Words.{Store}
 use Rattle.acts.proofs.Acting.{Ready, to-discard, to-move, to-go-first, to-drop, to-double, to-cut}
 use Rattle.acts.proofs.Positions.{Loop, loop, inLoop}
 use Rattle.acts.proofs.Progressing.{rested}
-use Rattle.acts.specs.Apply.{Coding, Codes}
+use Rattle.acts.specs.Apply.{Coding}
+use Rattle.acts.specs.Codes.{Codes}
 use Rattle.acts.specs.Laws.{Laws}
-use Rattle.acts.specs.Rep.{value}
+use Rattle.acts.specs.Value.{value}
 
 module _ {P : Type 0} (G : Geo P) (f : Coding P) (Λ : Laws G f) (s : Store) (o : Sound s) (i : ℕ) (c : Closed s i) where
   begins : (b : Bool) → dueAt s i ≡ validity → Ready f s i (cond b (toFirst removal) discard)

@@ -25,9 +25,11 @@ use Rattle.lone.specs.Forest as forest
 use Rattle.store.proofs.Keeping.{Kept, ring-other, lone-other}
 use Rattle.store.proofs.Soundness.{from-first, present-on}
 use Rattle.store.specs.Field.{pt, rc, NEXT, PREV, FLAGS, FIRST, PRESENT, START, CUT}
-use Rattle.store.specs.Sound.{pts, recs, ringless, ringAt, isOpen, dueAt, Sound, loneDue, loneAt}
+use Rattle.store.specs.Sound.{pts, recs, ringless, ringAt, isOpen, dueAt, loneDue, loneAt}
+use Rattle.store.specs.Good.{Sound}
 use Rattle.store.specs.Words.{Store}
-use Rattle.acts.specs.Rep.{numberOf, value, Shows, as-ringless, as-open, as-closed, Rep}
+use Rattle.acts.specs.Rep.{numberOf, Shows, as-ringless, as-open, as-closed, Rep}
+use Rattle.acts.specs.Value.{value}
 
 -- the record that a cut makes, if it makes one
 abbrev pub Makes : Store → Store → ℕ → Option (Ring ℕ) → Type 0

@@ -18,16 +18,20 @@ use Rattle.lone.specs.Order.{machine}
 use Rattle.lone.specs.Ring.{Act, stay, discard, dropPoint, moveOn, toFirst, double, cut, offcut, takesPoints}
 use Rattle.lone.specs.Forest as forest
 use Rattle.store.specs.Field.{LENGTH}
-use Rattle.store.specs.Sound.{pts, recs, ringless, isOpen, dueAt, Closed, Sound, loneDue, loneAt}
+use Rattle.store.specs.Sound.{pts, recs, ringless, isOpen, dueAt, Closed, loneDue, loneAt}
+use Rattle.store.specs.Good.{Sound}
 use Rattle.store.specs.Words.{Store, view}
 use Rattle.acts.proofs.Acting.{Acted, act-steps}
 use Rattle.acts.proofs.OnWords.{after-view, length-after}
 use Rattle.acts.proofs.Readiness.{ready}
 use Rattle.acts.proofs.Representing.{rep-step}
-use Rattle.acts.specs.Apply.{Coding, after, takesRecord}
+use Rattle.acts.specs.Apply.{Coding, takesRecord}
+use Rattle.acts.specs.Codes.{after}
 use Rattle.acts.specs.Laws.{Laws}
-use Rattle.acts.specs.Rep.{value, Shows, as-ringless, as-open, as-closed, Rep, RepW}
-use Rattle.acts.specs.Step.{actAt, live, roomFor, answerS, stepBy, stepS, runS, stepByW, stepW, runW}
+use Rattle.acts.specs.Rep.{Shows, as-ringless, as-open, as-closed, Rep, RepW}
+use Rattle.acts.specs.Value.{value}
+use Rattle.acts.specs.Step.{actAt, live, roomFor, answerS, stepByW, stepW}
+use Rattle.acts.specs.Run.{stepBy, stepS, runS, runW}
 
 -- the step on record i can be done
 pub record Able {P : Type 0} (G : Geo P) (f : Coding P) (s : Store) (i : ℕ) : Type 0 where

@@ -1,13 +1,11 @@
 -- The store and the words after an act: its writes, one after another. And the places that it takes.
-use Prim.Native.Nat.{ℕ, _*_, _≤_}
-use mathlib.Core.Path.{_≡_}
+use Prim.Native.Nat.{ℕ}
 use mathlib.Core.Bool.{Bool, true, false}
 use mathlib.Core.List.{List, []}
-use Rattle.job.specs.Limits as limit
 use Rattle.rings.specs.Progress.{Due}
 use Rattle.lone.specs.Ring.{Act, stay, discard, dropPoint, moveOn, toFirst, double, cut}
 use Rattle.store.specs.Field.{pt, rc, NEXT, PRESENT}
-use Rattle.store.specs.Words.{Store, Write, view, onWords, onStore}
+use Rattle.store.specs.Words.{Store, Write, view, onWords}
 use Rattle.acts.specs.Writes.{moveWrites, toFirstWrites, discardWrites, dropWrites, doubleWrites, cutWrites, cutPutWrites, offcutWrites}
 
 -- a point's value as two words: read, and written
@@ -15,12 +13,6 @@ pub record Coding (P : Type 0) : Type 0 where
   pub of : ℕ → ℕ → P
   pub xw : P → ℕ
   pub yw : P → ℕ
-
--- a value that two words in range hold
-pub record Codes {P : Type 0} (f : Coding P) (v : P) : Type 0 where
-  pub x-in : f .xw v ≤ 2 * limit.COORDINATE
-  pub y-in : f .yw v ≤ 2 * limit.COORDINATE
-  pub again : f .of (f .xw v) (f .yw v) ≡ v
 
 module _ {P : Type 0} where
   -- the records that an act takes
@@ -44,16 +36,6 @@ module _ {P : Type 0} (f : Coding P) where
   abbrev pub offWrites : Store → Store → ℕ → P → Bool → List Write
   offWrites s s₁ i v true = offcutWrites s₁ i (s (rc PRESENT) i) (s (pt NEXT) (s (rc PRESENT) i)) (f .xw v) (f .yw v)
   offWrites s s₁ i v false = []
-
-  -- the store after an act on record i
-  abbrev pub after : Store → ℕ → Act P → Store
-  after s i stay = s
-  after s i discard = onStore s (discardWrites i)
-  after s i dropPoint = onStore s (dropWrites s i)
-  after s i (moveOn d) = onStore s (moveWrites s i d)
-  after s i (toFirst d) = onStore s (toFirstWrites s i d)
-  after s i (double v d) = onStore s (doubleWrites s i (f .xw v) (f .yw v) d)
-  after s i (cut v put off d) = onStore (onStore s (ringWrites s i v put d)) (offWrites s (onStore s (ringWrites s i v put d)) i v off)
 
   -- the words after it
   abbrev pub afterW : List ℕ → ℕ → Act P → List ℕ

@@ -1,18 +1,13 @@
 -- Finishing in one call, on words: every ring stepped until it is done, in rising record order, offcuts as they come; it ends where a step is full.
 -- The forest's finishing (crate lone) goes the same way.
-use Prim.Native.Nat.{ℕ, zero, suc, _-_}
+use Prim.Native.Nat.{ℕ, zero, suc}
 use mathlib.Core.List.{List}
 use Rattle.job.specs.Limits.{POINTS, RECORDS}
-use Rattle.rings.specs.Progress.{Ring, mapRing}
 use Rattle.lone.specs.Lone.{Geo}
-use Rattle.lone.specs.Forest.{Answer, ok, full, outOfTurn, Forest}
-use Rattle.lone.specs.Measure.{measure}
-use Rattle.lone.specs.Kept.{HeldIn}
-use Rattle.lone.specs.Finish.{enough}
+use Rattle.lone.specs.Forest.{Answer, ok, full, outOfTurn}
+use Rattle.lone.specs.Rounds.{enough}
 use Rattle.store.specs.Words.{view}
-use Rattle.store.specs.Sound.{pts, loneAt}
 use Rattle.acts.specs.Apply.{Coding}
-use Rattle.acts.specs.Rep.{RepW, value}
 use Rattle.acts.specs.Step.{Outcome, outcome, answerS, stepW}
 
 -- how finishing the rings ends, and the words left: all are done, or a step was refused as full
@@ -46,13 +41,3 @@ module _ {P : Type 0} (G : Geo P) (f : Coding P) where
   -- all records
   unfoldable pub finishW : List ℕ → RingsEnd
   finishW w = finishFromW RECORDS w 0
-
-  -- words that may be finished: in step with a forest whose rings are as steps leave them
-  pub record Finishes (w : List ℕ) : Type 0 where
-    pub forest : Forest (Ring P) (List P)
-    pub rep : RepW f w forest
-    pub held : HeldIn POINTS forest
-
-  -- "a measure of free places, ring size and walk left", of record i
-  unfoldable pub wordsLeft : List ℕ → ℕ → ℕ
-  wordsLeft w i = measure POINTS (POINTS - pts (view w)) (mapRing (value (f .of) (view w)) (loneAt (view w) i))

@@ -4,7 +4,8 @@ use mathlib.Core.Path.{_≡_}
 use mathlib.Core.Bool.{true, false}
 use Rattle.job.specs.Limits as limit
 use Rattle.lone.specs.Lone.{Geo}
-use Rattle.acts.specs.Apply.{Coding, Codes}
+use Rattle.acts.specs.Apply.{Coding}
+use Rattle.acts.specs.Codes.{Codes}
 
 pub record Laws {P : Type 0} (G : Geo P) (f : Coding P) : Type 0 where
   -- so a ring of three points cuts nothing, nor one of two or one

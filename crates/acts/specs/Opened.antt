@@ -8,7 +8,7 @@ use Rattle.lone.specs.Forest.{Opened, leftRingless, leftOpen, leftClosed}
 use Rattle.store.specs.Field.{rc, MARK, START, CUT, NONE}
 use Rattle.store.specs.Words.{Store}
 use Rattle.store.specs.Sound.{pts, recs, ringless, ringAt, isOpen}
-use Rattle.acts.specs.Rep.{value}
+use Rattle.acts.specs.Value.{value}
 
 -- g k, g (k + 1), .., n of them
 abbrev pub table : {A : Type 0} → (ℕ → A) → ℕ → ℕ → List A

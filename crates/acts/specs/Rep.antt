@@ -8,19 +8,17 @@ use lib.ListN.{length}
 use Rattle.rings.specs.Progress.{Ring, mapRing}
 use Rattle.lone.specs.Forest.{State, Entry, openRing, closedRing, Forest, at}
 use Rattle.lone.specs.Forest as forest
-use Rattle.store.specs.Field.{pt, rc, X, Y, START, CUT, NONE, LENGTH}
+use Rattle.store.specs.Field.{rc, START, CUT, NONE, LENGTH}
 use Rattle.store.specs.Words.{Store, view}
-use Rattle.store.specs.Sound.{pts, recs, ringless, ringAt, isOpen, Sound, loneAt}
+use Rattle.store.specs.Sound.{pts, recs, ringless, ringAt, isOpen, loneAt}
+use Rattle.store.specs.Good.{Sound}
 use Rattle.acts.specs.Apply.{Coding}
+use Rattle.acts.specs.Value.{value}
 
 -- the record that a ring was cut from, as a word
 abbrev pub numberOf : Option ℕ → ℕ
 numberOf none = NONE
 numberOf (some q) = q
-
--- the value of a point, from its two words
-abbrev pub value : {P : Type 0} → (ℕ → ℕ → P) → Store → ℕ → P
-value of s k = of (s (pt X) k) (s (pt Y) k)
 
 module _ {P : Type 0} (of : ℕ → ℕ → P) where
   -- record i of the store is this record of the forest. What its lone ring cut off and took is not in the words.

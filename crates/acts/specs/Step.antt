@@ -1,7 +1,7 @@
 -- The step on a store and on words: what the record's lone ring would do, whether there is room, and then its writes. A refused step writes nothing.
 use Prim.Native.Nat.{ℕ, _+_}
 use mathlib.Core.Bool.{Bool, cond, not, _&&_}
-use mathlib.Core.List.{List, [], _∷_}
+use mathlib.Core.List.{List}
 use lib.Dec.{leb, ltb}
 use Rattle.job.specs.Limits as limit
 use Rattle.rings.specs.Progress.{isDone, mapRing}
@@ -10,8 +10,8 @@ use Rattle.lone.specs.Lone.{Geo, actOf}
 use Rattle.lone.specs.Forest.{Answer, ok, full, outOfTurn}
 use Rattle.store.specs.Words.{Store, view}
 use Rattle.store.specs.Sound.{pts, recs, isOpen, loneAt}
-use Rattle.acts.specs.Apply.{Coding, takesRecord, after, afterW}
-use Rattle.acts.specs.Rep.{value}
+use Rattle.acts.specs.Apply.{Coding, takesRecord, afterW}
+use Rattle.acts.specs.Value.{value}
 
 -- a closed ring that is not done
 abbrev pub live : Store → ℕ → Bool
@@ -37,18 +37,6 @@ module _ {P : Type 0} (G : Geo P) (f : Coding P) where
   unfoldable pub answerS : Store → ℕ → Answer
   answerS s i = cond (live s i) (roomFor s (actAt s i)) outOfTurn
 
-  abbrev pub stepBy : Store → ℕ → Answer → Store
-  stepBy s i ok = after f s i (actAt s i)
-  stepBy s i full = s
-  stepBy s i outOfTurn = s
-
-  unfoldable pub stepS : Store → ℕ → Store
-  stepS s i = stepBy s i (answerS s i)
-
-  abbrev pub runS : Store → List ℕ → Store
-  runS s [] = s
-  runS s (i ∷ is) = runS (stepS s i) is
-
   -- ---- on words
   abbrev pub stepByW : List ℕ → ℕ → Answer → List ℕ
   stepByW w i ok = afterW f w i (actAt (view w) i)
@@ -58,11 +46,3 @@ module _ {P : Type 0} (G : Geo P) (f : Coding P) where
   -- the step on words: a refused one leaves every word
   unfoldable pub stepW : List ℕ → ℕ → List ℕ
   stepW w i = stepByW w i (answerS (view w) i)
-
-  abbrev pub runW : List ℕ → List ℕ → List ℕ
-  runW w [] = w
-  runW w (i ∷ is) = runW (stepW w i) is
-
-  -- its answer and the words it leaves
-  unfoldable pub stepOf : List ℕ → ℕ → Outcome
-  stepOf w i = outcome (answerS (view w) i) (stepW w i)

@@ -23,11 +23,13 @@ use Rattle.lone.specs.Order.{machine}
 use Rattle.lone.specs.Ring.{Act, offcut, ringsNew, offcutsNew}
 use Rattle.store.proofs.Keeping.{Kept, ring-other, lone-other}
 use Rattle.store.specs.Field.{rc, FLAGS, FIRST, START, CUT, NONE}
-use Rattle.store.specs.Sound.{pts, recs, ringless, ringAt, isOpen, Sound, loneAt}
+use Rattle.store.specs.Sound.{pts, recs, ringless, ringAt, isOpen, loneAt}
+use Rattle.store.specs.Good.{Sound}
 use Rattle.store.specs.Words.{Store}
 use Rattle.acts.proofs.Opening.{length-table, at-table}
 use Rattle.acts.proofs.Representing.{Makes, Stepped, map-agree, on-ring, lone-kept}
-use Rattle.acts.specs.Rep.{numberOf, value}
+use Rattle.acts.specs.Rep.{numberOf}
+use Rattle.acts.specs.Value.{value}
 use Rattle.order.specs.Demand3.{named}
 use Rattle.altered.specs.InStep.{Holds, no-ring, an-open, a-closed, InStep, entryOf, forestOf}
 

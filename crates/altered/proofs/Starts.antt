@@ -9,7 +9,7 @@ use native.Mathlib.Omega.{arith}
 use native.Mathlib.Decide.{ℕ-discrete, decLt}
 use Rattle.rings.proofs.Counting.{occ-head}
 use Rattle.rings.specs.Progress.{Ring}
-use Rattle.rings.specs.Walk.{Whole}
+use Rattle.rings.specs.Whole.{Whole}
 use Rattle.lone.proofs.Acting.{count, takes-is}
 use Rattle.lone.specs.Forest.{Answer, ok, full, outOfTurn, Forest, runForest, stepForest}
 use Rattle.lone.specs.Lone.{Geo}
@@ -18,15 +18,18 @@ use Rattle.lone.specs.Ring.{Act, offcut, ringsNew, takesPoints}
 use Rattle.store.proofs.Soundness.{first-on}
 use Rattle.store.proofs.Storing.{hit, miss}
 use Rattle.store.specs.Field.{pt, rc, NEXT, PREV, FIRST, PRESENT, START}
-use Rattle.store.specs.Sound.{pts, recs, loneAt, Closed, Sound}
+use Rattle.store.specs.Sound.{pts, recs, loneAt, Closed}
+use Rattle.store.specs.Good.{Sound}
 use Rattle.store.specs.Words.{Store}
 use Rattle.acts.proofs.Acting.{Ready, to-discard, to-move, to-go-first, to-drop, to-double, to-cut}
 use Rattle.acts.proofs.Readiness.{ready}
 use Rattle.acts.proofs.Representing.{Makes, Stepped}
 use Rattle.acts.proofs.Stepping.{Able, able, step-acts}
-use Rattle.acts.specs.Apply.{Coding, after}
+use Rattle.acts.specs.Apply.{Coding}
+use Rattle.acts.specs.Codes.{after}
 use Rattle.acts.specs.Laws.{Laws}
-use Rattle.acts.specs.Step.{actAt, answerS, stepBy, stepS, runS}
+use Rattle.acts.specs.Step.{actAt, answerS}
+use Rattle.acts.specs.Run.{stepBy, stepS, runS}
 use Rattle.altered.proofs.Stepping.{step-is}
 use Rattle.altered.specs.InStep.{InStep, Elsewhere, Settled}
 

@@ -20,10 +20,12 @@ use Rattle.store.specs.Sound.{recs, isOpen, loneAt}
 use Rattle.store.specs.Words.{Store}
 use Rattle.acts.proofs.Acting.{Acted}
 use Rattle.acts.proofs.Stepping.{cut-count, able, step-acts}
-use Rattle.acts.specs.Apply.{Coding, after}
+use Rattle.acts.specs.Apply.{Coding}
+use Rattle.acts.specs.Codes.{after}
 use Rattle.acts.specs.Laws.{Laws}
-use Rattle.acts.specs.Rep.{value}
-use Rattle.acts.specs.Step.{actAt, roomFor, answerS, stepBy, stepS}
+use Rattle.acts.specs.Value.{value}
+use Rattle.acts.specs.Step.{actAt, roomFor, answerS}
+use Rattle.acts.specs.Run.{stepBy, stepS}
 use Rattle.altered.proofs.Holding.{carried}
 use Rattle.altered.specs.InStep.{Holds, no-ring, an-open, a-closed, InStep, Elsewhere}
 

@@ -11,13 +11,14 @@ use Rattle.lone.specs.Forest.{Forest, answer, stepForest, runForest}
 use Rattle.lone.specs.Plane.{loneRing}
 use Rattle.store.specs.Field.{ct, SETTINGS, LENGTH}
 use Rattle.store.specs.Words.{Store, view}
-use Rattle.store.specs.Sound.{Sound}
+use Rattle.store.specs.Good.{Sound}
 use Rattle.store.specs.Value.{preserveCollinear}
 use Rattle.audit.specs.declared.Verdict.{Verdict}
 use Rattle.audit.specs.declared.Verdict.the-variants as verdict
 use Rattle.audit.specs.Tests.{testsOf}
 use Rattle.audit.proofs.Agreeing.{passed-sound, sound-passed}
-use Rattle.acts.specs.Step.{answerS, stepS, stepW}
+use Rattle.acts.specs.Step.{answerS, stepW}
+use Rattle.acts.specs.Run.{stepS}
 use Rattle.acts.proofs.Stepping.{length-step, view-step}
 use Rattle.turns.specs.Form.{raised, geometryOf}
 use Rattle.turns.proofs.Ready.{laws}

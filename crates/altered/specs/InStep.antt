@@ -15,10 +15,12 @@ use Rattle.lone.specs.Lone.{Geo}
 use Rattle.lone.specs.Ring.{ringsNew}
 use Rattle.store.specs.Field.{rc, START, CUT}
 use Rattle.store.specs.Words.{Store}
-use Rattle.store.specs.Sound.{pts, recs, ringless, ringAt, isOpen, Sound, loneAt}
+use Rattle.store.specs.Sound.{pts, recs, ringless, ringAt, isOpen, loneAt}
+use Rattle.store.specs.Good.{Sound}
 use Rattle.acts.specs.Apply.{Coding}
 use Rattle.acts.specs.Opened.{table}
-use Rattle.acts.specs.Rep.{numberOf, value}
+use Rattle.acts.specs.Rep.{numberOf}
+use Rattle.acts.specs.Value.{value}
 use Rattle.acts.specs.Step.{actAt, answerS}
 use Rattle.order.specs.Demand3.{named}
 

@@ -9,14 +9,15 @@ use native.Mathlib.Decide.{decLt}
 use borrow.Author.Tests.{ne-eqb, eqb-true}
 use Rattle.rings.specs.Count.{occ}
 use Rattle.rings.specs.Progress.{isDone}
-use Rattle.rings.specs.Walk.{Whole}
+use Rattle.rings.specs.Whole.{Whole}
 use Rattle.rings.proofs.Counting.{sum-two}
 use Rattle.rings.proofs.Members.{next-on, prev-on, next-prev, prev-next}
 use Rattle.rings.proofs.Tables.{Found}
 use Rattle.store.specs.Field.{NONE}
 use Rattle.store.specs.Words.{view}
 use Rattle.store.specs.Named.{pointsOf, recordsOf, nextOf, prevOf, firstOf, progressOf}
-use Rattle.store.specs.Sound.{ringless, ringAt, dueOf, PointIn, Sound}
+use Rattle.store.specs.Sound.{ringless, ringAt, dueOf}
+use Rattle.store.specs.Good.{PointIn, Sound}
 use Rattle.store.proofs.Soundness.{whole, first-on}
 use Rattle.audit.specs.declared.Verdict.the-variants.{Passed}
 use Rattle.audit.specs.Tests.{reachedBy, offTable, noSuch, noSuchOf, loose, shared, misplaced, testsOf}

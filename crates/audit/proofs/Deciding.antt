@@ -11,7 +11,7 @@ use Rattle.rings.specs.Count.{occ}
 use Rattle.rings.specs.Links.{Seg, Linked}
 use Rattle.rings.specs.Progress.{isDone}
 use Rattle.rings.specs.Relink.{Mutual}
-use Rattle.rings.specs.Walk.{Whole}
+use Rattle.rings.specs.Whole.{Whole}
 use Rattle.rings.proofs.Counting.{one-here, one-else}
 use Rattle.rings.proofs.Members.{From, from, prev-next, whole-kept}
 use Rattle.rings.proofs.Orbits.{Orbit, orbit}
@@ -20,7 +20,8 @@ use Rattle.rings.proofs.Walking.{ring-is}
 use Rattle.store.specs.Field.{NONE}
 use Rattle.store.specs.Words.{view}
 use Rattle.store.specs.Named.{pointsOf, recordsOf, nextOf, prevOf, firstOf, progressOf}
-use Rattle.store.specs.Sound.{ringless, ringAt, dueOf, Good, Sound}
+use Rattle.store.specs.Sound.{ringless, ringAt, dueOf}
+use Rattle.store.specs.Good.{Good, Sound}
 use Rattle.store.proofs.Soundness.{whole}
 use Rattle.audit.specs.Tests.{isIn, reachedBy, offTable, noSuch, noSuchOf, loose, shared, misplaced}
 use Rattle.audit.proofs.Reaching.{Reached, reached, in-true, in-false}

@@ -13,12 +13,14 @@ use Rattle.sorting.specs.Sorted.{sorted}
 use Rattle.sorting.proofs.Stable.{Each, sorted-each}
 use Rattle.sorting.proofs.Sinking.{sorted-length}
 use Rattle.segment_rows.specs.Spread.{spread, spreadOf}
-use Rattle.segments.specs.Pair.{Span}
-use Rattle.segments.specs.Update.{segmentsOf, Listed}
+use Rattle.segments.specs.Needs.{Span}
+use Rattle.segments.specs.Update.{segmentsOf}
+use Rattle.segments.specs.Needs.{Listed}
 use Rattle.segments.proofs.Updates.{Listable, segments-length, segments-fit}
 use Rattle.converting.specs.declared.pairs.Converted.{Converted}
 use Rattle.converting.specs.declared.pairs.Converted.the-variants.{Joins, Full}
-use Rattle.converting.specs.Make.{Made, made, Out, out, madeOf, outerFrom, sortedSegments, pairsOf, convertHorzSegsToJoins, Pairing, Converting}
+use Rattle.converting.specs.Make.{Made, made, Out, out, madeOf, outerFrom, sortedSegments, pairsOf, convertHorzSegsToJoins}
+use Rattle.converting.specs.Needs.{Pairing, Converting}
 use Rattle.converting.proofs.Making.{PairingOf}
 use Rattle.converting.proofs.Looping.{outer-kept}
 

@@ -10,14 +10,16 @@ use lib.ListN.{length}
 use borrow.Author.Tests.{eq-eqb, ne-eqb, ltb-true}
 use Rattle.store.specs.declared.points.Room.the-variants.{At, Full}
 use Rattle.store.specs.Field.{pt, rc, REC, FLAGS, LENGTH}
-use Rattle.store.specs.Words.{Store, view, Write, onWords, onStore}
+use Rattle.store.specs.Words.{Store, view, Write, onWords}
+use Rattle.store.specs.Stores.{onStore}
 use Rattle.store.specs.Named.{nextOf, prevOf, pointsOf}
 use Rattle.rings.specs.Count.{occ}
 use Rattle.rings.proofs.Tables.{elsewhere}
 use Rattle.store.specs.Sound.{recs, ringAt, isOpen}
-use Rattle.store.specs.Primitive.{Taken, taken, copyWrites, linkWrites, afterWrites, beforeWrites, duplicateOp, Beside}
+use Rattle.store.specs.Primitive.{Taken, taken, copyWrites, linkWrites, afterWrites, beforeWrites, duplicateOp}
+use Rattle.store.specs.Beside.{Beside}
 use Rattle.store.proofs.Storing.{view-writes, length-writes}
-use Rattle.joins.specs.Resolve.{Lives}
+use Rattle.joins.specs.Paths.{Lives}
 use Rattle.joins.specs.Resolved.{Ready}
 use Rattle.joins.specs.Needs.{Point}
 use Rattle.joins.proofs.Homes.{home-of, next-lives, prev-lives, prev-next, on-ring, table}

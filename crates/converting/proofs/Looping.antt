@@ -11,8 +11,9 @@ use borrow.Author.Tests.{eq-eqb, ne-eqb, eqb-false}
 use Rattle.store.specs.Field.{NONE, LENGTH}
 use Rattle.converting.specs.declared.pairs.Converted.{Converted}
 use Rattle.converting.specs.declared.pairs.Converted.the-variants.{Joins, Full}
-use Rattle.segments.specs.Pair.{Meeting}
-use Rattle.converting.specs.Make.{made, makeJoin, Out, out, withLefts, apartOf, joinPair, firstOne, secondOne, movedPair, pairOf, andThen, innerFrom, outerFrom, Making, Pairing, Valid, Overlapping, Moving, Joining, PairAt}
+use Rattle.segments.specs.Needs.{Meeting}
+use Rattle.converting.specs.Make.{made, makeJoin, Out, out, withLefts, apartOf, joinPair, firstOne, secondOne, movedPair, pairOf, andThen, innerFrom, outerFrom}
+use Rattle.converting.specs.Needs.{Making, Pairing, Valid, Overlapping, Moving, Joining, PairAt}
 use Rattle.converting.proofs.Making.{span-low, pair-overlaps, making-on, making-back, PairingOf, pair-kept}
 
 -- ---- the needs of apart and of moved

@@ -14,13 +14,15 @@ use Rattle.store.specs.declared.points.Room.{Room}
 use Rattle.store.specs.declared.points.Room.the-variants as room
 use Rattle.store.specs.Field.{NONE}
 use Rattle.store.specs.Named.{pointsOf}
-use Rattle.store.specs.Primitive.{Taken, taken, duplicateOp, Beside}
+use Rattle.store.specs.Primitive.{Taken, taken, duplicateOp}
+use Rattle.store.specs.Beside.{Beside}
 use Rattle.joins.specs.Needs.{Point}
 use Rattle.converting.specs.declared.pairs.Converted.{Converted}
 use Rattle.converting.specs.declared.pairs.Converted.the-variants.{Joins, Full}
 use Rattle.segments.specs.Level.{xOf, yOf}
-use Rattle.segments.specs.Pair.{Span}
-use Rattle.converting.specs.Make.{Made, made, secondAt, firstAt, makeJoin, Out, out, withLefts, apartOf, joinPair, firstOne, secondOne, movedPair, pairOf, Making, Pairing, Valid, Overlapping, PairAt}
+use Rattle.segments.specs.Needs.{Span}
+use Rattle.converting.specs.Make.{Made, made, secondAt, firstAt, makeJoin, Out, out, withLefts, apartOf, joinPair, firstOne, secondOne, movedPair, pairOf}
+use Rattle.converting.specs.Needs.{Making, Pairing, Valid, Overlapping, PairAt}
 use Rattle.segments.proofs.Moving.{one-span, two-span}
 use Rattle.converting.proofs.Doubling.{Keeps, keeps-on, Grew, Doubles, beside, doubles}
 

@@ -16,7 +16,8 @@ use Rattle.store.specs.Words.{view}
 use Rattle.store.specs.Named.{pointsOf}
 use Rattle.store.specs.Sound.{isOpen}
 use Rattle.store.specs.Primitive.{Taken, taken, duplicateOp}
-use Rattle.joins.specs.Resolve.{homeOf, Lives}
+use Rattle.joins.specs.Resolve.{homeOf}
+use Rattle.joins.specs.Paths.{Lives}
 use Rattle.joins.specs.Needs.{Point}
 use Rattle.joins.proofs.Resolving.{res-same}
 use Rattle.joins.proofs.Joining.{Shut, Opened}
@@ -24,9 +25,11 @@ use Rattle.joins.proofs.Open.{opened-self, opened-on}
 use Rattle.converting.specs.declared.pairs.Converted.the-variants.{Joins, Full}
 use Rattle.sorting.specs.declared.HorzSegment.{HorzSegment}
 use Rattle.segments.specs.Level.{xOf}
-use Rattle.segments.specs.Pair.{Span}
-use Rattle.segments.specs.Update.{valid, invalid, headed, endsOf, segmentThrough, claim, claimOf, segmentsOf, Listed}
-use Rattle.converting.specs.Make.{Made, made, secondAt, firstAt, makeJoin, Out, out, withLefts, apartOf, joinPair, firstOne, secondOne, movedPair, pairOf, andThen, innerFrom, outerFrom, sortedSegments, pairsOf, madeOf, convertHorzSegsToJoins, Making, Pairing, Overlapping, PairAt, Converting}
+use Rattle.segments.specs.Needs.{Span}
+use Rattle.segments.specs.Update.{valid, invalid, headed, endsOf, segmentThrough, claim, claimOf, segmentsOf}
+use Rattle.segments.specs.Needs.{Listed}
+use Rattle.converting.specs.Make.{Made, made, secondAt, firstAt, makeJoin, Out, out, withLefts, apartOf, joinPair, firstOne, secondOne, movedPair, pairOf, andThen, innerFrom, outerFrom, sortedSegments, pairsOf, madeOf, convertHorzSegsToJoins}
+use Rattle.converting.specs.Needs.{Making, Pairing, Overlapping, PairAt, Converting}
 use Rattle.converting.proofs.Doubling.{Grew, Doubles, doubles, Opens, opens}
 use Rattle.converting.proofs.Making.{making-point, pair-overlaps, one-moved, two-moved, making-on, making-back, PairingOf, pair-kept}
 use Rattle.converting.proofs.Looping.{inner-kept}

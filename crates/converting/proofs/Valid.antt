@@ -16,8 +16,9 @@ use Rattle.sorting.specs.declared.HorzSegment.{HorzSegment}
 use Rattle.sorting.specs.Sorted.{LAST, place, placeAll, reverse, sorted}
 use Rattle.sorting.proofs.Stable.{Each, Rises, sorted-rises}
 use Rattle.segments.specs.Level.{xOf}
-use Rattle.segments.specs.Pair.{Span}
-use Rattle.segments.specs.Update.{blank, segmentThrough, Claim, claim, claimOf, onClaim, updateFrom, segmentsOf, Listed}
+use Rattle.segments.specs.Needs.{Span}
+use Rattle.segments.specs.Update.{blank, segmentThrough, Claim, claim, claimOf, onClaim, updateFrom, segmentsOf}
+use Rattle.segments.specs.Needs.{Listed}
 use Rattle.segments.proofs.Updates.{Listable}
 use Rattle.converting.specs.declared.pairs.Converted.the-variants.{Joins}
 use Rattle.converting.specs.Make.{made, out, madeOf, andThen, innerFrom, outerFrom, sortedSegments, pairsOf, convertHorzSegsToJoins}

@@ -1,24 +1,20 @@
 -- The second loop of convert_horz_segs_to_joins: pairs of segments, their left points moved together, and a join of two new points.
-use Prim.Native.Nat.{ℕ, zero, suc, _+_, _*_, _≤_, _<_}
-use mathlib.Core.Path.{_≡_}
-use mathlib.Core.Logic.{_≢_, _⊎_}
+use Prim.Native.Nat.{ℕ, zero, suc, _+_, _*_}
 use mathlib.Core.Bool.{Bool, true, false, cond, _||_, not}
 use mathlib.Core.List.{List, map}
 use lib.Dec.{eqb, ltb}
-use lib.ListN.{getD, set, length}
+use lib.ListN.{getD, set}
 use Rattle.job.specs.Limits as limit
 use Rattle.store.specs.declared.points.Room.the-variants as room
 use Rattle.store.specs.Field.{NONE}
-use Rattle.store.specs.Named.{pointsOf}
 use Rattle.store.specs.Primitive.{Taken, taken, duplicateOp}
-use Rattle.joins.specs.Resolved.{Ready}
 use Rattle.converting.specs.declared.pairs.Converted.{Converted}
 use Rattle.converting.specs.declared.pairs.Converted.the-variants.{Joins, Full}
 use Rattle.segments.specs.Level.{xOf, yOf}
-use Rattle.segments.specs.Pair.{oneOf, twoOf, Span, Overlap, Meeting}
+use Rattle.segments.specs.Pair.{oneOf, twoOf}
 use Rattle.sorting.specs.declared.HorzSegment.{HorzSegment}
 use Rattle.sorting.specs.Sorted.{sorted}
-use Rattle.segments.specs.Update.{segmentsOf, Listed}
+use Rattle.segments.specs.Update.{segmentsOf}
 
 -- ---- a join of two new points
 
@@ -102,72 +98,3 @@ pairsOf R w js m = madeOf (outerFrom limit.SEGMENTS (map (λ (r : HorzSegment). 
 -- convert_horz_segs_to_joins: the joins are added to the m that there are
 unfoldable pub convertHorzSegsToJoins : List ℕ → ℕ → List ℕ → List ℕ → ℕ → Made
 convertHorzSegsToJoins w n ps js m = pairsOf (sortedSegments w n ps) w js m
-
--- ---- what the functions ask
-
--- two points, and room for a join
-pub record Making (w js : List ℕ) (m a b : ℕ) : Type 0 where
-  pub ready : Ready w
-  pub one : a < pointsOf w
-  pub two : b < pointsOf w
-  pub few : 2 * m ≤ pointsOf w + 2 * limit.JOINS
-  pub room : limit.POINTS + 2 * limit.JOINS ≤ length js
-
--- the invariant of the pair loops: every valid segment spans from left to right on one ring, and every join so far names points
-pub record Pairing (w ls rs fs js : List ℕ) (m : ℕ) : Type 0 where
-  pub ready : Ready w
-  pub lefts : length ls ≡ limit.SEGMENTS
-  pub rights : length rs ≡ limit.SEGMENTS
-  pub forwards : length fs ≡ limit.SEGMENTS
-  pub room : limit.POINTS + 2 * limit.JOINS ≤ length js
-  pub span : (s : ℕ) → s < limit.SEGMENTS → (getD rs s 0 ≡ NONE) ⊎ Span w (getD ls s 0) (getD rs s 0)
-  pub named : (k : ℕ) → k < 2 * m → getD js k 0 < pointsOf w
-  pub few : 2 * m ≤ pointsOf w + 2 * limit.JOINS
-
--- rows i and j, both valid
-pub record Valid (w ls rs fs : List ℕ) (i j : ℕ) : Type 0 where
-  pub ready : Ready w
-  pub lefts : length ls ≡ limit.SEGMENTS
-  pub rights : length rs ≡ limit.SEGMENTS
-  pub forwards : length fs ≡ limit.SEGMENTS
-  pub one-low : i < limit.SEGMENTS
-  pub two-low : j < limit.SEGMENTS
-  pub one : Span w (getD ls i 0) (getD rs i 0)
-  pub two : Span w (getD ls j 0) (getD rs j 0)
-
--- that overlap; i comes before j
-pub record Overlapping (w ls rs fs : List ℕ) (i j : ℕ) : Type 0 where
-  pub lefts : length ls ≡ limit.SEGMENTS
-  pub rights : length rs ≡ limit.SEGMENTS
-  pub forwards : length fs ≡ limit.SEGMENTS
-  pub before : i < j
-  pub low : j < limit.SEGMENTS
-  pub overlap : Overlap w (getD ls i 0) (getD rs i 0) (getD ls j 0) (getD rs j 0)
-
--- the same, without the right points
-pub record Moving (w ls fs : List ℕ) (i j : ℕ) : Type 0 where
-  pub lefts : length ls ≡ limit.SEGMENTS
-  pub forwards : length fs ≡ limit.SEGMENTS
-  pub before : i < j
-  pub low : j < limit.SEGMENTS
-  pub meeting : Meeting w (getD ls i 0) (getD ls j 0)
-
-pub record Joining (w ls fs js : List ℕ) (m i j : ℕ) : Type 0 where
-  pub rights : List ℕ
-  pub overlapping : Overlapping w ls rights fs i j
-  pub pairing : Pairing w ls rights fs js m
-
--- a pair at its turn
-pub record PairAt (w ls rs fs js : List ℕ) (m i j : ℕ) : Type 0 where
-  pub pairing : Pairing w ls rs fs js m
-  pub before : i < j
-  pub low : j < limit.SEGMENTS
-  pub one : getD rs i 0 ≢ NONE
-  pub two : getD rs j 0 ≢ NONE
-
--- n segments by their points ps, and m joins of the job's own by their points js
-pub record Converting (w ps : List ℕ) (n : ℕ) (js : List ℕ) (m : ℕ) : Type 0 where
-  pub listed : Listed w n ps
-  pub room : limit.POINTS + 2 * limit.JOINS ≤ length js
-  pub few : m ≤ limit.JOINS
-  pub named : (k : ℕ) → k < 2 * m → getD js k 0 < pointsOf w

@@ -7,7 +7,8 @@ use segment_rows::sort_rows;
 use segments::update;
 use store::NONE;
 ghost use mathlib.Core.Path.{_≡_};
-ghost use Rattle.converting.specs.Make.{made, convertHorzSegsToJoins, Converting};
+ghost use Rattle.converting.specs.Make.{made, convertHorzSegsToJoins};
+ghost use Rattle.converting.specs.Needs.{Converting};
 
 // n segments by their points; m joins of the job's own stand in `joins`, points two by two. How many joins there are then, or no room for a point (10).
 // One segment makes no join: the Rust ends there too, where fewer than two are valid.

@@ -21,7 +21,8 @@ ghost use Rattle.store.specs.Field.{LENGTH};
 ghost use Rattle.store.specs.Primitive.{duplicateOp};
 ghost use Rattle.joins.specs.Needs.{Point};
 ghost use Rattle.segments.specs.Level.{xOf};
-ghost use Rattle.converting.specs.Make.{made, secondAt, makeJoin, out, apartOf, movedPair, pairOf, firstOne, secondOne, innerFrom, outerFrom, Making, Pairing, Valid, Moving, Joining, PairAt};
+ghost use Rattle.converting.specs.Make.{made, secondAt, makeJoin, out, apartOf, movedPair, pairOf, firstOne, secondOne, innerFrom, outerFrom};
+ghost use Rattle.converting.specs.Needs.{Making, Pairing, Valid, Moving, Joining, PairAt};
 
 // How many joins there are now, or that there is no room for a point.
 pub enum Converted {

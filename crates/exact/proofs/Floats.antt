@@ -11,7 +11,8 @@ use lib.Signed.{ltZ, leZ}
 use lib.Ieee.{Float, nan, inf, fin, Format, binary64, prec, ofBits, round, sum, add, sub, mul, neg, lt, le, eq, unlike, ofInt}
 use lib.Ieee.Exact.{HasValue}
 use lib.Ieee.Back.{round-whole}
-use Rattle.exact.specs.Num.{Within, eqZ, signed, Exact, Rounded, Whole, Num}
+use Rattle.exact.specs.Num.{Within, signed, Exact, Rounded, Whole, Num}
+use Rattle.exact.specs.Equal.{eqZ}
 use Rattle.exact.proofs.Fractions.{size-signed, signed-not, signed-mul, minus-pos, add-at, mul-at, lt-is, eq-is, le-is}
 use Rattle.exact.proofs.Size.{within-add, within-sub, within-mul}
 

@@ -13,7 +13,8 @@ use lib.Ieee.{Float, nan, inf, fin, Format, up, down, round, sum, add, mul, lt, 
 use lib.Ieee.Exact.{HasValue}
 use lib.Ieee.Scale.{round-same}
 use lib.Ieee.Fits.{down-pos}
-use Rattle.exact.specs.Num.{eqZ, signed, Exact}
+use Rattle.exact.specs.Num.{signed, Exact}
+use Rattle.exact.specs.Equal.{eqZ}
 
 pub size-signed : (s : Bool) (n : ℕ) → natAbs (signed s n) ≡ n
 size-signed true zero = refl

@@ -5,7 +5,7 @@ use native.Mathlib.Nat.{le-refl}
 use native.Mathlib.Omega.{arith}
 use lib.IntN.{ℤ, pos, negsuc, _+ℤ_, _-ℤ_, _*ℤ_, +ℤ-invr}
 use mathlib.Core.Bool.{Bool, true, false}
-use Rattle.exact.specs.Num.{eqZ}
+use Rattle.exact.specs.Equal.{eqZ}
 use Rattle.exact.proofs.Size.{eqZ-true, eqZ-false, eq-eqZ, ne-eqZ}
 use Rattle.exact.proofs.Parts.{pp, np, _≤ᶻ_, parts-add, parts-sub, parts-inj, pp-neg, np-neg}
 

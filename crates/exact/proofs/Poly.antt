@@ -8,7 +8,7 @@ use native.Mathlib.Omega.{arith}
 use borrow.Author.Tests.{eqb-true}
 use lib.Dec.{leb, eqb}
 use lib.IntN.{ℤ, pos, negsuc, negℤ, _+ℤ_, _-ℤ_, _*ℤ_, +ℤ-idl, +ℤ-idr, +ℤ-comm, +ℤ-assoc, *ℤ-comm, zero-*ℤ, *ℤ-zero, -ℤ-+ℤ-cancel}
-use Rattle.exact.specs.Num.{eqZ}
+use Rattle.exact.specs.Equal.{eqZ}
 use Rattle.exact.proofs.Size.{eqZ-true}
 use Rattle.exact.proofs.Linear.{ring, at, _⊕_, _⊗_}
 

@@ -20,7 +20,8 @@ use lib.Ieee.Bits.{is-true}
 use Rattle.exact.proofs.Bounds.{plus, under, round-plus, le-cross, round-neg}
 use Rattle.exact.proofs.Floats.{one-pos}
 use Rattle.exact.proofs.Fractions.{le-is, lt-is, size-signed, signed-mul}
-use Rattle.exact.specs.Num.{eqZ, signed, Exact, Whole, Part}
+use Rattle.exact.specs.Num.{signed, Exact, Whole, Part}
+use Rattle.exact.specs.Equal.{eqZ}
 
 above : (n u b d : ℕ) → 0 < b → 0 < d → n * u * 1 ≡ b * d → n ≡ 0 → ⊥
 above n u b d B D e z = let p : 0 < b * d = mul-pos B D in let q : n * u ≡ 0 = ap (λ (i : ℕ). i * u) z ∙ zero-mul u in omega arith

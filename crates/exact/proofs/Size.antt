@@ -9,7 +9,8 @@ use lib.Dec.{ltb}
 use lib.IntN.{ℤ, pos, negsuc, negℤ, natAbs, subℕ, _+ℤ_, _-ℤ_, _*ℤ_}
 use mir.Syntax.{Width}
 use mir.Val.{SFits, hbits}
-use Rattle.exact.specs.Num.{Within, eqZ}
+use Rattle.exact.specs.Num.{Within}
+use Rattle.exact.specs.Equal.{eqZ}
 
 size-subℕ : (a b : ℕ) → natAbs (subℕ a b) ≤ a + b
 size-subℕ a b = go (ltb a b) (ltb-true a b)

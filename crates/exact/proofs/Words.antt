@@ -10,7 +10,8 @@ use lib.IntN.{ℤ, pos, negsuc, natAbs, _+ℤ_, _-ℤ_, _*ℤ_}
 use mir.Syntax.{Width, w32, w64}
 use mir.Val.{SFits, ofZ, toZ}
 use mir.Facts.{toZ-ofZ}
-use Rattle.exact.specs.Num.{Within, eqZ}
+use Rattle.exact.specs.Num.{Within}
+use Rattle.exact.specs.Equal.{eqZ}
 use Rattle.exact.proofs.Size.{size-add, size-sub, within-add, within-sub, within-mul, fits-size, eqZ-true, eqZ-false}
 
 -- equal bits, equal numbers

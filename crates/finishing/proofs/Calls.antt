@@ -15,7 +15,7 @@ use Rattle.audit.specs.declared.Verdict.{Verdict}
 use Rattle.audit.specs.declared.Verdict.the-variants as verdict
 use Rattle.audit.specs.Tests.{anyBelow, testsOf}
 use Rattle.audit.proofs.Agreeing.{passed-sound}
-use Rattle.acts.specs.Step as acts
+use Rattle.acts.specs.Run as acts
 use Rattle.acts.specs.Step.{outcome, live, answerS, stepW}
 use Rattle.turns.specs.Form.{raised, geometryOf}
 use Rattle.turns.specs.Reads.{SoundWords}

@@ -45,7 +45,7 @@ use Rattle.paths.specs.declared.Written.the-variants as written
 use Rattle.paths.specs.Tray.{TRAY}
 use Rattle.paths.specs.Wrote.{Wrote, wrote, buildPaths64}
 use Rattle.paths.proofs.Bound.{never-small}
-use Rattle.store.specs.Sound.{Sound}
+use Rattle.store.specs.Good.{Sound}
 use Rattle.finishing.specs.Opened.{OpeningLeft}
 use Rattle.finishing.specs.Write.{anyLive, writeBy, writeOf}
 use Rattle.finishing.specs.Finish.{finishRings}

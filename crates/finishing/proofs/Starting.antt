@@ -19,8 +19,9 @@ use Rattle.store.specs.Sound.{pts, recs, ringAt, dueAt, loneDue, loneAt}
 use Rattle.store.specs.Sound as store
 use Rattle.store.proofs.Soundness.{whole, from-first}
 use Rattle.acts.specs.Opened.{records}
-use Rattle.acts.specs.Rep.{value, Shows, as-ringless, as-open, as-closed, RepW}
-use Rattle.acts.specs.Finish.{Finishes}
+use Rattle.acts.specs.Rep.{Shows, as-ringless, as-open, as-closed, RepW}
+use Rattle.acts.specs.Value.{value}
+use Rattle.acts.specs.Finishable.{Finishes}
 use Rattle.acts.proofs.Opening.{opening-rep}
 use Rattle.turns.specs.Form.{raised, geometryOf}
 use Rattle.finishing.specs.Opened.{OpeningLeft}

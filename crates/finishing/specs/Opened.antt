@@ -4,7 +4,8 @@ use mathlib.Core.List.{List}
 use lib.ListN.{length}
 use Rattle.store.specs.Field.{LENGTH}
 use Rattle.store.specs.Words.{view}
-use Rattle.store.specs.Sound.{recs, Sound}
+use Rattle.store.specs.Sound.{recs}
+use Rattle.store.specs.Good.{Sound}
 use Rattle.acts.specs.Opened.{Fresh}
 
 -- long enough, sound, and each record at its start: "opening sets each closed ring .. at its start"

@@ -6,7 +6,7 @@ use borrow.Author.Tests.{le-ltb}
 use native.Mathlib.Nat.{le-refl}
 use lib.IntN.{ℤ, pos, negsuc}
 use lib.Signed.{ltZ}
-use Rattle.exact.specs.Num.{eqZ}
+use Rattle.exact.specs.Equal.{eqZ}
 use Rattle.exact.proofs.Size.{eq-eqZ}
 use Rattle.exact.proofs.Poly.{Term, var, num, _:-_, _:*_, solve}
 use Rattle.geometry.specs.declared.Point.{Point}

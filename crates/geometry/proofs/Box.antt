@@ -17,7 +17,8 @@ use Rattle.exact.proofs.Words.{i32, i64, back-32}
 use Rattle.exact.proofs.Parts.{_≤ᶻ_, parts-add, parts-sub, parts-inj, parts-size, one-part, leZ-parts, nleZ-parts, parts-leZ}
 use Rattle.exact.proofs.Floats.{of-whole}
 use Rattle.exact.proofs.Bounds.{In, in-mul, in-add, in-cut, in-range}
-use Rattle.geometry.specs.Crossing.{float, Between}
+use Rattle.geometry.specs.Crossing.{float}
+use Rattle.geometry.specs.Within.{Between}
 use Rattle.geometry.specs.Floats.{Reach, steppedF}
 
 abbrev lower : ℤ → ℤ → ℤ

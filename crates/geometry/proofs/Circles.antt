@@ -12,7 +12,8 @@ use Rattle.exact.proofs.Size.{size-add, eqZ-true}
 use Rattle.exact.proofs.Poly.{var, _:+_, solve}
 use Rattle.rings.specs.Circle.{turn, lastOf}
 use Rattle.geometry.specs.declared.Point.{Point}
-use Rattle.geometry.specs.Plane.{InTable, AllInTable, isCollinear, edgeArea, areaTriangle, areaFrom, areaOutpt}
+use Rattle.geometry.specs.Plane.{isCollinear, edgeArea, areaTriangle, areaFrom, areaOutpt}
+use Rattle.geometry.specs.Table.{InTable, AllInTable}
 use Rattle.geometry.proofs.Coordinates.{edge-within}
 use Rattle.geometry.proofs.Triangles.{edge, three, edge-back, triangle-in-line}
 

@@ -13,7 +13,8 @@ use mir.Facts.{toZ-ofZ}
 use Rattle.exact.specs.Num.{Within}
 use Rattle.exact.proofs.Words.{bits-eqZ, i32, i64, Held, held-here, held-is, held-32, held-64, held-add, held-sub, held-mul, sub-wide}
 use Rattle.geometry.specs.declared.Point.{Point}
-use Rattle.geometry.specs.Plane.{InTable, samePoint, isCollinear, dotProductThreePoints, edgeArea, closeBy, ptsReallyClose, removable}
+use Rattle.geometry.specs.Plane.{samePoint, isCollinear, dotProductThreePoints, edgeArea, closeBy, ptsReallyClose, removable}
+use Rattle.geometry.specs.Table.{InTable}
 
 -- a coordinate that is passed on
 pub coordinate : {z : ℤ} → Within (2 ^ 20) z → Held (i32 z) z (2 ^ 20)

@@ -11,8 +11,10 @@ use Rattle.geometry.specs.declared.Point.{Point}
 use Rattle.geometry.specs.declared.Edges.{Edges}
 use Rattle.geometry.specs.declared.Crossing.{Crossing}
 use Rattle.geometry.specs.declared.Crossing.the-variants.{Parallel, Start, End, Inside}
-use Rattle.geometry.specs.Plane.{InTable, divisor, alongFirst, alongSecond}
-use Rattle.geometry.specs.Crossing.{float, edgePair, Paired, crossing, coordinateAt, MeetAt, pointAt, pointOf, getSegmentIntersectPt, crossingPoint, InBox, Crossed}
+use Rattle.geometry.specs.Plane.{divisor, alongFirst, alongSecond}
+use Rattle.geometry.specs.Table.{InTable}
+use Rattle.geometry.specs.Crossing.{float, edgePair, crossing, coordinateAt, pointAt, pointOf, getSegmentIntersectPt, crossingPoint}
+use Rattle.geometry.specs.Within.{Paired, MeetAt, InBox, Crossed}
 use Rattle.geometry.specs.Floats.{Reach, steppedF}
 use Rattle.geometry.proofs.Fractions.{part-of}
 use Rattle.geometry.proofs.Box.{between, between-within, stepped-within, at-start, at-end}

@@ -6,15 +6,18 @@ use native.Mathlib.Nat.{le-trans}
 use lib.Dec.{leb→le}
 use lib.IntN.{ℤ, pos, _-ℤ_}
 use lib.Ieee.{Float, binary64, sub, eq}
-use Rattle.exact.specs.Num.{Within, Num, eqZ}
+use Rattle.exact.specs.Num.{Within, Num}
+use Rattle.exact.specs.Equal.{eqZ}
 use Rattle.exact.proofs.Words.{i32, back-32}
 use Rattle.exact.proofs.Size.{within-sub}
 use Rattle.exact.proofs.Floats.{sub-of, num-float, num-sub, num-mul, num-lt, num-eq, num-zero}
 use Rattle.geometry.specs.declared.Point.{Point}
 use Rattle.geometry.specs.declared.EdgePair.{EdgePair}
 use Rattle.geometry.specs.declared.Edges.{Edges}
-use Rattle.geometry.specs.Plane.{InTable, divisor, alongFirst, alongSecond, strictlyWithin, segmentsIntersect}
-use Rattle.geometry.specs.Crossing.{float, edgePair, edgesOf, Paired, zeroF}
+use Rattle.geometry.specs.Plane.{divisor, alongFirst, alongSecond, strictlyWithin, segmentsIntersect}
+use Rattle.geometry.specs.Table.{InTable}
+use Rattle.geometry.specs.Crossing.{float, edgePair, zeroF}
+use Rattle.geometry.specs.Within.{edgesOf, Paired}
 use Rattle.geometry.specs.Floats.{divisorF, alongF, strictlyWithinF}
 
 -- a difference as the code makes it

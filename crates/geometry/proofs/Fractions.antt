@@ -9,14 +9,16 @@ use lib.Dec.{leb, leb→le}
 use lib.IntN.{ℤ, pos, negsuc, natAbs, _*ℤ_}
 use lib.Signed.{leZ, ltZ}
 use lib.Ieee.{Float, binary64, round, div, le}
-use Rattle.exact.specs.Num.{Num, Part, eqZ}
+use Rattle.exact.specs.Num.{Num, Part}
+use Rattle.exact.specs.Equal.{eqZ}
 use Rattle.exact.proofs.Floats.{num-zero, num-eq}
 use Rattle.exact.proofs.Size.{eqZ-true}
 use Rattle.exact.proofs.Quotient.{size-pos, start-is, inside-is, quotient-is, round-zero, end-is, part-round}
 use Rattle.geometry.specs.declared.Edges.{Edges}
 use Rattle.geometry.specs.declared.Crossing.{Crossing}
 use Rattle.geometry.specs.declared.Crossing.the-variants.{Parallel, Start, End, Inside}
-use Rattle.geometry.specs.Crossing.{Paired, pick, quotient, fractionOf, crossing, zeroF, oneF}
+use Rattle.geometry.specs.Crossing.{pick, quotient, fractionOf, crossing, zeroF, oneF}
+use Rattle.geometry.specs.Within.{Paired}
 use Rattle.geometry.specs.Floats.{divisorF, alongF, quotientF, fractionF}
 use Rattle.geometry.proofs.Differences.{num-divisor, num-first, num-second}
 

@@ -8,13 +8,15 @@ use borrow.Author.Tests.{ltb-true, lt-leb, le-ltb}
 use lib.Dec.{ltb, leb→le}
 use lib.IntN.{ℤ, pos, negsuc, natAbs, _*ℤ_}
 use lib.Signed.{leZ, ltZ}
-use Rattle.exact.specs.Num.{eqZ}
+use Rattle.exact.specs.Equal.{eqZ}
 use Rattle.exact.proofs.Size.{ne-eqZ}
 use Rattle.exact.proofs.Quotient.{round-above, round-below}
 use Rattle.geometry.specs.declared.Point.{Point}
 use Rattle.geometry.specs.declared.Crossing.the-variants.{Inside}
-use Rattle.geometry.specs.Plane.{InTable, divisor, alongFirst, alongSecond, strictlyWithin, segmentsIntersect}
-use Rattle.geometry.specs.Crossing.{quotient, fractionOf, crossing, Inner, BothInner}
+use Rattle.geometry.specs.Plane.{divisor, alongFirst, alongSecond, strictlyWithin, segmentsIntersect}
+use Rattle.geometry.specs.Table.{InTable}
+use Rattle.geometry.specs.Crossing.{quotient, fractionOf, crossing}
+use Rattle.geometry.specs.Within.{Inner, BothInner}
 use Rattle.geometry.proofs.Differences.{num-divisor}
 use Rattle.geometry.proofs.Fractions.{not-below}
 

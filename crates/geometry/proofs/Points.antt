@@ -2,7 +2,7 @@
 use mathlib.Core.Path.{_≡_, refl, sym, ap, _∙_}
 use mathlib.Core.Bool.{Bool, true, false, _&&_, true≢false, false≢true}
 use lib.IntN.{ℤ}
-use Rattle.exact.specs.Num.{eqZ}
+use Rattle.exact.specs.Equal.{eqZ}
 use Rattle.exact.proofs.Size.{eqZ-true, eqZ-refl}
 use Rattle.geometry.specs.declared.Point.{Point}
 use Rattle.geometry.specs.Plane.{samePoint}

@@ -3,12 +3,14 @@ use mathlib.Core.Path.{_≡_, refl, sym, ap, _∙_}
 use mathlib.Core.List.{[], _∷_}
 use Prim.Native.Nat.{_*_, _^_}
 use lib.IntN.{ℤ, pos, negℤ, _-ℤ_, _*ℤ_, +ℤ-idl}
-use Rattle.exact.specs.Num.{Within, eqZ}
+use Rattle.exact.specs.Num.{Within}
+use Rattle.exact.specs.Equal.{eqZ}
 use Rattle.exact.proofs.Words.{held-here, held-add}
 use Rattle.exact.proofs.Linear.{eqZ-sub}
 use Rattle.exact.proofs.Poly.{Term, var, num, _:+_, _:-_, _:*_, solve}
 use Rattle.geometry.specs.declared.Point.{Point}
-use Rattle.geometry.specs.Plane.{InTable, isCollinear, edgeArea, areaTriangle}
+use Rattle.geometry.specs.Plane.{isCollinear, edgeArea, areaTriangle}
+use Rattle.geometry.specs.Table.{InTable}
 use Rattle.geometry.proofs.Coordinates.{edge-within}
 
 -- the terms of one edge and of a triangle, over the coordinates x, y of each point

@@ -1,17 +1,15 @@
 -- Where two edges cross: document 01, "Edge crossing", and document 02, Ask 7; `get_segment_intersect_pt` of core.rs. Whole numbers, but for one division for each fraction, one product and one sum.
-use mathlib.Core.Path.{_≡_}
-use mathlib.Core.Bool.{Bool, true, false, cond}
-use lib.Dec.{T, leb}
+use mathlib.Core.Bool.{Bool, true, false}
+use lib.Dec.{leb}
 use lib.IntN.{ℤ, pos, natAbs, _-ℤ_, _*ℤ_}
 use lib.Signed.{leZ, ltZ}
-use lib.Ieee.{Float, binary64, ofBits, ofInt, add, mul, lt, round, toSigned}
-use Rattle.exact.specs.Num.{eqZ}
+use lib.Ieee.{Float, binary64, ofBits, ofInt, add, mul, round, toSigned}
+use Rattle.exact.specs.Equal.{eqZ}
 use Rattle.geometry.specs.declared.Point.{Point}
 use Rattle.geometry.specs.declared.EdgePair.{EdgePair}
-use Rattle.geometry.specs.declared.Edges.{Edges}
 use Rattle.geometry.specs.declared.Crossing.{Crossing}
 use Rattle.geometry.specs.declared.Crossing.the-variants.{Parallel, Start, End, Inside}
-use Rattle.geometry.specs.Plane.{InTable, divisor, alongFirst, alongSecond}
+use Rattle.geometry.specs.Plane.{divisor, alongFirst, alongSecond}
 
 -- the float of a whole number
 abbrev pub float : ℤ → Float
@@ -20,18 +18,6 @@ float z = ofInt binary64 z
 -- "The four differences of an edge pair are kept together as floats"
 unfoldable pub edgePair : Point → Point → Point → Point → EdgePair
 edgePair a b c d = record { dx1 = float (b .x -ℤ a .x); dy1 = float (b .y -ℤ a .y); dx2 = float (d .x -ℤ c .x); dy2 = float (d .y -ℤ c .y) }
-
--- two edges with their differences
-abbrev pub edgesOf : Point → Point → Point → Point → Edges
-edgesOf a b c d = record { a = a; b = b; c = c; d = d; pair = edgePair a b c d }
-
--- the points of two edges are on the table, and their pair is the pair of these points
-pub record Paired (e : Edges) : Type 0 where
-  pub a-in : InTable (e .a)
-  pub b-in : InTable (e .b)
-  pub c-in : InTable (e .c)
-  pub d-in : InTable (e .d)
-  pub pair-is : e .pair ≡ edgePair (e .a) (e .b) (e .c) (e .d)
 
 -- the first where the test holds, else the second
 abbrev pub pick : Bool → Crossing → Crossing → Crossing
@@ -58,12 +44,6 @@ crossing a b c d = fractionOf (alongFirst a b c d) (alongSecond a b c d) (diviso
 unfoldable pub coordinateAt : ℤ → ℤ → Float → ℤ
 coordinateAt a b t = toSigned 63 (add binary64 (float a) (mul binary64 t (float (b -ℤ a))))
 
--- the edges meet inside the first, at its fraction t
-pub record MeetAt (e : Edges) (t : Float) : Type 0 where
-  pub paired : Paired e
-  pub second : Float
-  pub is : crossing (e .a) (e .b) (e .c) (e .d) ≡ Inside t second
-
 -- the point of the edge from a to b at its fraction t
 abbrev pub pointAt : Point → Point → Float → Point
 pointAt a b t = record { x = coordinateAt (a .x) (b .x) t; y = coordinateAt (a .y) (b .y) t }
@@ -83,38 +63,9 @@ getSegmentIntersectPt a b c d ip = pointOf a b ip (crossing a b c d)
 abbrev pub crossingPoint : Point → Point → Point → Point → Point
 crossingPoint a b c d = getSegmentIntersectPt a b c d a
 
--- r lies between a and b, ends counted
-pub record Between (a b r : ℤ) : Type 0 where
-  pub low : T (leZ (cond (leZ a b) a b) r)
-  pub high : T (leZ r (cond (leZ a b) b a))
-
--- "It lies in the first edge's box"
-pub record InBox (a b p : Point) : Type 0 where
-  pub x : Between (a .x) (b .x) (p .x)
-  pub y : Between (a .y) (b .y) (p .y)
-
--- the crossing point of the edges, and where it lies
-pub record Crossed (a b c d p : Point) : Type 0 where
-  pub is : p ≡ crossingPoint a b c d
-  pub box : InBox a b p
-  pub table : InTable p
-
 -- 0.0 and 1.0
 abbrev pub zeroF : Float
 zeroF = ofBits binary64 0
 
 abbrev pub oneF : Float
 oneF = ofBits binary64 0x3ff0_0000_0000_0000
-
--- t lies strictly between 0 and 1
-pub record Inner (t : Float) : Type 0 where
-  pub above : lt zeroF t ≡ true
-  pub below : lt t oneF ≡ true
-
--- the answer is inside, and "both fractions lie strictly between 0 and 1"
-pub record BothInner (a b c d : Point) : Type 0 where
-  pub first : Float
-  pub second : Float
-  pub is : crossing a b c d ≡ Inside first second
-  pub first-inner : Inner first
-  pub second-inner : Inner second

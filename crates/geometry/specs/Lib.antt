@@ -1,4 +1,6 @@
 -- Points, the tests on them, and where two edges cross.
 pub mod Plane
+pub mod Table
 pub mod Crossing
+pub mod Within
 pub mod Floats

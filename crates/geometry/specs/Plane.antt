@@ -1,23 +1,12 @@
 -- Points of the plane and the tests on them, over whole numbers: document 01, "Point"; core.rs, engine_fns.rs and `clean_collinear` of the Rust.
 use mathlib.Core.Bool.{Bool, false, cond, not, _&&_, _||_}
 use mathlib.Core.List.{List, [], _∷_}
-use Prim.Native.Nat.{_^_}
 use lib.Dec.{ltb}
 use lib.IntN.{ℤ, pos, natAbs, _+ℤ_, _-ℤ_, _*ℤ_}
 use lib.Signed.{ltZ}
-use Rattle.exact.specs.Num.{Within, eqZ}
+use Rattle.exact.specs.Equal.{eqZ}
 use Rattle.rings.specs.Circle.{lastOf}
 use Rattle.geometry.specs.declared.Point.{Point}
-
--- "A coordinate is within ±1,048,576"
-pub record InTable (p : Point) : Type 0 where
-  pub x : Within (2 ^ 20) (p .x)
-  pub y : Within (2 ^ 20) (p .y)
-
--- every point of a list
-abbrev pub AllInTable : List Point → Type 0
-AllInTable [] = Unit {0}
-AllInTable (p ∷ ps) = InTable p × AllInTable ps
 
 -- equality of points, `==` of the Rust
 unfoldable pub samePoint : Point → Point → Bool

@@ -4,8 +4,10 @@ ghost use mathlib.Core.Path.{_≡_};
 ghost use Prim.Native.Nat.{_^_};
 ghost use lib.IntN.{_+ℤ_, _-ℤ_, _*ℤ_};
 ghost use Rattle.exact.specs.Num.{Within};
-ghost use Rattle.geometry.specs.Plane.{InTable, samePoint, isCollinear, dotProductThreePoints, edgeArea, areaTriangle, closeBy, ptsReallyClose, isVerySmallTriangle, removable, segmentsIntersect};
-ghost use Rattle.geometry.specs.Crossing.{edgePair, edgesOf, Paired, crossing, pointAt, MeetAt};
+ghost use Rattle.geometry.specs.Plane.{samePoint, isCollinear, dotProductThreePoints, edgeArea, areaTriangle, closeBy, ptsReallyClose, isVerySmallTriangle, removable, segmentsIntersect};
+ghost use Rattle.geometry.specs.Table.{InTable};
+ghost use Rattle.geometry.specs.Crossing.{edgePair, crossing, pointAt};
+ghost use Rattle.geometry.specs.Within.{edgesOf, Paired, MeetAt};
 ghost use Rattle.geometry.specs.Floats.{divisorF, alongF, strictlyWithinF, quotientF, fractionF, Reach, steppedF};
 
 // A point; its coordinates are micrometres.

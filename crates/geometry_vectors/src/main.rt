@@ -9,8 +9,8 @@ use libc::STDIN_FILENO;
 use libc::STDOUT_FILENO;
 ghost use Prim.Native.Nat.{_^_};
 ghost use Rattle.exact.specs.Num.{Within};
-ghost use Rattle.geometry.specs.Plane.{InTable};
-ghost use Rattle.geometry.specs.Crossing.{Paired, MeetAt};
+ghost use Rattle.geometry.specs.Table.{InTable};
+ghost use Rattle.geometry.specs.Within.{Paired, MeetAt};
 
 // The byte at a place, and 0 past the end.
 fn byte(s: &[u8], at: usize) -> u8 {

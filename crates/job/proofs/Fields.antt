@@ -7,7 +7,7 @@ use native.Mathlib.Omega.{arith}
 use lib.Dec.{ltb, eqb}
 use lib.ListN.{length}
 use borrow.Author.Tests.{lt-ltb, le-ltb, ltb-false}
-use Rattle.numbers.specs.Bytes.{Part}
+use Rattle.numbers.specs.Written.{Part}
 use Rattle.job.specs.declared.Job.{Job}
 use Rattle.job.specs.declared.refusal.Refusal.the-variants.{Torn, Strange, Crowded}
 use Rattle.job.specs.declared.field.Kind.{Kind}

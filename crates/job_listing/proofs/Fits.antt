@@ -7,7 +7,7 @@ use lib.ListN.{length, take, drop, length-append, length-take, length-drop}
 use borrow.Author.Tests.{le-leb}
 use Rattle.job.specs.Refusal.{numberOf}
 use Rattle.store.specs.Words.{view}
-use Rattle.store.specs.Sound.{Sound}
+use Rattle.store.specs.Good.{Sound}
 use Rattle.acts.specs.Finish.{RingsEnd, ringsDone, ringsFull}
 use Rattle.paths.specs.declared.Written.{Written}
 use Rattle.paths.specs.declared.Written.the-variants.{Paths, Refused}

@@ -6,7 +6,7 @@ use native.Mathlib.Omega.{arith}
 use Rattle.job.specs.Refusal.{numberOf}
 use Rattle.job.specs.declared.refusal.Refusal.{Refusal}
 use Rattle.store.specs.Words.{view}
-use Rattle.store.specs.Sound.{Sound}
+use Rattle.store.specs.Good.{Sound}
 use Rattle.acts.specs.Finish.{RingsEnd, ringsDone, ringsFull}
 use Rattle.paths.specs.declared.Written.{Written}
 use Rattle.paths.specs.declared.Written.the-variants.{Paths, Refused}

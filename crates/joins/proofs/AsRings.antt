@@ -12,7 +12,8 @@ use Rattle.job.specs.Limits as limit
 use Rattle.rings.specs.Circle.{turn, rest}
 use Rattle.rings.specs.Count.{occ}
 use Rattle.rings.specs.Links.{Seg}
-use Rattle.rings.specs.Walk.{run, walk, Whole}
+use Rattle.rings.specs.Walk.{run, walk}
+use Rattle.rings.specs.Whole.{Whole}
 use Rattle.rings.proofs.Counting.{apart, one-here}
 use Rattle.rings.proofs.Members.{one-is, occ-append, parted, whole-rotate, seg-part}
 use Rattle.rings.proofs.Splicing.{whole-cut-new, whole-cut-own}

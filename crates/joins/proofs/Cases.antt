@@ -12,19 +12,20 @@ use borrow.Author.Tests.{eq-eqb, ne-eqb, eqb-true, eqb-false, lt-ltb, le-ltb}
 use Rattle.job.specs.Limits as limit
 use Rattle.rings.specs.Count.{one, occ}
 use Rattle.rings.specs.Links.{All, Seg}
-use Rattle.rings.specs.Walk.{Whole}
+use Rattle.rings.specs.Whole.{Whole}
 use Rattle.rings.specs.Relink.{Crossed}
 use Rattle.rings.proofs.Counting.{all-in, one-here, one-else}
 use Rattle.rings.proofs.Members.{occ-append, parted, seg-part, seg-next, whole-kept}
 use Rattle.rings.proofs.Splicing.{occ-halves, whole-cut-new}
 use Rattle.rings.proofs.Walking.{Seen, seen}
 use Rattle.store.specs.Field.{Field, pt, rc, ct, X, Y, NEXT, PREV, REC, FLAGS, OWNER, FIRST, POINTS, RECORDS, NONE, LENGTH, same}
-use Rattle.store.specs.Words.{Store, view, Write, onStore, onWords}
+use Rattle.store.specs.Words.{Store, view, Write, onWords}
+use Rattle.store.specs.Stores.{onStore}
 use Rattle.store.specs.Named.{nextOf, prevOf, recOf, firstOf, pointsOf, recordsOf}
 use Rattle.store.specs.Sound.{ringAt, isOpen}
 use Rattle.store.proofs.Soundness.{first-on}
 use Rattle.store.proofs.Storing.{view-writes, length-writes}
-use Rattle.joins.specs.Resolve.{Lives}
+use Rattle.joins.specs.Paths.{Lives}
 use Rattle.joins.specs.Resolved.{Ready}
 use Rattle.joins.specs.Join.{relinkWrites, madeWrites, emptyWrites, firstWrites, relinkOf, newOutRec, fixOutrecPts, settleOf, splitRing, mergeOf}
 use Rattle.joins.specs.Needs.{Four, Ringed, Pair}

@@ -10,7 +10,8 @@ use Rattle.rings.specs.Links.{All}
 use Rattle.store.specs.Field.{NONE, LENGTH}
 use Rattle.store.specs.Words.{view}
 use Rattle.store.specs.Named.{firstOf, ownerOf, recOf, recordsOf, pointsOf}
-use Rattle.joins.specs.Resolve.{getRealOutrec, homeOf, Path, Resolves, Lives}
+use Rattle.joins.specs.Resolve.{getRealOutrec, homeOf}
+use Rattle.joins.specs.Paths.{Path, Resolves, Lives}
 use Rattle.joins.specs.Resolved.{Ready}
 use Rattle.joins.specs.Needs.{Resolving, Point}
 use Rattle.joins.proofs.Resolving.{real-is, hops, hops-is, res-short, res-low}

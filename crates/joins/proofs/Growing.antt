@@ -15,8 +15,9 @@ use Rattle.rings.proofs.Counting.{all-in, one-else, one-here}
 use Rattle.rings.proofs.Tables.{found, table-insert, total-insert, walked, table-walked, total-walked}
 use Rattle.store.specs.Field.{pt, rc, X, Y, NEXT, PREV, REC, OWNER, FIRST, NONE}
 use Rattle.store.specs.Words.{Store}
-use Rattle.store.specs.Sound.{pts, recs, ringAt, total}
-use Rattle.joins.specs.Resolve.{Resolves, Lives}
+use Rattle.store.specs.Sound.{pts, recs, ringAt}
+use Rattle.store.specs.Good.{total}
+use Rattle.joins.specs.Paths.{Resolves, Lives}
 use Rattle.joins.specs.Resolved.{Resolved}
 use Rattle.joins.proofs.Resolving.{path-kept}
 use Rattle.joins.proofs.Homes.{starts, table, from}

@@ -5,7 +5,7 @@ use mathlib.Core.Logic.{_≢_}
 use native.Mathlib.Decide.{ℕ-discrete}
 use borrow.Author.Tests.{eq-eqb, ne-eqb}
 use Rattle.rings.specs.Count.{occ}
-use Rattle.rings.specs.Walk.{Whole}
+use Rattle.rings.specs.Whole.{Whole}
 use Rattle.rings.specs.Table.{Table, Starts, nowhere, on-it}
 use Rattle.rings.proofs.Members as members
 use Rattle.rings.proofs.Members.{From}
@@ -14,7 +14,7 @@ use Rattle.store.specs.Field.{pt, rc, NEXT, PREV, REC, FIRST, NONE}
 use Rattle.store.specs.Words.{Store}
 use Rattle.store.specs.Sound.{pts, recs, ringAt}
 use Rattle.store.proofs.Soundness.{first-on}
-use Rattle.joins.specs.Resolve.{Lives}
+use Rattle.joins.specs.Paths.{Lives}
 use Rattle.joins.specs.Resolved.{Resolved}
 use Rattle.joins.proofs.Resolving.{res-same}
 

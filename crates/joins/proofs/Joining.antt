@@ -9,7 +9,8 @@ use native.Mathlib.Decide.{ℕ-discrete, decLt}
 use borrow.Author.Tests.{eq-eqb, ne-eqb}
 use Rattle.job.specs.Limits as limit
 use Rattle.rings.specs.Count.{occ}
-use Rattle.rings.specs.Walk.{walk, Whole}
+use Rattle.rings.specs.Walk.{walk}
+use Rattle.rings.specs.Whole.{Whole}
 use Rattle.rings.specs.Relink.{Crossed}
 use Rattle.rings.specs.Table.{Table, with, Starts, nowhere, on-it}
 use Rattle.rings.specs.Table as rings
@@ -20,8 +21,9 @@ use Rattle.rings.proofs.Splicing.{occ-halves, occ-spliced}
 use Rattle.rings.proofs.Tables.{with-here, with-else, table-cut, total-cut, table-splice, total-splice, walked, table-walked, total-walked, elsewhere}
 use Rattle.store.specs.Field.{pt, rc, X, Y, NEXT, PREV, REC, FLAGS, OWNER, FIRST, NONE}
 use Rattle.store.specs.Words.{Store}
-use Rattle.store.specs.Sound.{pts, recs, ringless, ringAt, isOpen, total}
-use Rattle.joins.specs.Resolve.{Path, Resolves, Lives}
+use Rattle.store.specs.Sound.{pts, recs, ringless, ringAt, isOpen}
+use Rattle.store.specs.Good.{total}
+use Rattle.joins.specs.Paths.{Path, Resolves, Lives}
 use Rattle.joins.specs.Resolved.{Resolved}
 use Rattle.joins.proofs.Resolving.{path-join, path-kept, res-same}
 use Rattle.joins.proofs.Homes.{starts, table, lives-on, home-of, on-ring}

@@ -13,7 +13,8 @@ use Rattle.rings.specs.Links.{All}
 use Rattle.rings.proofs.Counting.{one-else}
 use Rattle.rings.proofs.Members.{one-is}
 use Rattle.store.specs.Field.{Field, pt, REC, same, LENGTH}
-use Rattle.store.specs.Words.{Store, view, upd}
+use Rattle.store.specs.Words.{Store, view}
+use Rattle.store.specs.Stores.{upd}
 use Rattle.store.specs.Named.{recOf, setRec}
 use Rattle.store.proofs.Storing.{view-put, length-put}
 use Rattle.joins.specs.Join.{nameAll}

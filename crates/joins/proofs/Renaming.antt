@@ -15,7 +15,8 @@ use Rattle.rings.proofs.Members.{one-is}
 use Rattle.rings.proofs.Walking.{run-seg}
 use Rattle.rings.proofs.Walking as walking
 use Rattle.store.specs.Field.{pt, REC, NEXT, PREV, NONE, LENGTH}
-use Rattle.store.specs.Words.{Store, view, upd}
+use Rattle.store.specs.Words.{Store, view}
+use Rattle.store.specs.Stores.{upd}
 use Rattle.store.specs.Named.{nextOf, prevOf, firstOf, setRec}
 use Rattle.store.specs.Sound.{ringAt}
 use Rattle.store.proofs.Storing.{view-put, length-put}

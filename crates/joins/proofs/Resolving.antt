@@ -15,7 +15,8 @@ use Rattle.rings.proofs.Counting.{one-else, one-le, in-all, pigeon}
 use Rattle.store.specs.Field.{rc, OWNER, FIRST, NONE}
 use Rattle.store.specs.Words.{Store}
 use Rattle.store.specs.Sound.{recs}
-use Rattle.joins.specs.Resolve.{realOf, Path, Resolves}
+use Rattle.joins.specs.Resolve.{realOf}
+use Rattle.joins.specs.Paths.{Path, Resolves}
 
 module _ (first owner : ℕ → ℕ) where
   -- where it comes to is settled by where it starts, and so is the way

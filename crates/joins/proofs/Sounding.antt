@@ -6,7 +6,8 @@ use Rattle.rings.specs.Count.{occ}
 use Rattle.rings.specs.Progress.{isDone}
 use Rattle.store.specs.Field.{pt, rc, REC, MARK, PRESENT}
 use Rattle.store.specs.Words.{Store}
-use Rattle.store.specs.Sound.{pts, ringAt, dueAt, Closed, Sound}
+use Rattle.store.specs.Sound.{pts, ringAt, dueAt, Closed}
+use Rattle.store.specs.Good.{Sound}
 use Rattle.joins.specs.Resolved.{Resolved}
 use Rattle.joins.proofs.Resolving.{res-low}
 use Rattle.joins.proofs.Homes.{table}

@@ -1,5 +1,6 @@
 -- Definitions of level segments and joins: resolving, the invariant, joins.
 pub mod Resolve
+pub mod Paths
 pub mod Resolved
 pub mod Join
 pub mod Needs

@@ -4,11 +4,11 @@ use mathlib.Core.Logic.{_≢_}
 use mathlib.Core.List.{List, _∷_}
 use lib.ListN.{length, getD}
 use Rattle.job.specs.Limits as limit
-use Rattle.rings.specs.Walk.{Whole}
+use Rattle.rings.specs.Whole.{Whole}
 use Rattle.store.specs.Field.{LENGTH}
 use Rattle.store.specs.Words.{view}
 use Rattle.store.specs.Named.{nextOf, prevOf, firstOf, pointsOf}
-use Rattle.joins.specs.Resolve.{Resolves, Lives}
+use Rattle.joins.specs.Paths.{Resolves, Lives}
 use Rattle.joins.specs.Resolved.{Ready}
 
 -- record r resolves to record q

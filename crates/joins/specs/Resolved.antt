@@ -6,11 +6,12 @@ use mathlib.Core.List.{List}
 use lib.ListN.{length}
 use Rattle.job.specs.Limits as limit
 use Rattle.rings.specs.Count.{occ}
-use Rattle.rings.specs.Walk.{Whole}
+use Rattle.rings.specs.Whole.{Whole}
 use Rattle.store.specs.Field.{pt, rc, X, Y, NEXT, PREV, REC, OWNER, NONE, LENGTH}
 use Rattle.store.specs.Words.{Store, view}
-use Rattle.store.specs.Sound.{pts, recs, ringAt, total}
-use Rattle.joins.specs.Resolve.{Resolves}
+use Rattle.store.specs.Sound.{pts, recs, ringAt}
+use Rattle.store.specs.Good.{total}
+use Rattle.joins.specs.Paths.{Resolves}
 
 pub record Resolved (s : Store) : Type 0 where
   pub few-points : pts s ≤ limit.POINTS

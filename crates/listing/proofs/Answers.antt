@@ -8,7 +8,7 @@ use lib.Dec.{leb}
 use lib.ListN.{length}
 use Rattle.job.specs.declared.refusal.Refusal.the-variants.{SmallTray}
 use Rattle.store.specs.Words.{Store}
-use Rattle.store.specs.Sound.{Sound}
+use Rattle.store.specs.Good.{Sound}
 use Rattle.paths.specs.declared.Written.the-variants.{Paths, Refused}
 use Rattle.paths.specs.Path.{closedPaths, openPaths}
 use Rattle.paths.specs.Tray.{fieldsOf, padded}

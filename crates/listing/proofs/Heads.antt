@@ -13,7 +13,8 @@ use Rattle.exact.specs.Num.{Within}
 use Rattle.exact.proofs.Size.{fits-size, size-add}
 use Rattle.rings.specs.Circle.{lastOf}
 use Rattle.geometry.specs.declared.Point.{Point}
-use Rattle.geometry.specs.Plane.{InTable, AllInTable, edgeArea, areaFrom, areaOutpt}
+use Rattle.geometry.specs.Plane.{edgeArea, areaFrom, areaOutpt}
+use Rattle.geometry.specs.Table.{InTable, AllInTable}
 use Rattle.geometry.proofs.Coordinates.{edge-within}
 use Rattle.listing.specs.Pour.{poured, pour}
 use Rattle.listing.specs.Text.{SPACE, decimal, signedText, LINE}

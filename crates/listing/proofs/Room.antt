@@ -12,7 +12,8 @@ use Rattle.rings.specs.Count.{sumTo}
 use Rattle.geometry.specs.declared.Point.{Point}
 use Rattle.geometry.specs.Plane.{areaOutpt}
 use Rattle.store.specs.Words.{Store}
-use Rattle.store.specs.Sound.{recs, ringAt, isOpen, Sound}
+use Rattle.store.specs.Sound.{recs, ringAt, isOpen}
+use Rattle.store.specs.Good.{Sound}
 use Rattle.paths.specs.Path.{pathIf, listed, pathsBelow, closedPaths, openPaths, sizeOf}
 use Rattle.paths.specs.Tray.{fieldsOf, padded}
 use Rattle.paths.proofs.Counts.{size-le}

@@ -13,13 +13,15 @@ use mir.Val.{SFits, ofZ}
 use mir.ValLaws.{ofZ-fits, toZ-ofZ}
 use Rattle.exact.specs.Num.{Within}
 use Rattle.exact.proofs.Size.{fits-size}
-use Rattle.numbers.specs.Bytes.{le, putLe}
+use Rattle.numbers.specs.Bytes.{le}
+use Rattle.numbers.specs.Written.{putLe}
 use Rattle.numbers.specs.Raised.{signed}
 use Rattle.numbers.proofs.Written.{read-written}
 use Rattle.geometry.specs.declared.Point.{Point}
-use Rattle.geometry.specs.Plane.{InTable, AllInTable}
+use Rattle.geometry.specs.Table.{InTable, AllInTable}
 use Rattle.store.specs.Words.{Store}
-use Rattle.store.specs.Sound.{recs, Sound}
+use Rattle.store.specs.Sound.{recs}
+use Rattle.store.specs.Good.{Sound}
 use Rattle.paths.specs.Path.{closedPaths, openPaths}
 use Rattle.paths.specs.Tray.{lowBytes, i32Bytes, pointBytes, pathBytes, pathField, tagOf, fields, fieldsOf, padded, over}
 use Rattle.paths.proofs.Laying.{length-lowBytes, length-pointBytes, put-over}

@@ -7,7 +7,8 @@ use lib.ListN.{length}
 use Rattle.numbers.specs.Bytes.{le}
 use Rattle.numbers.specs.Raised.{signed}
 use Rattle.geometry.specs.declared.Point.{Point}
-use Rattle.geometry.specs.Plane.{InTable, AllInTable, areaFrom}
+use Rattle.geometry.specs.Plane.{areaFrom}
+use Rattle.geometry.specs.Table.{InTable, AllInTable}
 
 -- the point whose eight bytes begin at `at`
 unfoldable pub pointIn : List ℕ → ℕ → Point

@@ -16,7 +16,8 @@ use Rattle.lone.specs.Lone.{Geo, isDone, isZero, decide, actOf, stepRing
 use Rattle.lone.specs.Forest.{Opened, opening, enter, Every}
 use Rattle.lone.specs.Order.{machine, ForestFits, ForestNeverEnds}
 use Rattle.lone.specs.Kept.{HasStart}
-use Rattle.lone.specs.Measure.{walkLeft, rounds, weigh, weight}
+use Rattle.lone.specs.Measure.{walkLeft, weigh, weight}
+use Rattle.lone.specs.Rounds.{rounds}
 use Rattle.lone.proofs.Dichotomy.{dichotomy}
 use Rattle.lone.proofs.Turning.{validity-cases, removal-cases, triangle-cases, split-cases}
 use Rattle.lone.proofs.Keeping.{start-kept, offcut-starts}

@@ -14,8 +14,10 @@ use Rattle.lone.specs.Lone.{Geo, actOf, offcutRing, takesRing}
 use Rattle.lone.specs.Forest.{Entry, ringless, openRing, closedRing, ok, Forest, isOk, at, Every, stepState, carryOut, answer, stepForest}
 use Rattle.lone.specs.Order.{machine, AllDone, ForestFits, ForestNeverEnds}
 use Rattle.lone.specs.Kept.{OnRing, HasStart, Held, HeldIn}
-use Rattle.lone.specs.Measure.{heaviest, measure}
-use Rattle.lone.specs.Finish.{finishForest, enough}
+use Rattle.lone.specs.Measure.{measure}
+use Rattle.lone.specs.Rounds.{heaviest}
+use Rattle.lone.specs.Finish.{finishForest}
+use Rattle.lone.specs.Rounds.{enough}
 use Rattle.lone.proofs.Stepping.{at-closed, step-here, Accepted, Refused, view}
 use Rattle.lone.proofs.Every.{every-carry}
 use Rattle.lone.proofs.Keeping.{on-step, start-kept, offcut-starts}

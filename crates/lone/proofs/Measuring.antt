@@ -14,7 +14,8 @@ use Rattle.lone.specs.Ring.{Act, stay, discard, dropPoint, moveOn, toFir
 use Rattle.lone.specs.Lone.{Geo, actOf, stepRing, takesRing}
 use Rattle.lone.specs.Order.{machine}
 use Rattle.lone.specs.Kept.{OnCircle, OnRing, HasStart}
-use Rattle.lone.specs.Measure.{walkLeft, startLeft, rounds, weigh, weight, heaviest, measure}
+use Rattle.lone.specs.Measure.{walkLeft, startLeft, weigh, weight, measure}
+use Rattle.lone.specs.Rounds.{rounds, heaviest}
 use Rattle.lone.proofs.Falling.{falls}
 
 rounds-mono : (m n : ℕ) → m ≤ n → rounds m ≤ rounds n

@@ -14,7 +14,8 @@ use Rattle.rings.proofs.Counting.{sumBy-append}
 use Rattle.lone.specs.Forest.{Machine, initial, Entry, ringless, closedRing, Opened, leftRingless, leftOpen, leftClosed, isNamed, names, naming}
 use Rattle.lone.specs.Forest.{enter, opening, at, cutFrom, offcutsOf, rank, stepsState, stepsEntry}
 use Rattle.lone.specs.Order.{IsOffcut, Alone, AllDone}
-use Rattle.lone.specs.Tree.{Trees, nothing, ended, Finishes, no-more, and, offcutsFrom, Holds, seeds, roots}
+use Rattle.lone.specs.Tree.{Trees, nothing, ended, Finishes, no-more, and, Holds, seeds, roots}
+use Rattle.lone.specs.Table.{offcutsFrom}
 use Rattle.lone.proofs.Alone.{at-closed}
 
 drop-here : {A : Type 0} (l : List A) (r : ℕ) (a : A) → getElem? l r ≡ some a → drop r l ≡ a ∷ drop (suc r) l

@@ -1,7 +1,7 @@
 -- Finishing in one call: every ring stepped until it is done, in rising record order, offcuts as they come.
-use Prim.Native.Nat.{ℕ, zero, suc, _*_}
+use Prim.Native.Nat.{ℕ, zero, suc}
 use Rattle.lone.specs.Forest.{Machine, Answer, ok, full, outOfTurn, Forest, answer, stepForest}
-use Rattle.lone.specs.Measure.{heaviest}
+use Rattle.lone.specs.Rounds.{enough}
 
 module _ {S X : Type 0} (M : Machine S) (lp lr : ℕ) where
   -- steps on record i until one is refused, with the answer to the next one; f: more than are ever needed
@@ -18,10 +18,6 @@ module _ {S X : Type 0} (M : Machine S) (lp lr : ℕ) where
   abbrev pub finishFrom : ℕ → ℕ → Forest S X → ℕ → Forest S X
   finishFrom f zero F i = F
   finishFrom f (suc n) F i = finishFrom f n (stepsOn f F i) (suc i)
-
--- no ring takes as many steps with at most lp points
-abbrev pub enough : ℕ → ℕ
-enough lp = suc lp * suc (heaviest lp)
 
 unfoldable pub finishForest : {S X : Type 0} → Machine S → ℕ → ℕ → Forest S X → Forest S X
 finishForest M lp lr F = finishFrom M lp lr (enough lp) lr F 0

@@ -8,6 +8,7 @@ pub mod Table
 pub mod Tree
 pub mod Kept
 pub mod Measure
+pub mod Rounds
 pub mod Plane
 pub mod Writing
 pub mod Finish

@@ -3,6 +3,7 @@ use mathlib.Core.Option.{Option, none, some}
 use Prim.Native.Nat.{ℕ, zero, suc, _+_, _*_}
 use lib.ListN.{length}
 use Rattle.rings.specs.Progress.{Due, validity, removal, triangle, split, done, Ring}
+use Rattle.lone.specs.Rounds.{heaviest, rounds}
 
 -- the walk left on a circle of n points, to a place k ahead: all round, if it is the present one
 abbrev pub walkLeft : ℕ → ℕ → ℕ
@@ -12,11 +13,6 @@ walkLeft n (suc k) = suc k
 abbrev pub startLeft : ℕ → Option ℕ → ℕ
 startLeft n none = 0
 startLeft n (some k) = walkLeft n k
-
--- of a circle's size: more than a smaller circle's with any walk on it
-abbrev pub rounds : ℕ → ℕ
-rounds zero = 0
-rounds (suc n) = rounds n + (n + 2)
 
 -- by the size of the circle, where first point and start are, and the step due: falls with every step that takes no point
 abbrev pub weigh : ℕ → ℕ → Option ℕ → Due → ℕ
@@ -28,10 +24,6 @@ weigh n f s done = 0
 
 abbrev pub weight : {A : Type 0} → Ring A → ℕ
 weight R = weigh (length (R .circle)) (R .first) (R .start) (R .due)
-
--- no circle of n points weighs more
-abbrev pub heaviest : ℕ → ℕ
-heaviest n = 4 + (rounds n + n) + (rounds n + n)
 
 -- with `free` points left and circles of at most n points: falls with every step
 abbrev pub measure : {A : Type 0} → ℕ → ℕ → Ring A → ℕ

@@ -5,6 +5,10 @@ use mathlib.Core.Option.{Option, none, some}
 use Prim.Native.Nat.{ℕ, suc}
 use lib.ListN.{length, getElem?}
 use Rattle.lone.specs.Forest.{Machine, initial, Entry, ringless, closedRing, Opened, naming, enter, at, cutFrom, offcutsOf, stepsState, stepsEntry}
+use mathlib.Core.List.{List, [], _∷_}
+use mathlib.Core.Option.{Option}
+use mathlib.Core.Bool.{cond}
+use Rattle.lone.specs.Forest.{isNamed}
 
 module _ {S X : Type 0} (M : Machine S) where
   -- the records that opening left, from number k on, each stepped g of its number times
@@ -29,3 +33,8 @@ module _ {S X : Type 0} (M : Machine S) where
   -- os: what opening left; g: steps not refused on each record; qs: the record that each later one was cut from
   unfoldable pub loneTable : List (Opened S X) → (ℕ → ℕ) → List (Option ℕ) → List (Entry S X)
   loneTable os g qs = addOffcuts g (openedEntries g 0 os) qs
+
+-- the numbers, from k on, of the records that name p: its offcuts, by rising record number
+abbrev pub offcutsFrom : ℕ → ℕ → List (Option ℕ) → List ℕ
+offcutsFrom p k [] = []
+offcutsFrom p k (q ∷ qs) = cond (isNamed p q) (k ∷ offcutsFrom p (suc k) qs) (offcutsFrom p (suc k) qs)

@@ -3,9 +3,10 @@
 use mathlib.Core.Path.{_≡_}
 use mathlib.Core.List.{List, [], _∷_, map}
 use mathlib.Core.Option.{Option}
-use mathlib.Core.Bool.{true, false, cond}
+use mathlib.Core.Bool.{true, false}
 use Prim.Native.Nat.{ℕ, suc, _<_}
-use Rattle.lone.specs.Forest.{Machine, State, initial, Entry, closedRing, Opened, leftRingless, leftOpen, leftClosed, at, cutFrom, isNamed, stepsState}
+use Rattle.lone.specs.Forest.{Machine, State, initial, Entry, closedRing, Opened, leftRingless, leftOpen, leftClosed, at, cutFrom, stepsState}
+use Rattle.lone.specs.Table.{offcutsFrom}
 
 -- a list of done machines, each with what its offcuts ended in
 pub data Trees (S : Type 0) : Type 0 where
@@ -18,11 +19,6 @@ module _ {S : Type 0} (M : Machine S) where
     no-more : Finishes [] nothing
     and : {s : S} {ss : List S} {ts us : Trees S} (n : ℕ) → ((k : ℕ) → k < n → M .over (stepsState M k (initial s) .now) ≡ false) → M .over (stepsState M n (initial s) .now) ≡ true
         → Finishes (stepsState M n (initial s) .offcuts) ts → Finishes ss us → Finishes (s ∷ ss) (ended (stepsState M n (initial s) .now) ts us)
-
--- the numbers, from k on, of the records that name p: its offcuts, by rising record number
-abbrev pub offcutsFrom : ℕ → ℕ → List (Option ℕ) → List ℕ
-offcutsFrom p k [] = []
-offcutsFrom p k (q ∷ qs) = cond (isNamed p q) (k ∷ offcutsFrom p (suc k) qs) (offcutsFrom p (suc k) qs)
 
 module _ {S X : Type 0} where
   -- these records of the table, with the records cut from them, by rising number, hold these

@@ -7,7 +7,8 @@ use native.Mathlib.Omega.{arith}
 use lib.Arith.{mod-mul, digits-div, digits-mod}
 use lib.ListN.{length, getD, set, take, drop, length-set}
 use lib.Seq.{getD-set-same, getD-set-other, set-getD, drop-set-add, take-set-le}
-use Rattle.numbers.specs.Bytes.{le, putLe}
+use Rattle.numbers.specs.Bytes.{le}
+use Rattle.numbers.specs.Written.{putLe}
 use Rattle.numbers.proofs.Widths.{some, le-more, below, same-bytes}
 
 -- one byte more

@@ -1,3 +1,4 @@
 -- Definitions of numbers in bytes.
 pub mod Bytes
+pub mod Written
 pub mod Raised

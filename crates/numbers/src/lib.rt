@@ -2,7 +2,8 @@
 ghost use mathlib.Core.Path.{_≡_};
 ghost use Prim.Native.Nat.{_+_, _-_, _%_, _<_, _≤_};
 ghost use lib.ListN.{length, set};
-ghost use Rattle.numbers.specs.Bytes.{le, putLe, Number, Part};
+ghost use Rattle.numbers.specs.Bytes.{le};
+ghost use Rattle.numbers.specs.Written.{putLe, Number, Part};
 ghost use Rattle.numbers.specs.Raised.{raised, lowered};
 
 // The part of s from at on.

@@ -25,7 +25,8 @@ use Rattle.rows.specs.Rows.{onOpen}
 use Rattle.rows.proofs.Homes.{or-left, or-right}
 use Rattle.accepting.specs.Accept.{acceptOf}
 use Rattle.converting.specs.declared.pairs.Converted.the-variants as converted
-use Rattle.converting.specs.Make.{Made, made, convertHorzSegsToJoins, Converting}
+use Rattle.converting.specs.Make.{Made, made, convertHorzSegsToJoins}
+use Rattle.converting.specs.Needs.{Converting}
 use Rattle.converting.proofs.Open.{ConvertedOpen, convert-open}
 use Rattle.joins.specs.declared.Joined.the-variants as joined
 use Rattle.joins.specs.Join as join

@@ -11,15 +11,18 @@ use Rattle.store.specs.Named.{recordsOf}
 use Rattle.reading.specs.declared.fill.Outcome.{Outcome}
 use Rattle.reading.specs.declared.fill.Outcome.the-variants as outcome
 use Rattle.reading.specs.Fill as fill
-use Rattle.reading.specs.Fill.{fillOf, Space}
+use Rattle.reading.specs.Fill.{fillOf}
+use Rattle.reading.specs.Needs.{Space}
 use Rattle.reading.specs.Read.{withCounts, readOf}
 use Rattle.reading.proofs.Counted.{filled}
 use Rattle.rows.proofs.Homes.{named-at}
-use Rattle.accepting.specs.Accept.{judged, acceptOf, Accepted}
+use Rattle.accepting.specs.Accept.{judged, acceptOf}
+use Rattle.accepting.specs.Accepted.{Accepted}
 use Rattle.accepting.proofs.Accepting.{accepted}
 use Rattle.converting.specs.declared.pairs.Converted.{Converted}
 use Rattle.converting.specs.declared.pairs.Converted.the-variants as converted
-use Rattle.converting.specs.Make.{made, convertHorzSegsToJoins, Converting}
+use Rattle.converting.specs.Make.{made, convertHorzSegsToJoins}
+use Rattle.converting.specs.Needs.{Converting}
 use Rattle.converting.proofs.Converting.{JoinsOf, convert-joins}
 use Rattle.joins.specs.declared.Joined.{Joined}
 use Rattle.joins.specs.Join as join

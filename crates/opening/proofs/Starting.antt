@@ -12,12 +12,14 @@ use Rattle.job.specs.Limits as limit
 use Rattle.rings.specs.Count.{occ}
 use Rattle.rings.proofs.Counting.{sum-same}
 use Rattle.store.specs.Field.{PointCol, Count, pt, rc, ct, X, Y, NEXT, PREV, REC, FLAGS, OWNER, FIRST, MARK, PRESENT, START, CUT, POINTS, RECORDS, NONE, LENGTH}
-use Rattle.store.specs.Words.{Store, view, onStore}
+use Rattle.store.specs.Words.{Store, view}
+use Rattle.store.specs.Stores.{onStore}
 use Rattle.store.specs.Named.{firstOf, recordsOf}
-use Rattle.store.specs.Sound.{pts, recs, ringless, ringAt, isOpen, total, Sound}
+use Rattle.store.specs.Sound.{pts, recs, ringless, ringAt, isOpen}
+use Rattle.store.specs.Good.{total, Sound}
 use Rattle.store.proofs.Storing.{length-writes, view-writes, hit, miss}
 use Rattle.store.proofs.Soundness.{first-on}
-use Rattle.joins.specs.Resolve.{Resolves}
+use Rattle.joins.specs.Paths.{Resolves}
 use Rattle.joins.specs.Resolved.{Resolved, Ready}
 use Rattle.joins.proofs.Sounding.{resolved-sound}
 use Rattle.acts.specs.Opened.{Fresh}

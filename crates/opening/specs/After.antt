@@ -6,7 +6,8 @@ use mathlib.Core.List.{List}
 use Rattle.store.specs.Field.{pt, rc, X, Y, FLAGS}
 use Rattle.store.specs.Words.{Store, view}
 use Rattle.store.specs.Named.{presentOf, firstOf, recordsOf}
-use Rattle.store.specs.Sound.{pts, recs, ringAt, isOpen, Sound}
+use Rattle.store.specs.Sound.{pts, recs, ringAt, isOpen}
+use Rattle.store.specs.Good.{Sound}
 use Rattle.audit.specs.declared.Verdict.the-variants as audit
 use Rattle.audit.specs.Tests.{testsOf}
 use Rattle.joins.specs.Resolved.{Ready}

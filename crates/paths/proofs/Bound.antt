@@ -12,7 +12,8 @@ use Rattle.rings.specs.Count.{sumTo, occ}
 use Rattle.rings.proofs.Counting.{pigeon}
 use Rattle.rings.proofs.Members.{occ-append}
 use Rattle.store.specs.Words.{Store, view}
-use Rattle.store.specs.Sound.{pts, recs, ringAt, isOpen, Sound}
+use Rattle.store.specs.Sound.{pts, recs, ringAt, isOpen}
+use Rattle.store.specs.Good.{Sound}
 use Rattle.store.specs.Value.{reverseSolution}
 use Rattle.paths.specs.declared.Need.{Need}
 use Rattle.paths.specs.declared.Written.the-variants.{Paths, Refused}

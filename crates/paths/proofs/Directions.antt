@@ -7,7 +7,8 @@ use native.Mathlib.Omega.{arith}
 use Rattle.rings.specs.Circle.{turn}
 use Rattle.rings.specs.Count.{occ}
 use Rattle.rings.specs.Links.{Seg, Linked}
-use Rattle.rings.specs.Walk.{walk, Whole}
+use Rattle.rings.specs.Walk.{walk}
+use Rattle.rings.specs.Whole.{Whole}
 use Rattle.rings.proofs.Counting.{occ-turn}
 use Rattle.rings.proofs.Linking.{seg-join}
 use Rattle.rings.proofs.Mapping.{map-turn}

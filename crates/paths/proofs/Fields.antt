@@ -9,7 +9,7 @@ use native.Mathlib.Omega.{arith}
 use lib.Dec.{eqb, leb}
 use lib.ListN.{length, set, take, drop, length-append, length-drop, length-set}
 use borrow.Rule.Slice.PartMut.{putMid}
-use Rattle.numbers.specs.Bytes.{putLe}
+use Rattle.numbers.specs.Written.{putLe}
 use Rattle.numbers.proofs.Written.{length-put}
 use Rattle.rings.specs.Circle.{turn}
 use Rattle.geometry.specs.declared.Point.{Point}

@@ -5,7 +5,7 @@ use mathlib.Core.List.{List, [], _∷_, _++_, append-nil, append-assoc}
 use native.Mathlib.Omega.{arith}
 use lib.ListN.{length, getD, set, drop, length-append, length-drop}
 use lib.Seq.{drop-cons, append-snoc, set-append-seam, drop-append-seam, drop-append-add, drop-drop}
-use Rattle.numbers.specs.Bytes.{putLe}
+use Rattle.numbers.specs.Written.{putLe}
 use Rattle.numbers.proofs.Written.{put-more}
 use Rattle.geometry.specs.declared.Point.{Point}
 use Rattle.paths.specs.Tray.{lowBytes, i32Bytes, pointBytes, pathBytes, over}

@@ -7,12 +7,12 @@ use mathlib.Core.List.{List, [], _∷_, _++_}
 use native.Mathlib.Omega.{arith}
 use lib.ListN.{length, length-append}
 use lib.IntN.{ℤ}
-use Rattle.exact.specs.Num.{eqZ}
+use Rattle.exact.specs.Equal.{eqZ}
 use Rattle.exact.proofs.Size.{eqZ-true}
 use Rattle.geometry.specs.declared.Point.{Point}
 use Rattle.geometry.specs.Plane.{samePoint}
 use Rattle.store.specs.Words.{Store, view}
-use Rattle.store.specs.Sound.{PointIn}
+use Rattle.store.specs.Good.{PointIn}
 use Rattle.paths.specs.Path.{pointAt}
 use Rattle.paths.specs.Walking.{linkOf, Readable, Round, Going, afterPoint, pathRound, more, Counting}
 use Rattle.paths.proofs.Walks.{othersOf, walk-is, round-here, round-short, going-begins, going-here, going-on, going-ends}

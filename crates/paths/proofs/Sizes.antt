@@ -11,7 +11,7 @@ use lib.ListN.{length, length-map, length-reverse}
 use borrow.Author.Tests.{eq-eqb, ne-eqb, le-leb, lt-leb}
 use Rattle.rings.specs.Circle.{turn, lastOf}
 use Rattle.rings.specs.Count.{occ}
-use Rattle.rings.specs.Walk.{Whole}
+use Rattle.rings.specs.Whole.{Whole}
 use Rattle.rings.proofs.Circles.{length-turn}
 use Rattle.rings.proofs.Counting.{occ-lastOf, one-here, apart}
 use Rattle.rings.proofs.Linking.{prev-is}
@@ -24,7 +24,8 @@ use Rattle.lone.specs.Plane.{plane}
 use Rattle.lone.specs.Path.{inOrder, dropEquals, withoutEquals, isSmallRing, buildPath64FromOutpt}
 use Rattle.store.specs.Field.{pt, rc, NEXT, PREV, FIRST}
 use Rattle.store.specs.Words.{view}
-use Rattle.store.specs.Sound.{pts, ringAt, PointIn}
+use Rattle.store.specs.Sound.{pts, ringAt}
+use Rattle.store.specs.Good.{PointIn}
 use Rattle.store.specs.Value.{preserveCollinear}
 use Rattle.paths.specs.Path.{pointAt, pointsAt, pathBy, sizeOf}
 use Rattle.paths.specs.Walking.{startFrom, roundFrom, Readable, Round, Known, Three, Sized, pathRound}

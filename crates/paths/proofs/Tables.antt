@@ -10,12 +10,13 @@ use Rattle.rings.specs.Circle.{turn}
 use Rattle.rings.specs.Count.{occ}
 use Rattle.rings.proofs.Counting.{one-here, pigeon}
 use Rattle.geometry.specs.declared.Point.{Point}
-use Rattle.geometry.specs.Plane.{AllInTable}
+use Rattle.geometry.specs.Table.{AllInTable}
 use Rattle.lone.specs.Lone.{Geo}
 use Rattle.lone.specs.Plane.{plane}
 use Rattle.lone.specs.Path.{inOrder, dropEquals, withoutEquals, isSmallRing, buildPath64FromOutpt}
 use Rattle.store.specs.Words.{Store}
-use Rattle.store.specs.Sound.{pts, recs, ringAt, isOpen, PointIn, Sound}
+use Rattle.store.specs.Sound.{pts, recs, ringAt, isOpen}
+use Rattle.store.specs.Good.{PointIn, Sound}
 use Rattle.store.specs.Value.{preserveCollinear, reverseSolution}
 use Rattle.store.proofs.Coordinates.{in-table}
 use Rattle.store.proofs.Soundness.{whole}

@@ -10,11 +10,13 @@ use lib.ListN.{length}
 use borrow.Author.Tests.{eq-eqb, ne-eqb}
 use Rattle.rings.specs.Count.{occ}
 use Rattle.rings.specs.Links.{All, Seg}
-use Rattle.rings.specs.Walk.{run, walk, Whole}
+use Rattle.rings.specs.Walk.{run, walk}
+use Rattle.rings.specs.Whole.{Whole}
 use Rattle.rings.proofs.Counting.{apart, all-in, pigeon, one-here}
 use Rattle.store.specs.Field.{pt, NEXT, PREV}
 use Rattle.store.specs.Words.{Store, view}
-use Rattle.store.specs.Sound.{pts, PointIn}
+use Rattle.store.specs.Sound.{pts}
+use Rattle.store.specs.Good.{PointIn}
 use Rattle.paths.specs.Walking.{linkOf, startFrom, Readable, Round, Ahead, toGo, Going}
 
 -- the two directions

@@ -6,14 +6,14 @@ use mathlib.Core.Bool.{Bool, true, false, cond}
 use mathlib.Core.List.{List, [], _∷_, _++_, append-assoc, append-nil}
 use native.Mathlib.Omega.{arith}
 use lib.ListN.{length, length-append}
-use Rattle.numbers.specs.Bytes.{putLe}
+use Rattle.numbers.specs.Written.{putLe}
 use Rattle.numbers.specs.Raised.{lowered, coordinate}
 use Rattle.job.specs.Limits.{COORDINATE}
 use Rattle.geometry.specs.declared.Point.{Point}
 use Rattle.geometry.specs.Plane.{samePoint}
 use Rattle.store.specs.Field.{pt, X, Y}
 use Rattle.store.specs.Words.{Store, view}
-use Rattle.store.specs.Sound.{PointIn}
+use Rattle.store.specs.Good.{PointIn}
 use Rattle.paths.specs.Path.{pointAt}
 use Rattle.paths.specs.Tray.{lowBytes, i32Bytes, pointBytes, pathBytes, over}
 use Rattle.paths.specs.Walking.{linkOf, Readable, Round, Going, afterPoint, pathRound, more, putPoint, Laid, laid, putMore, Laying, Room}

@@ -6,15 +6,17 @@ use mathlib.Core.Bool.{Bool, true, false, cond, not}
 use mathlib.Core.List.{List, [], _∷_, _++_, map}
 use lib.Dec.{eqb}
 use lib.ListN.{length}
-use Rattle.numbers.specs.Bytes.{putLe}
+use Rattle.numbers.specs.Written.{putLe}
 use Rattle.numbers.specs.Raised.{lowered}
 use Rattle.job.specs.Limits.{POINTS, COORDINATE}
 use Rattle.rings.specs.Count.{occ}
 use Rattle.rings.specs.Links.{All}
-use Rattle.rings.specs.Walk.{walk, Whole}
+use Rattle.rings.specs.Walk.{walk}
+use Rattle.rings.specs.Whole.{Whole}
 use Rattle.store.specs.Field.{pt, X, Y, NEXT, PREV, LENGTH}
 use Rattle.store.specs.Words.{Store, view}
-use Rattle.store.specs.Sound.{pts, recs, PointIn, Sound}
+use Rattle.store.specs.Sound.{pts, recs}
+use Rattle.store.specs.Good.{PointIn, Sound}
 use Rattle.store.specs.Value.{preserveCollinear, reverseSolution}
 use Rattle.geometry.specs.declared.Point.{Point}
 use Rattle.geometry.specs.Plane.{samePoint}

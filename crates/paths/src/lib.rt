@@ -14,7 +14,7 @@ ghost use mathlib.Core.Bool.{false, cond, not, _&&_, Bool·beq};
 ghost use mathlib.Core.List.{map};
 ghost use lib.Dec.{eqb, leb};
 ghost use lib.ListN.{length, set, replicate};
-ghost use Rattle.numbers.specs.Bytes.{putLe};
+ghost use Rattle.numbers.specs.Written.{putLe};
 ghost use Rattle.job.specs.Limits as limit;
 ghost use Rattle.lone.specs.Plane.{plane};
 ghost use Rattle.lone.specs.Path.{isSmallRing};

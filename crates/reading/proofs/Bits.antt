@@ -20,13 +20,16 @@ use Rattle.job.specs.declared.field.Reading.{Reading}
 use Rattle.job.specs.declared.field.Reading.the-variants as reading
 use Rattle.job.proofs.Accepted.{passed, accepted}
 use Rattle.store.specs.Field.{pt, rc, ct, X, Y, NEXT, PREV, REC, FLAGS, OWNER, FIRST, SETTINGS, POINTS, RECORDS, LENGTH}
-use Rattle.store.specs.Words.{Store, view, Write, write, onWords, onStore}
+use Rattle.store.specs.Words.{Store, view, Write, write, onWords}
+use Rattle.store.specs.Stores.{onStore}
 use Rattle.store.specs.Named.{settingsOf, recordsOf}
 use Rattle.store.proofs.Storing.{view-writes, length-writes}
 use Rattle.reading.specs.declared.fill.Outcome.the-variants.{State, Refused}
-use Rattle.reading.specs.Fill.{End, end, placed, taken, turnOf, follow, run, fillOf, Room}
+use Rattle.reading.specs.Fill.{End, end, placed, taken, turnOf, follow, run, fillOf}
+use Rattle.reading.specs.Needs.{Room}
 use Rattle.reading.proofs.Placing.{has-room}
-use Rattle.reading.specs.Read.{counted, withCounts, readOf, Bits}
+use Rattle.reading.specs.Read.{counted, withCounts, readOf}
+use Rattle.reading.specs.Alike.{Bits}
 
 -- a field that was read has no unused bit set
 bits-body : (k : Kind) (j : Job) (s : List ℕ) (f : Field) (n : ℕ) → bodyOf k j s ≡ reading.Read f n → strangeBits f ≡ false

@@ -22,7 +22,8 @@ use Rattle.store.proofs.Storing.{length-writes, view-writes}
 use Rattle.reading.specs.declared.fill.Outcome.{Outcome}
 use Rattle.reading.specs.declared.fill.Outcome.the-variants.{State, Refused}
 use Rattle.reading.specs.Fill.{End, end, placed, taken, turnOf, follow, run, fillOf}
-use Rattle.reading.specs.Read.{counted, readOf, Counts}
+use Rattle.reading.specs.Read.{counted, readOf}
+use Rattle.reading.specs.Alike.{Counts}
 use Rattle.reading.proofs.Going.{After, moves}
 
 -- no list changes its length

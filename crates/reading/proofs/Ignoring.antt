@@ -20,11 +20,14 @@ use Rattle.job.specs.declared.field.Field.the-variants.{Settings, Point, Record
 use Rattle.job.specs.declared.field.Reading.{Reading}
 use Rattle.job.specs.declared.field.Reading.the-variants as reading
 use Rattle.store.specs.Field.{PointCol, pt, rc, ct, X, Y, NEXT, PREV, REC, FLAGS, OWNER, FIRST, SETTINGS, POINTS, RECORDS, LENGTH}
-use Rattle.store.specs.Words.{Store, view, Write, write, onWords, onStore}
+use Rattle.store.specs.Words.{Store, view, Write, write, onWords}
+use Rattle.store.specs.Stores.{onStore}
 use Rattle.store.proofs.Storing.{view-writes, length-writes}
 use Rattle.reading.specs.declared.fill.Outcome.the-variants.{State, Refused}
-use Rattle.reading.specs.Fill.{End, end, placed, taken, turnOf, follow, run, fillOf, Space, Room}
-use Rattle.reading.specs.Read.{counted, withCounts, readOf, SameJob, SameEnd, Ignores}
+use Rattle.reading.specs.Fill.{End, end, placed, taken, turnOf, follow, run, fillOf}
+use Rattle.reading.specs.Needs.{Space, Room}
+use Rattle.reading.specs.Read.{counted, withCounts, readOf}
+use Rattle.reading.specs.Alike.{SameJob, SameEnd, Ignores}
 use Rattle.reading.proofs.Placing.{has-room}
 
 -- a number more at place p, in both

@@ -6,7 +6,7 @@ use Prim.Native.Nat.{ℕ, _^_, _<_}
 use native.Mathlib.Omega.{arith}
 use lib.ListN.{length, set}
 use borrow.Author.Tests.{leb-false}
-use Rattle.numbers.specs.Bytes.{Part}
+use Rattle.numbers.specs.Written.{Part}
 use Rattle.job.specs.Limits.{POINTS, RECORDS, SEGMENTS, JOINS}
 use Rattle.job.specs.Field.{fieldIn, crowded, fieldOf}
 use Rattle.job.specs.Job.{past, Within}
@@ -21,7 +21,8 @@ use Rattle.job.specs.declared.field.Reading.{Reading}
 use Rattle.job.specs.declared.field.Reading.the-variants as reading
 use Rattle.reading.specs.declared.fill.Outcome.{Outcome}
 use Rattle.reading.specs.declared.fill.Outcome.the-variants.{State, Refused}
-use Rattle.reading.specs.Fill.{end, putPoint, putRecord, putJoin, placed, turnOf, Space, Room, Placing}
+use Rattle.reading.specs.Fill.{end, putPoint, putRecord, putJoin, placed, turnOf}
+use Rattle.reading.specs.Needs.{Space, Room, Placing}
 
 module _ (f : Field) (n : ℕ) (j r : Job) (w ss js : List ℕ) where
   pub placed-settings : (b : ℕ) → f ≡ Settings b → r ≡ past f n j → end (State r) w ss js ≡ placed f n j w ss js

@@ -26,11 +26,13 @@ use Rattle.job.specs.declared.field.Reading.the-variants as reading
 use Rattle.job.specs.declared.refusal.Refusal.the-variants.{Torn, Strange, Crowded}
 use Rattle.job.proofs.Accepted.{passed, accepted}
 use Rattle.store.specs.Field.{pt, rc, ct, X, Y, NEXT, PREV, REC, FLAGS, OWNER, FIRST, SETTINGS, POINTS, RECORDS, LENGTH}
-use Rattle.store.specs.Words.{view, write, onWords, onStore}
+use Rattle.store.specs.Words.{view, write, onWords}
+use Rattle.store.specs.Stores.{onStore}
 use Rattle.store.proofs.Storing.{view-writes, length-writes}
 use Rattle.reading.specs.declared.fill.Outcome.{Outcome}
 use Rattle.reading.specs.declared.fill.Outcome.the-variants.{State, Refused}
-use Rattle.reading.specs.Fill.{End, end, placed, taken, turnOf, follow, run, fillOf, Room}
+use Rattle.reading.specs.Fill.{End, end, placed, taken, turnOf, follow, run, fillOf}
+use Rattle.reading.specs.Needs.{Room}
 use Rattle.reading.specs.Read.{counted, withCounts, readOf}
 use Rattle.reading.specs.Standing.{fieldAt, valueAt, AtBytes, Standing}
 use Rattle.reading.proofs.Placing.{has-room}

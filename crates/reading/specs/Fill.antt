@@ -1,20 +1,19 @@
 -- Reading a job: a turn for each field, over what reading carries along, the words of the work space, and two lists: the level segments' points, and the
 -- joins' points, two by two.
-use Prim.Native.Nat.{ℕ, zero, suc, _+_, _*_, _^_, _<_, _≤_}
+use Prim.Native.Nat.{ℕ, zero, suc, _+_, _*_}
 use mathlib.Core.Bool.{cond}
 use mathlib.Core.List.{List, [], _∷_}
 use lib.Dec.{ltb, eqb}
 use lib.ListN.{length, set, drop}
-use Rattle.job.specs.Limits.{POINTS, RECORDS, SEGMENTS, JOINS}
 use Rattle.job.specs.Field.{fieldOf}
-use Rattle.job.specs.Job.{fresh, past, Within}
+use Rattle.job.specs.Job.{fresh, past}
 use Rattle.job.specs.declared.Job.{Job}
 use Rattle.job.specs.declared.refusal.Refusal.the-variants.{Torn, Strange}
 use Rattle.job.specs.declared.field.Field.{Field}
 use Rattle.job.specs.declared.field.Field.the-variants.{Settings, Point, Record, Segment, Join}
 use Rattle.job.specs.declared.field.Reading.{Reading}
 use Rattle.job.specs.declared.field.Reading.the-variants as reading
-use Rattle.store.specs.Field.{LENGTH, pt, rc, X, Y, NEXT, PREV, REC, FLAGS, OWNER, FIRST}
+use Rattle.store.specs.Field.{pt, rc, X, Y, NEXT, PREV, REC, FLAGS, OWNER, FIRST}
 use Rattle.store.specs.Words.{write, onWords}
 use Rattle.reading.specs.declared.fill.Outcome.{Outcome}
 use Rattle.reading.specs.declared.fill.Outcome.the-variants.{State, Refused}
@@ -69,24 +68,3 @@ run (suc k) bytes j w ss js =
 -- row 2: "empty job"; else its fields, one after the other
 unfoldable pub fillOf : List ℕ → List ℕ → List ℕ → List ℕ → End
 fillOf bytes w ss js = cond (eqb (length bytes) 0) (end (Refused Strange) w ss js) (run (suc (length bytes)) bytes fresh w ss js)
-
--- room for every field that a job may have
-pub record Space (w ss js : List ℕ) : Type 0 where
-  pub words : LENGTH ≤ length w
-  pub segments : SEGMENTS ≤ length ss
-  pub joins : 2 * JOINS ≤ length js
-
--- a place is free for the field
-abbrev pub Room : Field → Job → Type 0
-Room (Settings bits) j = Unit {0}
-Room (Point x y next prev rec) j = j .points < POINTS
-Room (Record flags owner first) j = j .records < RECORDS
-Room (Segment p) j = j .segments < SEGMENTS
-Room (Join a b) j = j .joins < JOINS
-
--- a field of n bytes that may be placed
-pub record Placing (f : Field) (n : ℕ) (j : Job) (w ss js : List ℕ) : Type 0 where
-  pub space : Space w ss js
-  pub within : Within j
-  pub room : Room f j
-  pub far : j .at + n < 2 ^ 64

@@ -13,7 +13,8 @@ ghost use Rattle.job.specs.Job.{Within};
 ghost use Rattle.store.specs.Field.{LENGTH, size};
 ghost use Rattle.store.specs.Words as words;
 ghost use Rattle.store.specs.Column.{fieldOf};
-ghost use Rattle.reading.specs.Fill.{end, putPoint, putRecord, putJoin, placed, turnOf, fillOf, Space, Placing};
+ghost use Rattle.reading.specs.Fill.{end, putPoint, putRecord, putJoin, placed, turnOf, fillOf};
+ghost use Rattle.reading.specs.Needs.{Space, Placing};
 
 // The state after a field, or after all; or a refusal.
 pub enum Outcome {

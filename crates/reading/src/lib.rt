@@ -9,7 +9,8 @@ ghost use Prim.Native.Nat.{_≤_};
 ghost use lib.ListN.{length};
 ghost use Rattle.job.specs.Job.{Within};
 ghost use Rattle.store.specs.Field.{LENGTH};
-ghost use Rattle.reading.specs.Fill.{end, Space};
+ghost use Rattle.reading.specs.Fill.{end};
+ghost use Rattle.reading.specs.Needs.{Space};
 ghost use Rattle.reading.specs.Read.{counted, readOf};
 
 // The settings and the counts.

@@ -7,7 +7,7 @@ use native.Mathlib.Decide.{ℕ-discrete}
 use Rattle.rings.specs.Circle.{initOf, lastOf}
 use Rattle.rings.specs.Count.{one, occ}
 use Rattle.rings.specs.Links.{Linked}
-use Rattle.rings.specs.Walk.{Whole}
+use Rattle.rings.specs.Whole.{Whole}
 use Rattle.rings.specs.Relink.{Inserted, Unlinked}
 use Rattle.rings.proofs.Counting.{all-in, one-else, occ-last}
 use Rattle.rings.proofs.Linking.{next-is, prev-is, linked-double, linked-drop}

@@ -7,7 +7,7 @@ use native.Mathlib.Decide.{ℕ-discrete}
 use lib.ListN.{length}
 use Rattle.rings.specs.Count.{one, occ}
 use Rattle.rings.specs.Links.{Seg, Linked}
-use Rattle.rings.specs.Walk.{Whole}
+use Rattle.rings.specs.Whole.{Whole}
 use Rattle.rings.proofs.Circles.{spin-past}
 use Rattle.rings.proofs.Counting.{sumBy-append, one-here, one-else, all-in, occ-rotate}
 use Rattle.rings.proofs.Linking.{linked-spin, linked-kept}

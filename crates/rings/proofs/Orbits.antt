@@ -8,7 +8,7 @@ use native.Mathlib.Decide.{ℕ-discrete, decLt}
 use lib.ListN.{length, length-append}
 use Rattle.rings.specs.Count.{occ}
 use Rattle.rings.specs.Links.{Seg}
-use Rattle.rings.specs.Walk.{Whole}
+use Rattle.rings.specs.Whole.{Whole}
 use Rattle.rings.specs.Relink.{Mutual}
 use Rattle.rings.proofs.Counting.{one-else, one-le, pigeon}
 use Rattle.rings.proofs.Linking.{seg-join}

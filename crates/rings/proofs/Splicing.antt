@@ -5,7 +5,7 @@ use mathlib.Core.List.{List, [], _∷_, _++_, append-assoc}
 use native.Mathlib.Omega.{arith}
 use Rattle.rings.specs.Count.{one, occ}
 use Rattle.rings.specs.Links.{Seg, Linked}
-use Rattle.rings.specs.Walk.{Whole}
+use Rattle.rings.specs.Whole.{Whole}
 use Rattle.rings.specs.Relink.{Crossed}
 use Rattle.rings.proofs.Circles.{initOf-snoc}
 use Rattle.rings.proofs.Counting.{all-in}

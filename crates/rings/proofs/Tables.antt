@@ -8,7 +8,7 @@ use native.Mathlib.Decide.{ℕ-discrete, decLt}
 use borrow.Author.Tests.{eq-eqb, ne-eqb}
 use Rattle.job.specs.Limits.{POINTS, NONE}
 use Rattle.rings.specs.Count.{one, occ}
-use Rattle.rings.specs.Walk.{Whole}
+use Rattle.rings.specs.Whole.{Whole}
 use Rattle.rings.specs.Relink.{Crossed, Inserted, Unlinked}
 use Rattle.rings.specs.Table.{total, Table, with, ringFrom, Starts, nowhere, on-it}
 use Rattle.rings.proofs.Counting.{sum-same, sum-change, sum-term, sum-two, one-le}

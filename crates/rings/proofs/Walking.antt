@@ -13,7 +13,8 @@ use Rattle.rings.specs.Circle.{spin, headOr}
 use Rattle.rings.specs.Count.{occ}
 use Rattle.rings.specs.Links.{Seg}
 use Rattle.rings.specs.Place.{place}
-use Rattle.rings.specs.Walk.{run, walk, Whole}
+use Rattle.rings.specs.Walk.{run, walk}
+use Rattle.rings.specs.Whole.{Whole}
 use Rattle.rings.proofs.Circles.{length-spin}
 use Rattle.rings.proofs.Counting.{one-here, apart, occ-spin, pigeon}
 use Rattle.rings.proofs.Linking.{linked-spin}

@@ -7,7 +7,8 @@ use mathlib.Core.List.{List, []}
 use lib.Dec.{eqb}
 use Rattle.job.specs.Limits.{NONE}
 use Rattle.rings.specs.Count.{sumTo, occ}
-use Rattle.rings.specs.Walk.{walk, Whole}
+use Rattle.rings.specs.Walk.{walk}
+use Rattle.rings.specs.Whole.{Whole}
 
 -- how often k is on the rings of the records below m
 abbrev pub total : (ℕ → List ℕ) → ℕ → ℕ → ℕ

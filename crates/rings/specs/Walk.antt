@@ -1,11 +1,9 @@
 -- The walk along next from a point until it again, and what a whole ring is. A ring has at most as many points as a job may.
-use Prim.Native.Nat.{ℕ, zero, suc, _≤_, _<_}
+use Prim.Native.Nat.{ℕ, zero, suc}
 use mathlib.Core.Bool.{cond}
 use mathlib.Core.List.{List, [], _∷_}
 use lib.Dec.{eqb}
 use Rattle.job.specs.Limits as limit
-use Rattle.rings.specs.Count.{occ}
-use Rattle.rings.specs.Links.{Linked}
 
 -- from a along n to the one whose next is stop, at most f of them
 unfoldable pub run : (ℕ → ℕ) → ℕ → ℕ → ℕ → List ℕ
@@ -14,9 +12,3 @@ run n stop (suc f) a = a ∷ cond (eqb (n a) stop) [] (run n stop f (n a))
 
 abbrev pub walk : (ℕ → ℕ) → ℕ → List ℕ
 walk n a = run n a limit.POINTS a
-
--- a whole ring: linked both ways, each point once, below m
-pub record Whole (n p : ℕ → ℕ) (m : ℕ) (c : List ℕ) : Type 0 where
-  pub linked : Linked n p c
-  pub once : (k : ℕ) → occ k c ≤ 1
-  pub below : (k : ℕ) → 0 < occ k c → k < m

@@ -15,8 +15,10 @@ use Rattle.store.specs.Field.{NONE}
 use Rattle.store.specs.Named.{recordsOf, ownerOf, pointsOf}
 use Rattle.audit.specs.Tests.{anyBelow, noSuch, noSuchOf}
 use Rattle.audit.proofs.Saying.{none-of, owned}
-use Rattle.rows.specs.Owners.{endsIn, circles, Circling}
-use Rattle.rows.specs.Rows.{unnamed, noSuchNumber, Filled}
+use Rattle.rows.specs.Owners.{endsIn, circles}
+use Rattle.rows.specs.Circling.{Circling}
+use Rattle.rows.specs.Rows.{unnamed, noSuchNumber}
+use Rattle.rows.specs.Found.{Filled}
 use Rattle.rows.specs.Tables.{Long}
 use Rattle.rows.proofs.Following.{never, one-more, none-yet, long-end, long-hop, long-back, has-owner}
 use Rattle.rows.proofs.Homes.{or-left, or-right}

@@ -16,7 +16,8 @@ use Rattle.audit.proofs.Saying.{none-of, all-none}
 use Rattle.audit.proofs.Testing.{more, hit, whole}
 use Rattle.rows.specs.Owners.{resolved, circles}
 use Rattle.rows.specs.Rings.{anyIn, onRing, alone, elsewhere, estranged}
-use Rattle.rows.specs.Rows.{muddled, onOpen, unnamed, Named}
+use Rattle.rows.specs.Rows.{muddled, onOpen, unnamed}
+use Rattle.rows.specs.Found.{Named}
 use Rattle.rows.proofs.Marking.{in-else}
 
 pub or-left : (a b : Bool) → (a || b) ≡ false → a ≡ false

@@ -12,8 +12,9 @@ use Rattle.audit.specs.Tests.{anyBelow, noSuch, noSuchOf}
 use Rattle.audit.specs.declared.Verdict.{Verdict}
 use Rattle.audit.specs.declared.Verdict.the-variants.{Passed, Refused}
 use Rattle.rows.specs.Owners.{circles}
-use Rattle.rows.specs.Rings.{bare, AllWalked}
-use Rattle.rows.specs.Rows.{offTheTable, unnamed, noSuchNumber, looseLink, muddled, openEdge, firstRows, rowsOf, Filled, Named}
+use Rattle.rows.specs.Marks.{bare, AllWalked}
+use Rattle.rows.specs.Rows.{offTheTable, unnamed, noSuchNumber, looseLink, muddled, openEdge, rowsOf}
+use Rattle.rows.specs.Found.{firstRows, Filled, Named}
 use Rattle.rows.proofs.Marking.{bare-alone}
 use Rattle.rows.proofs.Homes.{or-left, or-right}
 

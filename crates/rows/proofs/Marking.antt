@@ -17,7 +17,8 @@ use Rattle.store.specs.Words.{view}
 use Rattle.store.specs.Named.{pointsOf, recordsOf}
 use Rattle.store.specs.Sound.{ringAt}
 use Rattle.audit.specs.Tests.{isIn, anyBelow}
-use Rattle.rows.specs.Rings.{onRing, alone, marksOn, marksTo, bare}
+use Rattle.rows.specs.Rings.{onRing, alone}
+use Rattle.rows.specs.Marks.{marksOn, marksTo, bare}
 
 pub length-marks : (l ms : List ℕ) → length (marksOn l ms) ≡ length ms
 unfolding marksOn

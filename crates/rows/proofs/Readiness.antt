@@ -9,7 +9,8 @@ use native.Mathlib.Omega.{arith}
 use borrow.Author.Tests.{eq-eqb, ne-eqb, lt-ltb, ltb-true, not-false}
 use Rattle.rings.specs.Count.{occ}
 use Rattle.rings.specs.Relink.{Mutual}
-use Rattle.rings.specs.Walk.{Whole, walk}
+use Rattle.rings.specs.Walk.{walk}
+use Rattle.rings.specs.Whole.{Whole}
 use Rattle.rings.proofs.Counting.{sum-term}
 use Rattle.rings.proofs.Orbits.{orbit}
 use Rattle.rings.proofs.Walking.{ring-is}
@@ -19,17 +20,19 @@ use Rattle.job.specs.declared.refusal.Refusal.the-variants.{OffTheTable, NoSuch
 use Rattle.store.specs.Field.{NONE}
 use Rattle.store.specs.Words.{view}
 use Rattle.store.specs.Named.{pointsOf, recordsOf, nextOf, prevOf, recOf, ownerOf, firstOf}
-use Rattle.store.specs.Sound.{ringAt, total}
+use Rattle.store.specs.Sound.{ringAt}
+use Rattle.store.specs.Good.{total}
 use Rattle.audit.specs.Tests.{anyBelow, offTable, noSuch, noSuchOf, loose}
 use Rattle.audit.proofs.Saying.{none-of, Placed, on-table, Numbered, such, tied, Owned, owned}
-use Rattle.joins.specs.Resolve.{Resolves}
+use Rattle.joins.specs.Paths.{Resolves}
 use Rattle.audit.proofs.Saying.{none-of, Placed, on-table, Numbered, such, tied, Owned, owned}
 use Rattle.joins.specs.Resolved.{Ready}
 use Rattle.audit.specs.declared.Verdict.{Verdict}
 use Rattle.audit.specs.declared.Verdict.the-variants.{Passed, Refused}
 use Rattle.rows.specs.Owners.{endsIn, circles, findIn, resolved}
 use Rattle.rows.specs.Rings.{alone, estranged}
-use Rattle.rows.specs.Rows.{offTheTable, unnamed, noSuchNumber, looseLink, muddled, openEdge, rowsOf, Filled, Clear}
+use Rattle.rows.specs.Rows.{offTheTable, unnamed, noSuchNumber, looseLink, muddled, openEdge, rowsOf}
+use Rattle.rows.specs.Found.{Filled, Clear}
 use Rattle.rows.proofs.Homes.{or-left, or-right, ring-home, has-home}
 
 -- a row that refuses was passed by a job that passes

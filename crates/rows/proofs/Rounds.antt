@@ -16,7 +16,8 @@ use Rattle.store.specs.Named.{nextOf, firstOf, recordsOf, ringOf}
 use Rattle.store.specs.Sound.{ringAt}
 use Rattle.audit.specs.Tests.{anyBelow}
 use Rattle.audit.proofs.Testing.{more, hit, whole}
-use Rattle.rows.specs.Rings.{anyIn, elsewhere, estranged, marksOn, marksTo, Walked, AllWalked}
+use Rattle.rows.specs.Rings.{anyIn, elsewhere, estranged}
+use Rattle.rows.specs.Marks.{marksOn, marksTo, Walked, AllWalked}
 
 -- where a walk stands: what is still ahead decides
 pub record Round (w : List ℕ) (i a : ℕ) (ms₀ : List ℕ) (p left : ℕ) (ms : List ℕ) : Type 0 where

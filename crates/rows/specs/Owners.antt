@@ -1,13 +1,12 @@
 -- Owner chains of a job that is not yet known to be sound: does one end, and what a record resolves to.
-use Prim.Native.Nat.{ℕ, zero, suc, _<_}
-use mathlib.Core.Path.{_≡_}
+use Prim.Native.Nat.{ℕ, zero, suc}
 use mathlib.Core.Bool.{Bool, true, false, cond, not}
 use mathlib.Core.List.{List}
 use lib.Dec.{eqb}
 use Rattle.job.specs.Limits.{RECORDS}
 use Rattle.store.specs.Field.{rc, OWNER, FIRST, NONE}
 use Rattle.store.specs.Words.{view}
-use Rattle.store.specs.Named.{recordsOf, ownerOf, recOf}
+use Rattle.store.specs.Named.{recOf}
 
 -- the chain from r comes to none within f owners
 unfoldable pub endsIn : ℕ → (ℕ → ℕ) → ℕ → Bool
@@ -17,11 +16,6 @@ endsIn (suc f) owner r = let on : Bool = endsIn f owner (owner r) in cond (eqb (
 -- row 7: "an owner chain circles": it has not ended after as many owners as there may be records
 abbrev pub circles : List ℕ → ℕ → Bool
 circles w i = not (endsIn RECORDS (view w (rc OWNER)) i)
-
--- "an owner chain circles", of a job that has passed rows 1 to 5: exactly when no number of owners ends it (`circling`, proofs/Circling)
-pub record Circling (w : List ℕ) : Type 0 where
-  pub never-ends : (i : ℕ) → i < recordsOf w → circles w i ≡ true → (f : ℕ) → endsIn f (ownerOf w) i ≡ false
-  pub circles-then : (i : ℕ) → i < recordsOf w → ((f : ℕ) → endsIn f (ownerOf w) i ≡ false) → circles w i ≡ true
 
 -- the first with points among r and its owners, or none, within f records
 unfoldable pub findIn : ℕ → (ℕ → ℕ) → (ℕ → ℕ) → ℕ → ℕ

@@ -1,13 +1,10 @@
 -- Rows 4 to 8 of document 01's table, "each over the whole job": its points and records as words, its m segments and n joins as two lists.
-use Prim.Native.Nat.{ℕ, _*_, _≤_}
-use mathlib.Core.Path.{_≡_}
-use mathlib.Core.Bool.{Bool, false, cond, _&&_, _||_}
+use Prim.Native.Nat.{ℕ, _*_}
+use mathlib.Core.Bool.{Bool, cond, _&&_, _||_}
 use mathlib.Core.List.{List}
 use lib.Dec.{leb}
-use lib.ListN.{length, getD}
-use Rattle.job.specs.Limits.{POINTS, RECORDS}
+use lib.ListN.{getD}
 use Rattle.job.specs.declared.refusal.Refusal.the-variants.{OffTheTable, NoSuch, Loose, Muddled, OpenEdge}
-use Rattle.store.specs.Field.{LENGTH}
 use Rattle.store.specs.Words.{view}
 use Rattle.store.specs.Named.{pointsOf, recordsOf}
 use Rattle.store.specs.Sound.{isOpen}
@@ -46,10 +43,6 @@ onOpen w k = anyBelow (recordsOf w) (λ i. isOpen (view w) i && onRing w i k)
 abbrev pub openEdge : List ℕ → List ℕ → ℕ → List ℕ → ℕ → Bool
 openEdge w ss m js n = anyBelow m (λ i. onOpen w (getD ss i 0)) || anyBelow (2 * n) (λ i. onOpen w (getD js i 0))
 
--- rows 4 and 5, which ask nothing of links and rings
-abbrev pub firstRows : List ℕ → List ℕ → ℕ → List ℕ → ℕ → Verdict
-firstRows w ss m js n = cond (offTheTable w) (Refused OffTheTable) (cond (noSuchNumber w ss m js n) (Refused NoSuch) Passed)
-
 -- "4 to 8, each over the whole job", the first that holds
 unfoldable pub rowsOf : List ℕ → List ℕ → ℕ → List ℕ → ℕ → Verdict
 rowsOf w ss m js n =
@@ -59,26 +52,3 @@ rowsOf w ss m js n =
     (cond (muddled w) (Refused Muddled)
     (cond (openEdge w ss m js n) (Refused OpenEdge)
     Passed))))
-
--- a job that was read: counts within the limits, and the lists as long as they say
-pub record Filled (w ss : List ℕ) (m : ℕ) (js : List ℕ) (n : ℕ) : Type 0 where
-  pub long : LENGTH ≤ length w
-  pub points : pointsOf w ≤ POINTS
-  pub records : recordsOf w ≤ RECORDS
-  pub segments : m ≤ length ss
-  pub joins : 2 * n ≤ length js
-
--- the rows that a job passed
-pub record Clear (w ss : List ℕ) (m : ℕ) (js : List ℕ) (n : ℕ) : Type 0 where
-  pub on-the-table : offTheTable w ≡ false
-  pub numbers : noSuchNumber w ss m js n ≡ false
-  pub links : looseLink w ≡ false
-  pub rings : muddled w ≡ false
-  pub edges : openEdge w ss m js n ≡ false
-
--- row 7 has passed, and the first n numbers of a list name points
-pub record Named (w l : List ℕ) (n : ℕ) : Type 0 where
-  pub long : LENGTH ≤ length w
-  pub clear : muddled w ≡ false
-  pub fits : n ≤ length l
-  pub named : unnamed w l n ≡ false

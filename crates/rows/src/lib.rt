@@ -24,7 +24,8 @@ ghost use Rattle.store.specs.Sound.{isOpen};
 ghost use Rattle.audit.specs.Tests.{anyBelow};
 ghost use Rattle.audit.specs.Marks.{fails, Counted};
 ghost use Rattle.audit.specs.declared.Verdict.the-variants.{Passed};
-ghost use Rattle.rows.specs.Rows.{unnamed, noSuchNumber, onOpen, muddled, openEdge, firstRows, rowsOf, Filled, Named};
+ghost use Rattle.rows.specs.Rows.{unnamed, noSuchNumber, onOpen, muddled, openEdge, rowsOf};
+ghost use Rattle.rows.specs.Found.{firstRows, Filled, Named};
 ghost use Rattle.rows.specs.Owners.{resolved};
 ghost use Rattle.rows.specs.Tables.{UNKNOWN, Homes};
 

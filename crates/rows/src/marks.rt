@@ -14,7 +14,8 @@ ghost use Rattle.store.specs.Words.{view};
 ghost use Rattle.store.specs.Named.{pointsOf, ringOf};
 ghost use Rattle.store.specs.Sound.{ringAt};
 ghost use Rattle.audit.specs.Tests.{anyBelow};
-ghost use Rattle.rows.specs.Rings.{elsewhere, bare, Walked, AllWalked};
+ghost use Rattle.rows.specs.Rings.{elsewhere};
+ghost use Rattle.rows.specs.Marks.{bare, Walked, AllWalked};
 ghost use Rattle.rows.specs.Tables.{Homes};
 
 // Sets a point's mark.

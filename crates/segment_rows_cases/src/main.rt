@@ -13,7 +13,7 @@ ghost use mathlib.Core.Path.{_≡_};
 ghost use Prim.Native.Nat.{_+_, _*_, _≤_, _<_, _^_};
 ghost use lib.ListN.{length};
 ghost use Rattle.job.specs.Limits as limit;
-ghost use Rattle.sorting.specs.Sorted.{Even};
+ghost use Rattle.sorting.specs.Columns.{Even};
 
 fn wide(x: u8) -> usize
     ensures { λ r. ⌜ r < 2 ^ 8 ⌝ }

@@ -8,10 +8,12 @@ use borrow.Author.Tests.{ltb-false}
 use Rattle.job.specs.Limits as limit
 use Rattle.store.specs.Words.{view}
 use Rattle.store.specs.Named.{pointsOf}
-use Rattle.joins.specs.Resolve.{Lives}
+use Rattle.joins.specs.Paths.{Lives}
 use Rattle.joins.specs.Resolved.{Ready}
-use Rattle.segments.specs.Level.{xOf, alongOf, until, atLimit, limitRun, Bounded}
-use Rattle.segments.specs.Pair.{Span, Overlap, Meeting, oneOf, twoOf}
+use Rattle.segments.specs.Level.{xOf, alongOf, until, atLimit, limitRun}
+use Rattle.segments.specs.Needs.{Bounded}
+use Rattle.segments.specs.Pair.{oneOf, twoOf}
+use Rattle.segments.specs.Needs.{Span, Overlap, Meeting}
 use Rattle.segments.proofs.Running.{along-lives}
 
 -- what holds at p and is kept by each move holds where the walk ends

@@ -10,14 +10,15 @@ use borrow.Author.Tests.{eq-eqb, lt-ltb}
 use Rattle.job.specs.Limits as limit
 use Rattle.store.specs.Words.{view}
 use Rattle.store.specs.Named.{pointsOf, recordsOf, firstOf, nextOf, prevOf}
-use Rattle.joins.specs.Resolve.{Lives}
+use Rattle.joins.specs.Paths.{Lives}
 use Rattle.joins.specs.Resolved.{Ready}
 use Rattle.joins.specs.Needs.{Point}
 use Rattle.joins.proofs.Homes.{home-of, next-lives, prev-lives}
 use Rattle.joins.proofs.Homes as homes
 use Rattle.segments.specs.declared.level.Halt.{Halt}
 use Rattle.segments.specs.declared.level.Halt.the-variants.{Wall, Stop, Limit}
-use Rattle.segments.specs.Level.{xOf, yOf, alongOf, until, atWall, atStop, atLimit, wallRun, stopRun, limitRun, haltsAt, runOf, Together, Bounded, Ending, Home}
+use Rattle.segments.specs.Level.{xOf, yOf, alongOf, until, atWall, atStop, atLimit, wallRun, stopRun, limitRun, haltsAt, runOf}
+use Rattle.segments.specs.Needs.{Together, Bounded, Ending, Home}
 use Rattle.segments.proofs.Walks.{First, Steps, forwards, backwards}
 
 -- how often a walk moves: a loop's measure

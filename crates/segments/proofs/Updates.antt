@@ -12,15 +12,18 @@ use Rattle.job.specs.Limits as limit
 use Rattle.store.specs.Field.{NONE, LENGTH}
 use Rattle.store.specs.Words.{view}
 use Rattle.store.specs.Named.{pointsOf}
-use Rattle.joins.specs.Resolve.{homeOf, Lives}
+use Rattle.joins.specs.Resolve.{homeOf}
+use Rattle.joins.specs.Paths.{Lives}
 use Rattle.joins.specs.Needs.{Point}
 use Rattle.joins.proofs.Finding.{at-home}
 use Rattle.segments.specs.declared.level.Ends.{Ends}
 use Rattle.sorting.specs.declared.HorzSegment.{HorzSegment}
 use Rattle.sorting.specs.Sorted.{LAST}
-use Rattle.segments.specs.Level.{xOf, yOf, wallRun, stopRun, Together, Home}
-use Rattle.segments.specs.Pair.{Span}
-use Rattle.segments.specs.Update.{hasFront, walledEnds, freeEnds, endsOf, valid, invalid, blank, headed, segmentThrough, Claim, claim, claimOf, onClaim, updateFrom, segmentsOf, Listed}
+use Rattle.segments.specs.Level.{xOf, yOf, wallRun, stopRun}
+use Rattle.segments.specs.Needs.{Together, Home}
+use Rattle.segments.specs.Needs.{Span}
+use Rattle.segments.specs.Update.{hasFront, walledEnds, freeEnds, endsOf, valid, invalid, blank, headed, segmentThrough, Claim, claim, claimOf, onClaim, updateFrom, segmentsOf}
+use Rattle.segments.specs.Needs.{Listed}
 use Rattle.segments.proofs.Running.{until-lives}
 use Rattle.sorting.proofs.Stable.{Each}
 

@@ -8,14 +8,14 @@ use native.Mathlib.Decide.{ℕ-discrete}
 use lib.ListN.{length, length-append}
 use Rattle.rings.specs.Count.{occ}
 use Rattle.rings.specs.Links.{Seg}
-use Rattle.rings.specs.Walk.{Whole}
+use Rattle.rings.specs.Whole.{Whole}
 use Rattle.rings.proofs.Counting.{one-else, one-here, pigeon}
 use Rattle.rings.proofs.Linking.{seg-join}
 use Rattle.rings.proofs.Members.{one-is, occ-append, parted, seg-part}
 use Rattle.store.specs.Field.{pt, NEXT, PREV}
 use Rattle.store.specs.Words.{Store}
 use Rattle.store.specs.Sound.{pts}
-use Rattle.joins.specs.Resolve.{Lives}
+use Rattle.joins.specs.Paths.{Lives}
 use Rattle.joins.specs.Resolved.{Resolved}
 use Rattle.joins.proofs.Homes.{on-ring, from}
 

@@ -1,5 +1,5 @@
 -- The walks of convert_horz_segs_to_joins: along next or prev, until a test holds. Three tests, one walk.
-use Prim.Native.Nat.{ℕ, zero, suc, _<_}
+use Prim.Native.Nat.{ℕ, zero, suc}
 use mathlib.Core.Bool.{Bool, cond, _||_, not}
 use mathlib.Core.List.{List}
 use lib.Dec.{eqb, ltb}
@@ -7,8 +7,6 @@ use Rattle.job.specs.Limits as limit
 use Rattle.store.specs.Field.{pt, X, Y}
 use Rattle.store.specs.Words.{view}
 use Rattle.store.specs.Named.{nextOf, prevOf}
-use Rattle.joins.specs.Resolve.{Lives}
-use Rattle.joins.specs.Resolved.{Ready}
 use Rattle.segments.specs.declared.level.Halt.{Halt}
 use Rattle.segments.specs.declared.level.Halt.the-variants.{Wall, Stop, Limit}
 
@@ -58,29 +56,3 @@ abbrev pub runOf : List ℕ → Bool → Halt → ℕ → ℕ → ℕ
 runOf w on (Wall k) y = wallRun w on k y
 runOf w on (Stop k) y = stopRun w on k y
 runOf w on (Limit k) y = limitRun w on k y
-
--- ---- what the walks ask
-
--- p and q are on one ring
-pub record Together (w : List ℕ) (p q : ℕ) : Type 0 where
-  pub ready : Ready w
-  pub at : ℕ
-  pub one : Lives (view w) at p
-  pub two : Lives (view w) at q
-
--- p is a point of record i's ring
-pub record Home (w : List ℕ) (p i : ℕ) : Type 0 where
-  pub ready : Ready w
-  pub here : Lives (view w) i p
-
--- what ends a pair's walk: its segment's right point is on the same ring, to the right of the limit
-pub record Bounded (w : List ℕ) (p limit : ℕ) : Type 0 where
-  pub right : ℕ
-  pub same : Together w p right
-  pub beyond : limit < xOf w right
-
--- a walk from p comes to what ends it
-abbrev pub Ending : List ℕ → ℕ → Halt → Type 0
-Ending w p (Wall k) = Together w p k
-Ending w p (Stop k) = Together w p k
-Ending w p (Limit k) = Bounded w p k

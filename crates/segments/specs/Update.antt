@@ -1,14 +1,13 @@
 -- The first loop of convert_horz_segs_to_joins: each of the job's segments is run to both sides, headed, and struck out where its left point is taken.
-use Prim.Native.Nat.{ℕ, zero, suc, _+_, _%_, _/_, _≤_, _<_}
+use Prim.Native.Nat.{ℕ, zero, suc, _+_, _%_, _/_}
 use mathlib.Core.Bool.{Bool, true, false, cond}
 use mathlib.Core.List.{List}
 use lib.Dec.{eqb, ltb}
-use lib.ListN.{getD, set, length, replicate}
+use lib.ListN.{getD, set, replicate}
 use Rattle.job.specs.Limits as limit
 use Rattle.store.specs.Field.{NONE}
-use Rattle.store.specs.Named.{nextOf, firstOf, flagsOf, pointsOf}
+use Rattle.store.specs.Named.{nextOf, firstOf, flagsOf}
 use Rattle.joins.specs.Resolve.{homeOf}
-use Rattle.joins.specs.Resolved.{Ready}
 use Rattle.segments.specs.declared.level.Ends.{Ends}
 use Rattle.sorting.specs.declared.HorzSegment.{HorzSegment}
 use Rattle.sorting.specs.Sorted.{LAST}
@@ -69,10 +68,3 @@ updateFrom (suc f) i w ps ms R = onClaim i R (updateFrom f (i + 1) w ps) (claimO
 -- the job's n segments, by their points ps, in their order: the first loop
 unfoldable pub segmentsOf : List ℕ → ℕ → List ℕ → List HorzSegment
 segmentsOf w n ps = updateFrom n 0 w ps (replicate limit.POINTS 0) (replicate limit.SEGMENTS blank)
-
--- n points of a work space that opening is joining
-pub record Listed (w : List ℕ) (n : ℕ) (ps : List ℕ) : Type 0 where
-  pub ready : Ready w
-  pub fits : n ≤ length ps
-  pub few : n ≤ limit.SEGMENTS
-  pub point : (i : ℕ) → i < n → getD ps i 0 < pointsOf w

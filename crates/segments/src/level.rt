@@ -5,9 +5,11 @@ ghost use mathlib.Core.Bool.{true, false};
 ghost use mathlib.Core.Path.{_≡_};
 ghost use Prim.Native.Nat.{_<_};
 ghost use Rattle.joins.specs.Needs.{Point};
-ghost use Rattle.segments.specs.Level.{alongOf, haltsAt, runOf, Together, Ending, Home};
+ghost use Rattle.segments.specs.Level.{alongOf, haltsAt, runOf};
+ghost use Rattle.segments.specs.Needs.{Together, Ending, Home};
 ghost use Rattle.segments.specs.Update.{walledEnds, freeEnds};
-ghost use Rattle.segments.specs.Pair.{Meeting, oneOf, twoOf};
+ghost use Rattle.segments.specs.Pair.{oneOf, twoOf};
+ghost use Rattle.segments.specs.Needs.{Meeting};
 
 // The neighbour that way.
 fn along(w: &[u32], on: bool, p: usize) -> usize

@@ -15,8 +15,9 @@ ghost use lib.ListN.{length};
 ghost use Rattle.store.specs.Field.{LENGTH};
 ghost use Rattle.job.specs.Limits as limit;
 ghost use Rattle.joins.specs.Needs.{Point};
-ghost use Rattle.segments.specs.Level.{Home};
-ghost use Rattle.segments.specs.Update.{hasFront, endsOf, headed, segmentThrough, claim, claimOf, segmentsOf, Listed};
+ghost use Rattle.segments.specs.Needs.{Home};
+ghost use Rattle.segments.specs.Update.{hasFront, endsOf, headed, segmentThrough, claim, claimOf, segmentsOf};
+ghost use Rattle.segments.specs.Needs.{Listed};
 
 // Bit 1 of a record's flags.
 fn has_front(w: &[u32], i: usize) -> bool

@@ -1,2 +1,3 @@
 -- Definition of the sort of level segments.
 pub mod Sorted
+pub mod Columns

@@ -17,7 +17,7 @@ use Rattle.numbers.specs.Raised.{coordinate}
 use Rattle.numbers.proofs.Raises.{at-least, less}
 use Rattle.job.specs.Limits as limit
 use Rattle.geometry.specs.declared.Point.{Point}
-use Rattle.geometry.specs.Plane.{InTable}
+use Rattle.geometry.specs.Table.{InTable}
 use Rattle.store.specs.Field.{pt, X, Y}
 use Rattle.store.specs.Words.{Store, cell, view}
 use Rattle.store.specs.Value.{pointAt, pointOf, wordOf}

@@ -16,7 +16,8 @@ use Rattle.rings.proofs.Walking.{run-agree, Seen}
 use Rattle.job.specs.Limits as limit
 use Rattle.store.specs.Field.{RecordCol, pt, rc, X, Y, NEXT, PREV, REC, FLAGS, OWNER, FIRST, MARK, PRESENT, START, NONE}
 use Rattle.store.specs.Words.{Store}
-use Rattle.store.specs.Sound.{pts, recs, ringless, ringAt, isOpen, dueAt, Closed, PointIn, Good, total, Sound, looping, loneDue, loneAt}
+use Rattle.store.specs.Sound.{pts, recs, ringless, ringAt, isOpen, dueAt, Closed, looping, loneDue, loneAt}
+use Rattle.store.specs.Good.{PointIn, Good, total, Sound}
 use Rattle.store.proofs.Soundness.{present-on}
 
 -- record i (or a new one, i ≥ recs s) is changed, and no point that another record's ring has

@@ -7,13 +7,15 @@ use native.Mathlib.Omega.{arith}
 use lib.Dec.{eqb}
 use Rattle.rings.specs.Count.{occ}
 use Rattle.rings.specs.Progress.{isDone}
-use Rattle.rings.specs.Walk.{run, walk, Whole}
+use Rattle.rings.specs.Walk.{run, walk}
+use Rattle.rings.specs.Whole.{Whole}
 use Rattle.rings.proofs.Counting.{occ-head, sum-term}
 use Rattle.rings.proofs.Walking.{ring-is, Seen, seen}
 use Rattle.job.specs.Limits as limit
 use Rattle.store.specs.Field.{pt, rc, NEXT, PREV, FIRST, PRESENT}
 use Rattle.store.specs.Words.{Store}
-use Rattle.store.specs.Sound.{pts, recs, ringless, ringAt, dueAt, Closed, Sound}
+use Rattle.store.specs.Sound.{pts, recs, ringless, ringAt, dueAt, Closed}
+use Rattle.store.specs.Good.{Sound}
 
 ring-once : (s : Store) → Sound s → (i : ℕ) → i < recs s → (k : ℕ) → occ k (ringAt s i) ≤ 1
 ring-once s o i h k = omega (arith, o .once k, sum-term (recs s) i (λ j. occ k (ringAt s j)) h)

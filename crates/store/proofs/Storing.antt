@@ -10,7 +10,8 @@ use lib.ListN.{length, getD, set, length-set}
 use lib.Seq.{getD-set-same, getD-set-other}
 use borrow.Author.Tests.{ltb-true, lt-ltb, le-ltb, eqb-true, eqb-false, eq-eqb, ne-eqb}
 use Rattle.store.specs.Field.{Field, PointCol, RecordCol, Count, pt, rc, ct, X, Y, NEXT, PREV, REC, FLAGS, OWNER, FIRST, MARK, PRESENT, START, CUT, SETTINGS, POINTS, RECORDS, pointRank, recordRank, countRank, size, base, same, LENGTH}
-use Rattle.store.specs.Words.{Store, cell, put, view, upd, Write, write, onWords, onStore, Within, Misses}
+use Rattle.store.specs.Words.{Store, cell, put, view, Write, write, onWords}
+use Rattle.store.specs.Stores.{upd, onStore, Within, Misses}
 
 point-ranks : (f : PointCol) → pointRank f ≤ 4
 point-ranks X = omega arith

@@ -12,14 +12,15 @@ use mir.Val.{toZ, ofZ}
 use mir.Facts.{toZ-ofZ}
 use Rattle.job.specs.Limits as limit
 use Rattle.geometry.specs.declared.Point.{Point}
-use Rattle.geometry.specs.Plane.{InTable}
+use Rattle.geometry.specs.Table.{InTable}
 use Rattle.store.specs.declared.points.Room.the-variants.{At, Full}
 use Rattle.store.specs.Field.{pt, ct, X, Y, REC, POINTS}
 use Rattle.store.specs.Words.{view, cell, put, onWords}
 use Rattle.store.specs.Named.{pointsOf, nextOf, prevOf}
 use Rattle.store.specs.Value.{wordOf}
 use Rattle.store.proofs.Coordinates.{fits}
-use Rattle.store.specs.Primitive.{taken, disposed, pointWrites, linkWrites, unlinkWrites, afterWrites, beforeWrites, duplicateOp, disposeOutPt}
+use Rattle.store.specs.Primitive.{taken, pointWrites, linkWrites, unlinkWrites, afterWrites, beforeWrites, duplicateOp}
+use Rattle.store.specs.Beside.{disposed, disposeOutPt}
 
 pub took-point : (w w₁ w₂ w₃ w₄ : List ℕ) (k vx vy r : ℕ) → w₁ ≡ put (ct POINTS) w 0 (k + 1) → w₂ ≡ put (pt X) w₁ k vx → w₃ ≡ put (pt Y) w₂ k vy → w₄ ≡ put (pt REC) w₃ k r
     → w₄ ≡ onWords w (pointWrites k vx vy r)

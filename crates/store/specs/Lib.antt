@@ -2,7 +2,10 @@
 pub mod Field
 pub mod Column
 pub mod Words
+pub mod Stores
 pub mod Sound
+pub mod Good
 pub mod Named
 pub mod Value
 pub mod Primitive
+pub mod Beside

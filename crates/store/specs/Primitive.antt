@@ -1,16 +1,15 @@
 -- The Rust's primitives on points and records: what each writes, in the program's order, every value read before the first write.
-use Prim.Native.Nat.{ℕ, suc, _≤_, _<_}
+use Prim.Native.Nat.{ℕ, suc}
 use mathlib.Core.Bool.{Bool, cond}
 use mathlib.Core.List.{List, [], _∷_, _++_}
 use lib.Dec.{ltb}
-use lib.ListN.{length}
 use Rattle.job.specs.Limits as limit
 use Rattle.rings.specs.Progress.{validity}
 use Rattle.store.specs.declared.points.Room.{Room}
 use Rattle.store.specs.declared.points.Room.the-variants.{At, Full}
-use Rattle.store.specs.Field.{pt, rc, ct, X, Y, NEXT, PREV, REC, FLAGS, OWNER, FIRST, MARK, PRESENT, START, CUT, POINTS, LENGTH, NONE}
+use Rattle.store.specs.Field.{pt, rc, ct, X, Y, NEXT, PREV, REC, FLAGS, OWNER, FIRST, MARK, PRESENT, START, CUT, POINTS}
 use Rattle.store.specs.Words.{Store, view, Write, write, onWords}
-use Rattle.store.specs.Named.{pointsOf, nextOf, prevOf, setFirst}
+use Rattle.store.specs.Named.{pointsOf}
 use Rattle.store.specs.Sound.{pts, markOf}
 
 -- ---- what is written
@@ -56,23 +55,3 @@ ifPoint w w′ = cond (ltb (pointsOf w) limit.POINTS) (taken (At (pointsOf w)) w
 -- `duplicate_op`
 unfoldable pub duplicateOp : List ℕ → ℕ → Bool → Taken
 duplicateOp w op after = ifPoint w (cond after (onWords w (afterWrites (view w) op)) (onWords w (beforeWrites (view w) op)))
-
--- `dispose_out_pt`: op goes out; its next
-pub data Disposed : Type 0 where
-  disposed : ℕ → List ℕ → Disposed
-
-unfoldable pub disposeOutPt : List ℕ → ℕ → Disposed
-disposeOutPt w op = disposed (nextOf w op) (onWords w (unlinkWrites (prevOf w op) (nextOf w op)))
-
--- `dispose_out_pts`: the record is emptied; the points' links are left, which nothing reads
-abbrev pub disposeOutPts : List ℕ → ℕ → List ℕ
-disposeOutPts w i = setFirst w i NONE
-
--- ---- what they ask
-
--- op and its neighbours are places of points
-pub record Beside (w : List ℕ) (op : ℕ) : Type 0 where
-  pub long : LENGTH ≤ length w
-  pub here : op < limit.POINTS
-  pub next : nextOf w op < limit.POINTS
-  pub prev : prevOf w op < limit.POINTS

@@ -1,17 +1,13 @@
 -- A sound store: what the tests of a handed work space decide. Stated once, for opening, steps and writing out; its rings are computed from the links.
-use Prim.Native.Nat.{ℕ, zero, suc, _*_, _%_, _≤_, _<_}
+use Prim.Native.Nat.{ℕ, zero, suc, _%_, _<_}
 use mathlib.Core.Path.{_≡_}
-use mathlib.Core.Logic.{_⊎_}
 use mathlib.Core.Bool.{Bool, false, cond}
 use mathlib.Core.List.{List, []}
 use lib.Dec.{eqb}
-use Rattle.job.specs.Limits as limit
-use Rattle.rings.specs.Count.{sumTo, occ}
-use Rattle.rings.specs.Links.{Linked}
 use Rattle.rings.specs.Place.{place, orZero}
-use Rattle.rings.specs.Progress.{Ring, Due, validity, removal, triangle, split, done, isDone, resting, gone}
+use Rattle.rings.specs.Progress.{Ring, Due, validity, removal, triangle, split, done, resting, gone}
 use Rattle.rings.specs.Walk.{walk}
-use Rattle.store.specs.Field.{pt, rc, ct, X, Y, NEXT, PREV, REC, FLAGS, OWNER, FIRST, MARK, PRESENT, START, POINTS, RECORDS, NONE}
+use Rattle.store.specs.Field.{pt, rc, ct, NEXT, FLAGS, FIRST, MARK, PRESENT, START, POINTS, RECORDS, NONE}
 use Rattle.store.specs.Words.{Store}
 
 abbrev pub pts : Store → ℕ
@@ -52,31 +48,6 @@ pub record Closed (s : Store) (i : ℕ) : Type 0 where
   pub known : i < recs s
   pub ringed : ringless s i ≡ false
   pub closed : isOpen s i ≡ false
-
--- a point that a ring may have
-pub record PointIn (s : Store) (k : ℕ) : Type 0 where
-  pub below : k < pts s
-  pub x-in : s (pt X) k ≤ 2 * limit.COORDINATE
-  pub y-in : s (pt Y) k ≤ 2 * limit.COORDINATE
-  pub record-in : s (pt REC) k < recs s
-
--- a sound record
-pub record Good (s : Store) (i : ℕ) : Type 0 where
-  pub linked : Linked (s (pt NEXT)) (s (pt PREV)) (ringAt s i)
-  pub points-in : (k : ℕ) → 0 < occ k (ringAt s i) → PointIn s k
-  pub owner : (s (rc OWNER) i ≡ NONE) ⊎ (s (rc OWNER) i < recs s)
-  pub meant : Closed s i → s (rc MARK) i ≤ 4
-  pub going : Closed s i → isDone (dueAt s i) ≡ false → 0 < occ (s (rc PRESENT) i) (ringAt s i)
-
--- how often k is on a ring
-abbrev pub total : Store → ℕ → ℕ
-total s k = sumTo (recs s) (λ i. occ k (ringAt s i))
-
-pub record Sound (s : Store) : Type 0 where
-  pub few-points : pts s ≤ limit.POINTS
-  pub few-records : recs s ≤ limit.RECORDS
-  pub good : (i : ℕ) → i < recs s → Good s i
-  pub once : (k : ℕ) → total s k ≤ 1
 
 -- ---- the lone ring of a record, by indices: in a loop from the present place, else from the first point
 

@@ -1,13 +1,11 @@
 -- Words seen as a store: a store is a function from a column and an index to a number, and `view w` is the store that the words w hold. Definitions
 -- and proofs above this file go by stores and named columns; only this file and the layout know lists of words.
-use Prim.Native.Nat.{ℕ, _+_, _<_}
-use mathlib.Core.Path.{_≡_}
-use mathlib.Core.Logic.{_≢_, _⊎_}
-use mathlib.Core.Bool.{cond, false}
+use Prim.Native.Nat.{ℕ, _+_}
+use mathlib.Core.Bool.{cond}
 use mathlib.Core.List.{List, [], _∷_}
-use lib.Dec.{ltb, eqb}
+use lib.Dec.{ltb}
 use lib.ListN.{getD, set}
-use Rattle.store.specs.Field.{Field, size, base, same}
+use Rattle.store.specs.Field.{Field, size, base}
 
 -- a store: for each column, its numbers
 abbrev pub Store : Type 0
@@ -25,10 +23,6 @@ put f w i v = set w (base f + i) v
 abbrev pub view : List ℕ → Store
 view w f i = cell f w i
 
--- the store with v at i of column f
-abbrev pub upd : Store → Field → ℕ → ℕ → Store
-upd s f i v g j = cond (same f g) (cond (eqb j i) v (s g j)) (s g j)
-
 -- a write: v to word i of a column
 pub record Write : Type 0 where
   pub to : Field
@@ -42,17 +36,3 @@ write f i v = record { to = f; at = i; is = v }
 abbrev pub onWords : List ℕ → List Write → List ℕ
 onWords w [] = w
 onWords w (x ∷ xs) = onWords (put (x .to) w (x .at) (x .is)) xs
-
-abbrev pub onStore : Store → List Write → Store
-onStore s [] = s
-onStore s (x ∷ xs) = onStore (upd s (x .to) (x .at) (x .is)) xs
-
--- every write is to a word of its column
-abbrev pub Within : List Write → Type 0
-Within [] = Unit {0}
-Within (x ∷ xs) = (x .at < size (x .to)) × Within xs
-
--- a place that none of the writes is to
-abbrev pub Misses : List Write → Field → ℕ → Type 0
-Misses [] g j = Unit {0}
-Misses (x ∷ xs) g j = ((same (x .to) g ≡ false) ⊎ (j ≢ x .at)) × Misses xs g j

@@ -11,12 +11,13 @@ ghost use lib.ListN.{length};
 ghost use Rattle.job.specs.Limits as limit;
 ghost use Rattle.numbers.specs.Raised.{coordinate};
 ghost use Rattle.exact.specs.Num.{Within};
-ghost use Rattle.geometry.specs.Plane.{InTable};
+ghost use Rattle.geometry.specs.Table.{InTable};
 ghost use Rattle.store.specs.Field.{pt, X, Y, LENGTH};
 ghost use Rattle.store.specs.Words.{view, onWords};
 ghost use Rattle.store.specs.Named.{pointsOf};
 ghost use Rattle.store.specs.Value.{pointOf, wordOf};
-ghost use Rattle.store.specs.Primitive.{taken, disposed, pointWrites, linkWrites, unlinkWrites, startWrites, afterWrites, beforeWrites, duplicateOp, disposeOutPt, disposeOutPts, Beside};
+ghost use Rattle.store.specs.Primitive.{taken, pointWrites, linkWrites, unlinkWrites, startWrites, afterWrites, beforeWrites, duplicateOp};
+ghost use Rattle.store.specs.Beside.{disposed, disposeOutPt, disposeOutPts, Beside};
 
 // The place that was taken, or that there is none.
 pub enum Room {

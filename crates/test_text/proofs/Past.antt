@@ -5,7 +5,7 @@ use Prim.Native.Nat.{ℕ, suc, _+_, _<_, _≤_}
 use native.Mathlib.Omega.{arith}
 use lib.ListN.{length, getD, take, drop, set, drop-of-length-le, List·getD-eq-default}
 use lib.Seq.{take-all, drop-length, set-out}
-use Rattle.numbers.specs.Bytes.{Number, Part}
+use Rattle.numbers.specs.Written.{Number, Part}
 
 pub byte-past : (s : List ℕ) (at : ℕ) → length s ≤ at → 0 ≡ getD s at 0
 byte-past s at h = sym (List·getD-eq-default s 0 h)

@@ -2,7 +2,7 @@
 ghost use mathlib.Core.Path.{_≡_};
 ghost use Prim.Native.Nat.{_+_, _<_, _≤_, min};
 ghost use lib.ListN.{length, getD, take, drop, set};
-ghost use Rattle.numbers.specs.Bytes.{Number};
+ghost use Rattle.numbers.specs.Written.{Number};
 ghost use Rattle.test_text.specs.Places.{FAR};
 
 // A place that no input reaches.

@@ -16,10 +16,12 @@ use Rattle.job.specs.Limits as limit
 use Rattle.store.specs.Field.{PointCol, pt, rc, ct, NEXT, PREV, REC, OWNER, FIRST, MARK, PRESENT, START, POINTS, RECORDS, LENGTH, NONE}
 use Rattle.store.specs.Named.{nextOf, prevOf}
 use Rattle.store.specs.Sound.{pts, recs, markOf}
-use Rattle.store.specs.Words.{Store, view, cell, put, onWords, onStore, Within}
+use Rattle.store.specs.Words.{Store, view, cell, put, onWords}
+use Rattle.store.specs.Stores.{onStore, Within}
 use Rattle.store.proofs.Storing.{view-put, length-put, view-writes, length-writes}
 use Rattle.store.specs.Value.{wordOf}
-use Rattle.store.specs.Primitive.{pointWrites, linkWrites, unlinkWrites, startWrites, disposed, disposeOutPt, Beside}
+use Rattle.store.specs.Primitive.{pointWrites, linkWrites, unlinkWrites, startWrites}
+use Rattle.store.specs.Beside.{disposed, disposeOutPt, Beside}
 use Rattle.acts.specs.Writes.{moveWrites, toFirstWrites, discardWrites, dropWrites, putWrites, doubleWrites, placeWrites, cutWrites, cutPutWrites, recordWrites, offcutWrites}
 use Rattle.acts.specs.Apply.{ringWrites, afterW}
 use Rattle.turns.specs.declared.Act.{Act}

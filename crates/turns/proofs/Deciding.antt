@@ -12,16 +12,17 @@ use Rattle.rings.proofs.Placing.{not-first}
 use Rattle.rings.proofs.Walking.{Seen, seen}
 use Rattle.rings.specs.Circle.{oneOrThree, lastOf}
 use Rattle.rings.specs.Progress.{Ring, Due, validity, removal, triangle, split, done, mapRing, resting}
-use Rattle.rings.specs.Walk.{Whole}
+use Rattle.rings.specs.Whole.{Whole}
 use Rattle.lone.specs.Lone.{Geo, actOf, decide, isValidClosedPath}
 use Rattle.lone.specs.Ring.{discard, toFirst}
 use Rattle.store.proofs.Soundness.{whole, first-on}
 use Rattle.store.specs.Field.{pt, rc, NEXT, PREV, FIRST}
-use Rattle.store.specs.Sound.{pts, ringAt, Closed, Sound, dueAt, loneAt}
+use Rattle.store.specs.Sound.{pts, ringAt, Closed, dueAt, loneAt}
+use Rattle.store.specs.Good.{Sound}
 use Rattle.store.specs.Words.{Store}
 use Rattle.acts.proofs.Positions.{inLoop}
 use Rattle.acts.proofs.Progressing.{rested}
-use Rattle.acts.specs.Rep.{value}
+use Rattle.acts.specs.Value.{value}
 use Rattle.turns.proofs.Removing.{removal-is}
 use Rattle.turns.proofs.Splitting.{split-is}
 use Rattle.turns.specs.Decide.{threeFrom, validityAt, decideDue, decideAt}

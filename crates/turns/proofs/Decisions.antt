@@ -21,7 +21,8 @@ use Rattle.geometry.specs.Plane.{samePoint, isVerySmallTriangle, removable, seg
 use Rattle.geometry.specs.declared.Edges.{Edges}
 use Rattle.geometry.specs.declared.Crossing.{Crossing}
 use Rattle.geometry.specs.declared.Crossing.the-variants.{Parallel, Start, End, Inside}
-use Rattle.geometry.specs.Crossing.{edgesOf, Paired, crossing, pointAt, Crossed}
+use Rattle.geometry.specs.Crossing.{crossing, pointAt}
+use Rattle.geometry.specs.Within.{edgesOf, Paired, Crossed}
 use Rattle.geometry.proofs.Differences.{paired-of}
 use Rattle.geometry.proofs.Crossings.{crossed-as}
 use Rattle.lone.specs.Ring.{Act, stay, discard, dropPoint, moveOn, toFirst, double, cut}

@@ -13,13 +13,15 @@ use Rattle.rings.specs.Progress.{isDone}
 use Rattle.lone.specs.Lone.{Geo}
 use Rattle.lone.specs.Plane.{plane}
 use Rattle.lone.specs.Forest.{Answer, ok, full, outOfTurn, isOk}
-use Rattle.lone.specs.Finish.{enough}
+use Rattle.lone.specs.Rounds.{enough}
 use Rattle.store.specs.Field.{ct, SETTINGS, LENGTH}
 use Rattle.store.specs.Words.{view}
 use Rattle.store.specs.Sound.{recs, isOpen, loneAt}
 use Rattle.store.specs.Value.{preserveCollinear}
-use Rattle.acts.specs.Step.{Outcome, outcome, actAt, roomFor, answerS, stepByW, stepW, stepOf}
-use Rattle.acts.specs.Finish.{Finishes, wordsLeft, RingsEnd, ringsDone, ringsFull, andThen, stepsByW, finishRecord, finishFromW, finishW}
+use Rattle.acts.specs.Step.{Outcome, outcome, actAt, roomFor, answerS, stepByW, stepW}
+use Rattle.acts.specs.Run.{stepOf}
+use Rattle.acts.specs.Finish.{RingsEnd, ringsDone, ringsFull, andThen, stepsByW, finishRecord, finishFromW, finishW}
+use Rattle.acts.specs.Finishable.{Finishes, wordsLeft}
 use Rattle.acts.proofs.Stepping.{length-step}
 use Rattle.acts.proofs.Finishing.{settings-kept, finishes-step, words-fall, words-bound, finishes-record, settings-record, length-record}
 use Rattle.turns.specs.Form.{raised, geometryOf}

@@ -7,7 +7,7 @@ use native.Mathlib.Omega.{arith}
 use lib.ListN.{length}
 use Rattle.rings.specs.Circle.{lastOf, back, initOf, spin}
 use Rattle.rings.specs.Count.{occ}
-use Rattle.rings.specs.Walk.{Whole}
+use Rattle.rings.specs.Whole.{Whole}
 use Rattle.rings.specs.Progress.{validity, removal, triangle, split, done}
 use Rattle.rings.proofs.Circles.{turn-back, spin-round, length-initOf}
 use Rattle.rings.proofs.Counting.{occ-head, occ-turn, occ-last}
@@ -16,7 +16,8 @@ use Rattle.rings.proofs.Walking.{ring-is, whole-spin}
 use Rattle.geometry.specs.declared.Point.{Point}
 use Rattle.store.specs.Field.{pt, rc, X, Y, NEXT, PREV, MARK, LENGTH}
 use Rattle.store.specs.Words.{view, cell}
-use Rattle.store.specs.Sound.{pts, PointIn, dueOf, dueAt}
+use Rattle.store.specs.Sound.{pts, dueOf, dueAt}
+use Rattle.store.specs.Good.{PointIn}
 use Rattle.store.specs.Value.{pointOf}
 use Rattle.store.specs.Named.{nextOf, prevOf, pointsOf, ringOf}
 use Rattle.walks.specs.Ring.{OnRing}

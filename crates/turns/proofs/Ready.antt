@@ -6,7 +6,7 @@ use mathlib.Core.List.{List}
 use native.Mathlib.Omega.{arith}
 use lib.IntN.{ℤ}
 use Rattle.geometry.specs.declared.Point.{Point}
-use Rattle.geometry.specs.Plane.{InTable}
+use Rattle.geometry.specs.Table.{InTable}
 use Rattle.geometry.proofs.Crossings.{crossing-in-table}
 use Rattle.lone.specs.Ring.{Act}
 use Rattle.lone.specs.Plane.{plane}
@@ -19,7 +19,7 @@ use Rattle.store.specs.Words.{view}
 use Rattle.store.proofs.Soundness.{first-on}
 use Rattle.store.proofs.Coordinates.{lowered-in, raise-low, raised-back}
 use Rattle.walks.proofs.Visiting.{on-ring}
-use Rattle.acts.specs.Apply.{Codes}
+use Rattle.acts.specs.Codes.{Codes}
 use Rattle.acts.specs.Laws.{Laws}
 use Rattle.acts.specs.Step.{actAt}
 use Rattle.turns.specs.Form.{raised, geometryOf}

@@ -16,14 +16,15 @@ use Rattle.rings.specs.Count.{occ}
 use Rattle.rings.specs.Links.{Linked}
 use Rattle.rings.specs.Place.{isHere, place}
 use Rattle.rings.specs.Progress.{removal, mapRing}
-use Rattle.rings.specs.Walk.{Whole}
+use Rattle.rings.specs.Whole.{Whole}
 use Rattle.lone.specs.Lone.{Geo, actOf, decide, removalTurn, isValidClosedPath}
 use Rattle.store.specs.Field.{pt, rc, NEXT, PREV, PRESENT, START}
-use Rattle.store.specs.Sound.{pts, Closed, Sound, dueAt, loneAt}
+use Rattle.store.specs.Sound.{pts, Closed, dueAt, loneAt}
+use Rattle.store.specs.Good.{Sound}
 use Rattle.store.specs.Words.{Store}
 use Rattle.acts.proofs.Positions.{Loop, loop}
 use Rattle.acts.proofs.Progressing.{turned}
-use Rattle.acts.specs.Rep.{value}
+use Rattle.acts.specs.Value.{value}
 use Rattle.turns.specs.Decide.{validWithout, removalAt}
 
 module _ {P : Type 0} (of : ℕ → ℕ → P) (G : Geo P) (s : Store) where

@@ -19,11 +19,12 @@ use Rattle.job.specs.Limits as limit
 use Rattle.rings.specs.Count.{occ}
 use Rattle.rings.proofs.Counting.{occ-head}
 use Rattle.geometry.specs.declared.Point.{Point}
-use Rattle.geometry.specs.Plane.{InTable, AllInTable, areaOutpt, areaTriangle}
+use Rattle.geometry.specs.Plane.{areaOutpt, areaTriangle}
+use Rattle.geometry.specs.Table.{InTable, AllInTable}
 use Rattle.geometry.proofs.Circles.{area-within-53}
 use Rattle.geometry.proofs.Triangles.{triangle-within}
 use Rattle.store.specs.Words.{view}
-use Rattle.store.specs.Sound.{PointIn}
+use Rattle.store.specs.Good.{PointIn}
 use Rattle.store.specs.Value.{pointOf}
 use Rattle.store.specs.Named.{ringOf}
 use Rattle.walks.specs.Ring.{OnRing, valuesFrom}

@@ -17,14 +17,16 @@ use Rattle.rings.proofs.Walking.{ring-is}
 use Rattle.rings.specs.Circle.{lastOf, initOf, back, omap, ahead, oneOrThree, cutCircle}
 use Rattle.rings.specs.Place.{isHere, place}
 use Rattle.rings.specs.Progress.{Ring, split, done, mapRing}
-use Rattle.rings.specs.Walk.{walk, Whole}
+use Rattle.rings.specs.Walk.{walk}
+use Rattle.rings.specs.Whole.{Whole}
 use Rattle.lone.specs.Lone.{Geo, isZero, actOf, decide, splitTurn, doSplitOp}
 use Rattle.lone.specs.Ring.{moveOn}
 use Rattle.store.specs.Field.{pt, rc, NEXT, PREV, PRESENT, START, FIRST}
-use Rattle.store.specs.Sound.{pts, Closed, Sound, dueAt, loneAt}
+use Rattle.store.specs.Sound.{pts, Closed, dueAt, loneAt}
+use Rattle.store.specs.Good.{Sound}
 use Rattle.store.specs.Words.{Store}
 use Rattle.acts.proofs.Positions.{Loop, loop}
-use Rattle.acts.specs.Rep.{value}
+use Rattle.acts.specs.Value.{value}
 use Rattle.turns.proofs.Reading.{back-whole}
 use Rattle.turns.proofs.Removing.{turn-is}
 use Rattle.turns.specs.Decide.{threeLeft, ringFrom, cutAt, splitOpAt, crossedAt, splitAt}

@@ -16,7 +16,8 @@ use Rattle.store.specs.Words.{Store, view, cell}
 use Rattle.store.specs.Sound.{pts, recs, dueOf, dueAt}
 use Rattle.store.specs.Value.{preserveCollinear}
 use Rattle.acts.specs.Apply.{takesRecord, afterW}
-use Rattle.acts.specs.Step.{outcome, fits, live, actAt, answerS, stepW, stepOf}
+use Rattle.acts.specs.Step.{outcome, fits, live, actAt, answerS, stepW}
+use Rattle.acts.specs.Run.{stepOf}
 use Rattle.acts.proofs.Acting.{Ready, to-discard, to-move, to-go-first, to-drop, to-double, to-cut}
 use Rattle.acts.proofs.Readiness.{ready}
 use Rattle.acts.proofs.Stepping.{live-is, live-too, due-is}

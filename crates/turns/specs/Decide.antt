@@ -12,7 +12,7 @@ pub use Rattle.lone.specs.Lone.{keepsBy}
 use Rattle.store.specs.Field.{pt, rc, NEXT, PREV, FIRST, PRESENT, START}
 use Rattle.store.specs.Words.{Store}
 use Rattle.store.specs.Sound.{dueAt}
-use Rattle.acts.specs.Rep.{value}
+use Rattle.acts.specs.Value.{value}
 
 module _ (s : Store) where
   -- the point before is the second after

@@ -7,12 +7,13 @@ use lib.ListN.{length}
 use Rattle.job.specs.Limits as limit
 use Rattle.rings.specs.Progress.{isDone}
 use Rattle.geometry.specs.declared.Point.{Point}
-use Rattle.geometry.specs.Plane.{InTable}
+use Rattle.geometry.specs.Table.{InTable}
 use Rattle.geometry.specs.declared.Edges.{Edges}
-use Rattle.geometry.specs.Crossing.{Paired}
+use Rattle.geometry.specs.Within.{Paired}
 use Rattle.store.specs.Field.{rc, FIRST, PRESENT, LENGTH}
 use Rattle.store.specs.Words.{view}
-use Rattle.store.specs.Sound.{Sound, Closed, dueAt}
+use Rattle.store.specs.Sound.{Closed, dueAt}
+use Rattle.store.specs.Good.{Sound}
 use Rattle.store.specs.Value.{pointOf}
 use Rattle.walks.specs.Ring.{OnRing}
 

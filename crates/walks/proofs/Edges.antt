@@ -11,7 +11,8 @@ use mir.Facts.{toZ-ofZ}
 use Rattle.exact.proofs.Size.{fits-size}
 use Rattle.job.specs.Limits as limit
 use Rattle.geometry.specs.declared.Point.{Point}
-use Rattle.geometry.specs.Plane.{InTable, edgeArea}
+use Rattle.geometry.specs.Plane.{edgeArea}
+use Rattle.geometry.specs.Table.{InTable}
 use Rattle.geometry.proofs.Coordinates.{edge-within}
 use Rattle.store.specs.Field.{pt, X, Y}
 use Rattle.store.specs.Words.{view}

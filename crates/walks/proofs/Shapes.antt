@@ -9,7 +9,7 @@ use lib.ListN.{length}
 use borrow.Author.Tests.{eq-eqb, ne-eqb}
 use Rattle.rings.specs.Circle.{lastOf}
 use Rattle.rings.specs.Count.{one, occ}
-use Rattle.rings.specs.Walk.{Whole}
+use Rattle.rings.specs.Whole.{Whole}
 use Rattle.rings.proofs.Counting.{one-here, occ-head, occ-lastOf}
 use Rattle.rings.proofs.Linking.{prev-is}
 use Rattle.rings.proofs.Members.{one-is, next-on, prev-on}

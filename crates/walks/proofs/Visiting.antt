@@ -14,21 +14,24 @@ use Rattle.exact.proofs.Size.{size-add, fits-size}
 use Rattle.job.specs.Limits as limit
 use Rattle.rings.specs.Count.{one, occ}
 use Rattle.rings.specs.Links.{Seg}
-use Rattle.rings.specs.Walk.{run, Whole}
+use Rattle.rings.specs.Walk.{run}
+use Rattle.rings.specs.Whole.{Whole}
 use Rattle.rings.proofs.Counting.{one-here, occ-head, pigeon}
 use Rattle.rings.proofs.Linking.{prev-is}
 use Rattle.rings.proofs.Mapping.{map-lastOf}
 use Rattle.rings.proofs.Members.{next-on, prev-on}
 use Rattle.rings.proofs.Walking.{run-seg, Seen, seen}
 use Rattle.geometry.specs.declared.Point.{Point}
-use Rattle.geometry.specs.Plane.{InTable, edgeArea, areaFrom, areaOutpt}
+use Rattle.geometry.specs.Plane.{edgeArea, areaFrom, areaOutpt}
+use Rattle.geometry.specs.Table.{InTable}
 use Rattle.geometry.proofs.Coordinates.{edge-within}
 use Rattle.store.specs.Field.{LENGTH}
 use Rattle.store.specs.Words.{view}
 use Rattle.store.specs.Named.{pointsOf, nextOf, prevOf, ringOf}
-use Rattle.store.specs.Sound.{PointIn, Sound, recs, ringAt}
+use Rattle.store.specs.Sound.{recs, ringAt}
+use Rattle.store.specs.Good.{PointIn, Sound}
 use Rattle.store.specs.Value.{pointOf}
-use Rattle.store.specs.Primitive.{Beside}
+use Rattle.store.specs.Beside.{Beside}
 use Rattle.store.proofs.Coordinates.{in-table}
 use Rattle.store.proofs.Soundness.{whole}
 use Rattle.walks.specs.Ring.{OnRing, Edge, valuesFrom}

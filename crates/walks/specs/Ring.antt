@@ -6,14 +6,14 @@ use mathlib.Core.List.{List, [], _∷_, map}
 use lib.ListN.{length}
 use Rattle.job.specs.Limits as limit
 use Rattle.rings.specs.Count.{occ}
-use Rattle.rings.specs.Walk.{Whole}
+use Rattle.rings.specs.Whole.{Whole}
 use Rattle.rings.specs.Table.{ringFrom}
 use Rattle.geometry.specs.declared.Point.{Point}
 use Rattle.geometry.specs.Plane.{isVerySmallTriangle}
 use Rattle.store.specs.Field.{LENGTH, NONE}
 use Rattle.store.specs.Words.{view}
 use Rattle.store.specs.Named.{pointsOf, nextOf, prevOf, ringOf}
-use Rattle.store.specs.Sound.{PointIn}
+use Rattle.store.specs.Good.{PointIn}
 use Rattle.store.specs.Value.{pointOf}
 
 -- a is on a ring whose points are as a sound store has them

@@ -9,7 +9,7 @@ use borrow.Author.Tests.{eq-eqb, ne-eqb}
 use Rattle.store.specs.Named.{pointsOf}
 use Rattle.audit.specs.Tests.{anyBelow}
 use Rattle.audit.proofs.Testing.{none, more, hit, whole}
-use Rattle.rows.specs.Rings.{bare}
+use Rattle.rows.specs.Marks.{bare}
 use Rattle.rows.proofs.marks.any_bare.Statement.{statement}
 use Rattle.rows.proofs.marks.any_bare.Tie as tie
 

@@ -7,7 +7,8 @@ use borrow.Author.Needs.{needs}
 use Rattle.store.specs.Named.{recordsOf}
 use Rattle.audit.specs.Tests.{anyBelow}
 use Rattle.audit.proofs.Testing.{none}
-use Rattle.rows.specs.Rings.{estranged, marksTo}
+use Rattle.rows.specs.Rings.{estranged}
+use Rattle.rows.specs.Marks.{marksTo}
 use Rattle.rows.proofs.Rounds.{none-walked, all-met, all-more, marks-more, all-walked}
 use Rattle.rows.proofs.marks.walk_all.Statement.{statement}
 use Rattle.rows.proofs.marks.walk_all.Tie as tie

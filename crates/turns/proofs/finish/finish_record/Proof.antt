@@ -1,7 +1,7 @@
 -- `finish_record` meets its contract: each turn is a step that is carried out, and lowers the measure.
 use borrow.Author.Needs.{needs}
 use Rattle.store.specs.Words.{view}
-use Rattle.acts.specs.Finish.{wordsLeft}
+use Rattle.acts.specs.Finishable.{wordsLeft}
 use Rattle.turns.specs.Form.{raised, geometryOf}
 use Rattle.turns.proofs.Looping.{Running, begun, sound-words, next, fallen, stop}
 use Rattle.turns.proofs.finish.finish_record.Statement.{statement}

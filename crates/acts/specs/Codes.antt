@@ -1,0 +1,26 @@
+-- Values that two words hold.
+use Prim.Native.Nat.{ℕ, _*_, _≤_}
+use mathlib.Core.Path.{_≡_}
+use Rattle.job.specs.Limits as limit
+use Rattle.lone.specs.Ring.{Act, stay, discard, dropPoint, moveOn, toFirst, double, cut}
+use Rattle.store.specs.Words.{Store}
+use Rattle.store.specs.Stores.{onStore}
+use Rattle.acts.specs.Writes.{moveWrites, toFirstWrites, discardWrites, dropWrites, doubleWrites}
+use Rattle.acts.specs.Apply.{Coding, offWrites, ringWrites}
+
+-- a value that two words in range hold
+pub record Codes {P : Type 0} (f : Coding P) (v : P) : Type 0 where
+  pub x-in : f .xw v ≤ 2 * limit.COORDINATE
+  pub y-in : f .yw v ≤ 2 * limit.COORDINATE
+  pub again : f .of (f .xw v) (f .yw v) ≡ v
+
+module _ {P : Type 0} (f : Coding P) where
+  -- the store after an act on record i
+  abbrev pub after : Store → ℕ → Act P → Store
+  after s i stay = s
+  after s i discard = onStore s (discardWrites i)
+  after s i dropPoint = onStore s (dropWrites s i)
+  after s i (moveOn d) = onStore s (moveWrites s i d)
+  after s i (toFirst d) = onStore s (toFirstWrites s i d)
+  after s i (double v d) = onStore s (doubleWrites s i (f .xw v) (f .yw v) d)
+  after s i (cut v put off d) = onStore (onStore s (ringWrites s i v put d)) (offWrites s (onStore s (ringWrites s i v put d)) i v off)

@@ -1,0 +1,30 @@
+-- Steps on stores and on words, one after the other.
+use Prim.Native.Nat.{ℕ}
+use mathlib.Core.List.{List, [], _∷_}
+use Rattle.lone.specs.Lone.{Geo}
+use Rattle.lone.specs.Forest.{Answer, ok, full, outOfTurn}
+use Rattle.store.specs.Words.{Store, view}
+use Rattle.acts.specs.Apply.{Coding}
+use Rattle.acts.specs.Codes.{after}
+use Rattle.acts.specs.Step.{Outcome, actAt, answerS, outcome, stepW}
+
+module _ {P : Type 0} (G : Geo P) (f : Coding P) where
+  abbrev pub stepBy : Store → ℕ → Answer → Store
+  stepBy s i ok = after f s i (actAt s i)
+  stepBy s i full = s
+  stepBy s i outOfTurn = s
+
+  unfoldable pub stepS : Store → ℕ → Store
+  stepS s i = stepBy s i (answerS s i)
+
+  abbrev pub runS : Store → List ℕ → Store
+  runS s [] = s
+  runS s (i ∷ is) = runS (stepS s i) is
+
+  abbrev pub runW : List ℕ → List ℕ → List ℕ
+  runW w [] = w
+  runW w (i ∷ is) = runW (stepW w i) is
+
+  -- its answer and the words it leaves
+  unfoldable pub stepOf : List ℕ → ℕ → Outcome
+  stepOf w i = outcome (answerS (view w) i) (stepW w i)
