@@ -4,6 +4,7 @@ use audit::tests_of;
 use job::Job;
 use libc::STDOUT_FILENO;
 use store::Col;
+use store::LENGTH;
 use store::NONE;
 use store::points::start_record;
 use store::set;
@@ -109,7 +110,7 @@ fn alter_rings(w: &mut [u32])
 }
 
 fn main() {
-    let mut w = [0u32; 13840];
+    let mut w = [0u32; LENGTH];
     build(&mut w);
     let r = tests_of(&w);
     say(r);

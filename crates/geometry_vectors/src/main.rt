@@ -5,6 +5,7 @@
 use geometry::Crossing;
 use geometry::Edges;
 use geometry::Point;
+use job::Job;
 use libc::STDIN_FILENO;
 use libc::STDOUT_FILENO;
 ghost use Prim.Native.Nat.{_^_};
@@ -42,10 +43,10 @@ fn past_word(s: &[u8], at: usize) -> usize {
     i
 }
 
-// The place after the line at a place: no line has more than 255 bytes.
+// The place after the line at a place: every line has fewer than 300 bytes.
 fn past_line(s: &[u8], at: usize) -> usize {
     let mut i = at;
-    let mut left: u32 = 256;
+    let mut left: u32 = 300;
     while left > 0 {
         if byte(s, i) == b'\n' {
             return after(i);
@@ -101,14 +102,17 @@ fn number(s: &[u8], at: usize) -> i64 {
     signed(digits(s, at), false)
 }
 
+// The largest coordinate.
+const FURTHEST: i64 = Job::COORDINATE as i64;
+
 // A coordinate; what no case has, one beyond the limit, is 0.
 fn coordinate(z: i64) -> i32
     ensures { λ r. ⌜ Within (2 ^ 20) r ⌝ }
 {
-    if z > 1048576 {
+    if z > FURTHEST {
         return 0;
     }
-    if z < -1048576 {
+    if z < -FURTHEST {
         return 0;
     }
     z as i32

@@ -5,6 +5,7 @@ use mathlib.Core.List.{List, [], _∷_}
 use Prim.Native.Nat.{ℕ, zero, suc}
 use lib.IntN.{ℤ, pos, negℤ}
 use lib.ListN.{length}
+use Rattle.job.specs.Limits as limit
 use Rattle.geometry.specs.declared.Point.{Point}
 use Rattle.rings.specs.Progress.{Ring, atStart}
 use Rattle.lone.specs.Lone.{fromFirst}
@@ -45,7 +46,7 @@ pub record Outcome : Type 0 where
 
 -- the ring alone in a forest, finished in one call under the job's limits
 unfoldable pub after : Row → List (Entry (Ring Point) (List Point))
-after r = finishForest (loneRing (r .preserve)) 2048 512 (opening (leftClosed (atStart (r .ring)) ∷ []) (length (r .ring))) .entries
+after r = finishForest (loneRing (r .preserve)) limit.POINTS limit.RECORDS (opening (leftClosed (atStart (r .ring)) ∷ []) (length (r .ring))) .entries
 
 unfoldable pub result : Row → Outcome
 result r = record { finished = isAllDone (loneRing (r .preserve)) (after r); paths = closedPaths (plane (r .preserve)) (r .reversed) (after r) }

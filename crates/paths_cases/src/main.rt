@@ -6,8 +6,10 @@ use job::Job;
 use libc::STDIN_FILENO;
 use libc::STDOUT_FILENO;
 use listing::Listed;
+use paths::TRAY;
 use paths::Written;
 use store::Col;
+use store::LENGTH;
 ghost use Prim.Native.Nat.{_+_, _*_, _≤_, _<_, _^_};
 ghost use lib.ListN.{length};
 ghost use Rattle.job.specs.Limits as limit;
@@ -52,7 +54,7 @@ fn prev(k: usize, n: usize) -> usize
 }
 
 // Point k of a ring of n.
-fn set_point(work: &mut [u32; 13840], s: &[u8], at: usize, k: usize, n: usize)
+fn set_point(work: &mut [u32; LENGTH], s: &[u8], at: usize, k: usize, n: usize)
     requires { ⌜ (at + 8 ≤ length (now s)) × (k < n) × (n < limit.POINTS) ⌝ }
 {
     let x = word(s, at);
@@ -67,7 +69,7 @@ fn set_point(work: &mut [u32; 13840], s: &[u8], at: usize, k: usize, n: usize)
 }
 
 // One record, with the first point 0, done.
-fn set_record(work: &mut [u32; 13840], rev: usize, opened: usize, n: usize)
+fn set_record(work: &mut [u32; LENGTH], rev: usize, opened: usize, n: usize)
     requires { ⌜ (rev < 2 ^ 8) × (opened < 2 ^ 8) × (n < limit.POINTS) ⌝ }
 {
     store::set(work, Col::Settings, 0, rev * 2);
@@ -79,7 +81,7 @@ fn set_record(work: &mut [u32; 13840], rev: usize, opened: usize, n: usize)
     store::set(work, Col::Mark, 0, 4);
 }
 
-fn set_points(work: &mut [u32; 13840], s: &[u8], at: usize, n: usize)
+fn set_points(work: &mut [u32; LENGTH], s: &[u8], at: usize, n: usize)
     requires { ⌜ (at + 8 * n ≤ length (now s)) × (n < limit.POINTS) ⌝ }
 {
     let mut k: usize = 0;
@@ -107,7 +109,7 @@ fn list(work: &[u32], tray: &mut [u8], out: &mut [u8]) -> usize
 }
 
 // The ring at a place: lists its path, answers where the next ring begins.
-fn one(work: &mut [u32; 13840], tray: &mut [u8], out: &mut [u8], s: &[u8], at: usize) -> usize
+fn one(work: &mut [u32; LENGTH], tray: &mut [u8], out: &mut [u8], s: &[u8], at: usize) -> usize
     requires { ⌜ at + 4 ≤ length (now s) ⌝ }
     ensures { λ r. ⌜ r ≤ length (now (s .entry)) ⌝ }
 {
@@ -125,7 +127,7 @@ fn one(work: &mut [u32; 13840], tray: &mut [u8], out: &mut [u8], s: &[u8], at: u
     end
 }
 
-fn run(work: &mut [u32; 13840], tray: &mut [u8], out: &mut [u8], s: &[u8]) {
+fn run(work: &mut [u32; LENGTH], tray: &mut [u8], out: &mut [u8], s: &[u8]) {
     let mut at: usize = 0;
     let mut left: usize = 65536;
     while 0 < left {
@@ -139,8 +141,8 @@ fn run(work: &mut [u32; 13840], tray: &mut [u8], out: &mut [u8], s: &[u8]) {
 
 fn main() {
     let mut input = [0u8; 65536];
-    let mut work = [0u32; 13840];
-    let mut tray = [0u8; 17920];
+    let mut work = [0u32; LENGTH];
+    let mut tray = [0u8; TRAY];
     let mut out = [0u8; 4096];
     let n = io::read_full(STDIN_FILENO, &mut input);
     run(&mut work, &mut tray, &mut out, &input[..n]);

@@ -7,7 +7,9 @@ use job_listing::list_job;
 use libc::STDIN_FILENO;
 use libc::STDOUT_FILENO;
 use listing::Listed;
+use listing::TEXT;
 use opening::open::LENGTH;
+use paths::TRAY;
 use test_text::byte;
 use test_text::first;
 use test_text::from;
@@ -288,8 +290,8 @@ fn main() {
     let mut input = [0u8; 400000];
     let mut job = [0u8; DECIDES];
     let mut work = [0u32; LENGTH];
-    let mut tray = [0u8; 17920];
-    let mut text = [0u8; 150000];
+    let mut tray = [0u8; TRAY];
+    let mut text = [0u8; TEXT];
     let n = io::read_full(STDIN_FILENO, &mut input);
     run(&input[..n], &mut job, &mut work, &mut tray, &mut text);
 }

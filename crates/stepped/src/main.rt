@@ -20,9 +20,11 @@ use job::Job;
 use libc::STDIN_FILENO;
 use libc::STDOUT_FILENO;
 use listing::Listed;
+use listing::TEXT;
 use opening::open::LENGTH;
 use opening::open::Opened;
 use opening::open::open;
+use paths::TRAY;
 use paths::Written;
 use store::Col;
 use store::read;
@@ -164,8 +166,8 @@ fn write(text: &[u8], n: usize) {
 }
 
 fn write_paths(work: &[u32; LENGTH]) {
-    let mut tray = [0u8; 17920];
-    let mut out = [0u8; 150000];
+    let mut tray = [0u8; TRAY];
+    let mut out = [0u8; TEXT];
     let k = list(work, &mut tray, &mut out);
     write(&out, k);
 }
