@@ -30,6 +30,7 @@ pub enum Converted {
     Full,
 }
 
+// A join's point.
 fn put_point(joins: &mut [u32], i: usize, k: usize)
     requires { ⌜ (i < length (now joins)) × (k < 2 ^ 32) ⌝ }
     ensures { λ _. ⌜ now (joins .exit) ≡ set (now (joins .entry)) i k ⌝ }
@@ -133,6 +134,7 @@ fn join_pair(
     make_join(w, joins, m, b, a)
 }
 
+// A pair of valid segments: apart, or joined.
 fn pair(
     w: &mut [u32],
     lefts: &mut [usize],
@@ -153,7 +155,7 @@ fn pair(
     join_pair(w, lefts, forwards, joins, m, i, j)
 }
 
-// Segment i with those after it.
+// Segment i with those after it, up to the first that is not valid.
 fn inner(
     w: &mut [u32],
     lefts: &mut [usize],
@@ -187,8 +189,8 @@ fn inner(
     Converted::Joins(m)
 }
 
-// Every segment with those after it.
-pub fn outer(
+// Every segment with those after it, up to the first that is not valid.
+pub(crate) fn outer(
     w: &mut [u32],
     lefts: &mut [usize],
     rights: &[usize],

@@ -82,7 +82,7 @@ pub struct Ends {
 }
 
 // With a front edge: the walls are the first point and its next.
-pub fn walled_ends(w: &[u32], p: usize, y: usize, i: usize) -> Ends
+pub(crate) fn walled_ends(w: &[u32], p: usize, y: usize, i: usize) -> Ends
     requires { ⌜ Home (now w) p i ⌝ }
     ensures { λ r. ⌜ r ≡ walledEnds (now (w .entry)) p y i ⌝ }
 {
@@ -94,7 +94,7 @@ pub fn walled_ends(w: &[u32], p: usize, y: usize, i: usize) -> Ends
 }
 
 // Without one: back as far as p itself, then on as far as that end.
-pub fn free_ends(w: &[u32], p: usize, y: usize) -> Ends
+pub(crate) fn free_ends(w: &[u32], p: usize, y: usize) -> Ends
     requires { ⌜ Together (now w) p p ⌝ }
     ensures { λ r. ⌜ r ≡ freeEnds (now (w .entry)) p y ⌝ }
 {

@@ -41,7 +41,7 @@ fn ends(w: &[u32], op: usize, i: usize) -> Ends
     level::free_ends(w, op, y)
 }
 
-// Which end is left.
+// Which end is left; a run of one x is no segment.
 fn set_horz_seg_heading_forward(w: &[u32], op: usize, p: usize, n: usize) -> HorzSegment
     requires { ⌜ (LENGTH ≤ length (now w)) × (p < limit.POINTS) × (n < limit.POINTS) ⌝ }
     ensures { λ r. ⌜ r ≡ headed (now (w .entry)) op p n ⌝ }
@@ -72,8 +72,8 @@ fn set_horz_seg_heading_forward(w: &[u32], op: usize, p: usize, n: usize) -> Hor
     }
 }
 
-// The level segment through op.
-pub fn segment_through(w: &[u32], op: usize) -> HorzSegment
+// The level segment through op. (Where the Rust goes on without a left point or a record, here there are both: rows 5 and 7.)
+fn segment_through(w: &[u32], op: usize) -> HorzSegment
     requires { ⌜ Point (now w) op ⌝ }
     ensures { λ r. ⌜ r ≡ segmentThrough (now (w .entry)) op ⌝ }
 {
