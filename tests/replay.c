@@ -1,4 +1,4 @@
-/* replay FILE: runs the stored answers of FILE (tests/answers/README.md) through libfinishing_c.a with no Rust at hand: each job in one
+/* replay FILE: runs the stored answers of FILE (tests/answers/README.md) through liboutline.a with no Rust at hand: each job in one
  * call and by steps, its listing and every byte of its tray against what is stored. */
 #define _POSIX_C_SOURCE 200809L
 #include "listing.h"

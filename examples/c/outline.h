@@ -1,4 +1,4 @@
-/* Finishing outlines from C: the functions of libfinishing_c.a (`rt staticlib finishing_c` proves it and writes it to target/staticlib/).
+/* Finishing outlines from C: the functions of liboutline.a (`rt staticlib outline` proves it and writes it to target/staticlib/).
  *
  * Each call answers 0, or the number of the refusal:
  *    1 torn   2 strange   3 crowded   4 off the table   5 no such   6 loose   7 muddled   8 open edge   9 knot

@@ -1,4 +1,4 @@
-// The proved entry points as libfinishing_c.a exports them. A slice is a pointer and a length.
+// The proved entry points as liboutline.a exports them. A slice is a pointer and a length.
 // A fault, which only the check of the driver itself switches on, spoils what a call left.
 use crate::words::*;
 

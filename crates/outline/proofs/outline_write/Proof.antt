@@ -1,8 +1,8 @@
 -- `outline_write` meets its contract.
 use borrow.Author.Needs.{needs}
-use Rattle.finishing_c.proofs.Numbers.{as-written}
-use Rattle.finishing_c.proofs.outline_write.Statement.{statement}
-use Rattle.finishing_c.proofs.outline_write.Tie as tie
+use Rattle.outline.proofs.Numbers.{as-written}
+use Rattle.outline.proofs.outline_write.Statement.{statement}
+use Rattle.outline.proofs.outline_write.Tie as tie
 
 pub outline-write-spec : {M : Type 1} → statement M
 outline-write-spec =

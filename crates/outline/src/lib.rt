@@ -10,7 +10,7 @@ use paths::Written;
 ghost use mathlib.Core.Path.{_≡_};
 ghost use lib.ListN.{length};
 ghost use Rattle.store.specs.Field.{LENGTH};
-ghost use Rattle.finishing_c.specs.Calls.{openedNumber, steppedNumber, writtenNumber, worked, wrote, finished, openC, stepC, writeC, finishC};
+ghost use Rattle.outline.specs.Calls.{openedNumber, steppedNumber, writtenNumber, worked, wrote, finished, openC, stepC, writeC, finishC};
 
 // ---- the numbers of answers
 

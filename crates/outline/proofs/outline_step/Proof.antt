@@ -1,8 +1,8 @@
 -- `outline_step` meets its contract.
 use borrow.Author.Needs.{needs}
-use Rattle.finishing_c.proofs.Numbers.{as-stepped}
-use Rattle.finishing_c.proofs.outline_step.Statement.{statement}
-use Rattle.finishing_c.proofs.outline_step.Tie as tie
+use Rattle.outline.proofs.Numbers.{as-stepped}
+use Rattle.outline.proofs.outline_step.Statement.{statement}
+use Rattle.outline.proofs.outline_step.Tie as tie
 
 pub outline-step-spec : {M : Type 1} → statement M
 outline-step-spec =

@@ -1,8 +1,8 @@
 -- `outline_open` meets its contract.
 use borrow.Author.Needs.{needs}
-use Rattle.finishing_c.proofs.Numbers.{as-opened}
-use Rattle.finishing_c.proofs.outline_open.Statement.{statement}
-use Rattle.finishing_c.proofs.outline_open.Tie as tie
+use Rattle.outline.proofs.Numbers.{as-opened}
+use Rattle.outline.proofs.outline_open.Statement.{statement}
+use Rattle.outline.proofs.outline_open.Tie as tie
 
 pub outline-open-spec : {M : Type 1} → statement M
 outline-open-spec =

@@ -12,7 +12,7 @@ use Rattle.finishing.specs.Step.{stepOf}
 use Rattle.finishing.specs.Write.{writeOf}
 use Rattle.finishing.specs.InOneCall as call
 use Rattle.finishing.specs.InOneCall.{finishOf}
-use Rattle.finishing_c.specs.Calls.{openedNumber, steppedNumber, writtenNumber, worked, wrote, finished, asOpened, asStepped, asWritten, asFinished, openC, stepC, writeC, finishC}
+use Rattle.outline.specs.Calls.{openedNumber, steppedNumber, writtenNumber, worked, wrote, finished, asOpened, asStepped, asWritten, asFinished, openC, stepC, writeC, finishC}
 
 pub as-opened : (bytes : List ℕ) (n k : ℕ) (a : Opened) (w : List ℕ) → end a w ≡ openOf bytes n → k ≡ openedNumber a → worked k w ≡ openC bytes n
 unfolding openC

@@ -1,8 +1,8 @@
 -- `outline_finish` meets its contract.
 use borrow.Author.Needs.{needs}
-use Rattle.finishing_c.proofs.Numbers.{as-finished}
-use Rattle.finishing_c.proofs.outline_finish.Statement.{statement}
-use Rattle.finishing_c.proofs.outline_finish.Tie as tie
+use Rattle.outline.proofs.Numbers.{as-finished}
+use Rattle.outline.proofs.outline_finish.Statement.{statement}
+use Rattle.outline.proofs.outline_finish.Tie as tie
 
 pub outline-finish-spec : {M : Type 1} → statement M
 outline-finish-spec =
