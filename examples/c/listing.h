@@ -8,10 +8,11 @@
 
 static size_t value_length(const uint8_t *field) { return field[1] + 256 * (size_t)field[2]; }
 
-/* The bytes of the field at a place; 0 where no path is left. */
+/* The bytes of the field at a place; 0 where no path is left, or what is there is no whole path. */
 static size_t field_bytes(const uint8_t *tray, size_t length, size_t at) {
-    if (length - at < 3 || tray[at] == 0) return 0;
-    return 3 + value_length(tray + at);
+    if (length - at < 3 || (tray[at] != 6 && tray[at] != 7)) return 0;
+    size_t value = value_length(tray + at);
+    return value % 8 != 0 || value > length - at - 3 ? 0 : 3 + value;
 }
 
 static int64_t coordinate(const uint8_t *bytes) {

@@ -1,8 +1,5 @@
-/* Finishing outlines from C: the functions of liboutline.a (`rt staticlib outline` proves it and writes it to target/staticlib/).
- *
- * Each call answers 0, or the number of the refusal:
- *    1 torn   2 strange   3 crowded   4 off the table   5 no such   6 loose   7 muddled   8 open edge   9 knot
- *   10 full  11 small tray  12 out of turn
+/* Finishing outlines from C: the functions of liboutline.a (`rt staticlib outline` proves it and writes it to target/staticlib/;
+ * `tools/install PREFIX` installs it with this header and a pkg-config file). docs/JOB.md says more of the job, the refusals and the tray.
  *
  * Slices are a pointer and a count of elements, words of 32 bits and bytes. Any count will do, and so will any content: nothing outside a
  * slice is read or written, and every call ends. A pointer must point to as many elements as its count says, and be aligned for
@@ -19,12 +16,65 @@
 extern "C" {
 #endif
 
+/* ---- the job
+ *
+ * Fields and nothing else: a tag (one byte), the length of the value (two bytes), the value. Numbers stand low byte first, coordinates as two's
+ * complement. Tags never fall; points, records, segments and joins are numbered from 0, each kind by itself. One unit is a micrometre.
+ *
+ *   tag  field          length  value
+ *    1   settings          1    bit 0: keep points that lie in line; bit 1: write every path the other way round. First, and once
+ *    2   point            14    x, y (four bytes each); next, prev, record (two bytes each)
+ *    3   record            5    flags (bit 0: the ring is open; bit 1: it has a front edge); owner, first point (two bytes each, 65535 for none)
+ *    4   level segment     2    a point
+ *    5   join              4    two points */
+
+/* At most so many points and records, those made while finishing included; so many segments and joins in the job; a coordinate either way. */
+#define OUTLINE_POINTS 2048
+#define OUTLINE_RECORDS 512
+#define OUTLINE_SEGMENTS 256
+#define OUTLINE_JOINS 256
+#define OUTLINE_COORDINATE 1048576
+
+/* The first so many bytes of a job decide what becomes of it: the longest job that is accepted, and one point more. */
+#define OUTLINE_JOB_BYTES 42005
+#if OUTLINE_JOB_BYTES != 4 + 17 * (OUTLINE_POINTS + 1) + 8 * OUTLINE_RECORDS + 5 * OUTLINE_SEGMENTS + 7 * OUTLINE_JOINS
+#error "OUTLINE_JOB_BYTES is not what the limits make it"
+#endif
+
+/* ---- the work space and the tray */
+
 /* The fixed length of a work space in words. A shorter one is refused with 10 by every call, first of all. */
 #define OUTLINE_WORK_WORDS 13840
-/* A tray of so many bytes is always long enough. */
+#if OUTLINE_WORK_WORDS != 16 + 5 * OUTLINE_POINTS + 7 * OUTLINE_RECORDS
+#error "OUTLINE_WORK_WORDS is not what the limits make it"
+#endif
+
+/* The tray has a field for each path: a tag (6 closed, then 7 open), the length of its value in two bytes, low byte first, and the value: x and y
+ * of each point, four bytes each, low byte first, two's complement. A tag of 0, or the tray's end, comes after the last path.
+ * So many bytes are always enough. */
 #define OUTLINE_TRAY_BYTES 17920
-/* The first so many bytes of a job decide what becomes of it. */
-#define OUTLINE_JOB_BYTES 42005
+#if OUTLINE_TRAY_BYTES != 3 * OUTLINE_RECORDS + 8 * OUTLINE_POINTS
+#error "OUTLINE_TRAY_BYTES is not what the limits make it"
+#endif
+
+/* ---- the answers: 0, or the refusal's number, the first that applies */
+
+enum outline_refusal {
+    OUTLINE_TORN = 1,          /* a field is cut off, or its length is not its tag's */
+    OUTLINE_STRANGE = 2,       /* the job is empty, or has a tag or a bit that does not belong there */
+    OUTLINE_CROWDED = 3,       /* more points, records, segments or joins than a job may have */
+    OUTLINE_OFF_THE_TABLE = 4, /* a coordinate is beyond 1,048,576 micrometres either way */
+    OUTLINE_NO_SUCH = 5,       /* a number names no point or no record of the job */
+    OUTLINE_LOOSE = 6,         /* a point's next and prev do not lead back to it */
+    OUTLINE_MUDDLED = 7,       /* owners go in a circle, or a point is not on the ring of the record that it names */
+    OUTLINE_OPEN_EDGE = 8,     /* a segment or a join names a point of an open ring */
+    OUTLINE_KNOT = 9,          /* a join's second point is already the next of its first */
+    OUTLINE_FULL = 10,         /* finishing needs more than 2,048 points or 512 records, or the work space is too short */
+    OUTLINE_SMALL_TRAY = 11,   /* the paths need more bytes than the tray has */
+    OUTLINE_OUT_OF_TURN = 12   /* a step on a record that has none to take, or writing out before every closed ring is done */
+};
+
+/* ---- the calls */
 
 /* OUTLINE_WORK_WORDS, as the library has it. */
 uint64_t outline_work_words(void);
@@ -45,11 +95,13 @@ uint32_t outline_step(uint32_t *work, size_t work_words, uint32_t record);
  * done; with 11: the tray is too short; with 3 to 7 as a step. A refused writing out leaves every byte as found. The work space is only read. */
 uint32_t outline_write(const uint32_t *work, size_t work_words, uint8_t *tray, size_t tray_bytes);
 
-/* The tray: for each path a tag (6 closed, then 7 open), the length of its value in two bytes, low byte first, and the value: x and y of each
- * point, four bytes each, low byte first, two's complement. A tag of 0, or the tray's end, comes after the last path. */
-
 #ifdef __cplusplus
 }
+#endif
+
+/* The library is for x86-64 Linux: a count of elements has 64 bits. */
+#if defined(SIZE_MAX) && SIZE_MAX != UINT64_MAX
+#error "outline: size_t must have 64 bits"
 #endif
 
 #endif

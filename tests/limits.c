@@ -1,0 +1,138 @@
+/* limits: every constant of outline.h against the library's calls. What is at a limit passes, what is one past it is refused; and each refusal
+ * is given by name, on a smallest job of docs/JOB.md. */
+#include "outline.h"
+#include <stdio.h>
+#include <string.h>
+
+#define NONE 65535
+
+static uint8_t job[2 * OUTLINE_JOB_BYTES], tray[OUTLINE_TRAY_BYTES];
+static uint32_t work[OUTLINE_WORK_WORDS];
+static size_t length;
+static int faults;
+
+static void is(const char *what, uint64_t answer, uint64_t wanted) {
+    if (answer == wanted) return;
+    fprintf(stderr, "limits: %s: %llu, not %llu\n", what, (unsigned long long)answer, (unsigned long long)wanted);
+    faults++;
+}
+
+/* ---- a job, field by field */
+
+static void number(uint32_t value, int bytes) {
+    for (; bytes > 0; bytes--, value >>= 8) job[length++] = value & 255;
+}
+
+static void field(uint32_t tag, uint32_t bytes) {
+    number(tag, 1);
+    number(bytes, 2);
+}
+
+static void settings(void) {
+    length = 0;
+    field(1, 1);
+    number(0, 1);
+}
+
+static void point(int32_t x, int32_t y, uint32_t next, uint32_t prev, uint32_t record) {
+    field(2, 14);
+    number(x, 4);
+    number(y, 4);
+    number(next, 2);
+    number(prev, 2);
+    number(record, 2);
+}
+
+static void record(uint32_t flags, uint32_t owner, uint32_t first) {
+    field(3, 5);
+    number(flags, 1);
+    number(owner, 2);
+    number(first, 2);
+}
+
+static void segments(uint32_t count) {
+    for (; count > 0; count--) field(4, 2), number(0, 2);
+}
+
+static void joins(uint32_t count) {
+    for (; count > 0; count--) field(5, 4), number(0, 4);
+}
+
+/* As many points as there may be, on as many open rings. */
+static void largest(void) {
+    const uint32_t each = OUTLINE_POINTS / OUTLINE_RECORDS;
+    settings();
+    for (uint32_t i = 0; i < OUTLINE_POINTS; i++) {
+        uint32_t first = i - i % each;
+        point(i, i, first + (i + 1 - first) % each, first + (i + each - 1 - first) % each, i / each);
+    }
+    for (uint32_t i = 0; i < OUTLINE_RECORDS; i++) record(1, NONE, each * i);
+}
+
+/* ---- what the calls say */
+
+static uint32_t finish(size_t bytes, size_t words, size_t tray_bytes) { return outline_finish(job, bytes, work, words, tray, tray_bytes); }
+
+static uint32_t whole(void) { return finish(length, OUTLINE_WORK_WORDS, OUTLINE_TRAY_BYTES); }
+
+static void lengths(void) {
+    is("outline_work_words", outline_work_words(), OUTLINE_WORK_WORDS);
+    largest();
+    is("the largest job", whole(), 0);
+    is("its last path's tag", tray[OUTLINE_TRAY_BYTES - 3 - 8 * (OUTLINE_POINTS / OUTLINE_RECORDS)], 7);
+    is("a word less", finish(length, OUTLINE_WORK_WORDS - 1, OUTLINE_TRAY_BYTES), OUTLINE_FULL);
+    is("a byte of the tray less", finish(length, OUTLINE_WORK_WORDS, OUTLINE_TRAY_BYTES - 1), OUTLINE_SMALL_TRAY);
+    segments(OUTLINE_SEGMENTS);
+    joins(OUTLINE_JOINS);
+    is("the longest job's bytes and a point's", length + 17, OUTLINE_JOB_BYTES);
+    is("segments of an open ring", whole(), OUTLINE_OPEN_EDGE);
+    is("a byte of the job less", finish(length - 1, OUTLINE_WORK_WORDS, OUTLINE_TRAY_BYTES), OUTLINE_TORN);
+    joins(9);
+    is("what follows OUTLINE_JOB_BYTES", whole(), finish(OUTLINE_JOB_BYTES, OUTLINE_WORK_WORDS, OUTLINE_TRAY_BYTES));
+}
+
+static void counts(void) {
+    settings();
+    for (uint32_t i = 0; i <= OUTLINE_POINTS; i++) point(0, 0, i, i, 0);
+    is("a point too many", whole(), OUTLINE_CROWDED);
+    largest();
+    record(0, NONE, NONE);
+    is("a record too many", whole(), OUTLINE_CROWDED);
+    for (uint32_t more = 0; more < 2; more++) {
+        settings(), segments(OUTLINE_SEGMENTS + more);
+        is("segments", whole(), more ? OUTLINE_CROWDED : OUTLINE_NO_SUCH);
+        settings(), joins(OUTLINE_JOINS + more);
+        is("joins", whole(), more ? OUTLINE_CROWDED : OUTLINE_NO_SUCH);
+    }
+}
+
+static void coordinates(void) {
+    for (int32_t sign = -1; sign < 2; sign += 2)
+        for (int32_t more = 0; more < 2; more++) {
+            settings(), point(0, sign * (OUTLINE_COORDINATE + more), 0, 0, 0), record(1, NONE, 0);
+            is("a coordinate", whole(), more ? OUTLINE_OFF_THE_TABLE : 0);
+        }
+}
+
+static void other_refusals(void) {
+    length = 0;
+    is("an empty job", whole(), OUTLINE_STRANGE);
+    settings(), point(0, 0, 1, 0, 0), point(5, 5, 0, 1, 0), record(0, NONE, NONE);
+    is("a prev that does not lead back", whole(), OUTLINE_LOOSE);
+    settings(), record(0, 0, NONE);
+    is("a record that owns itself", whole(), OUTLINE_MUDDLED);
+    settings(), point(0, 0, 0, 0, 0), record(0, NONE, 0), joins(1);
+    is("a point joined to itself", whole(), OUTLINE_KNOT);
+    settings();
+    is("a job of settings alone", outline_open(job, length, work, OUTLINE_WORK_WORDS), 0);
+    is("a step on no record", outline_step(work, OUTLINE_WORK_WORDS, 0), OUTLINE_OUT_OF_TURN);
+    is("writing out no path", outline_write(work, OUTLINE_WORK_WORDS, tray, 0), 0);
+}
+
+int main(void) {
+    lengths();
+    counts();
+    coordinates();
+    other_refusals();
+    return faults != 0;
+}
