@@ -1,14 +1,46 @@
-//! Finishing outlines: safe functions over the proved entry points. Rust's own rules give what they ask of a caller: slices that hold
-//! what their length says, aligned, and not overlapping.
+//! Finishing outlines: safe functions over the proved entry points of `liboutline.a`. Rust's own rules give what they ask of a caller: slices
+//! that hold what their length says, aligned, and not overlapping. Any bytes and any words may be given; nothing panics.
+//!
+//! A job goes in as bytes, closed and open paths come out of a tray; `docs/JOB.md` says what a job is and what finishing does. In one call:
+//!
+//! ```
+//! // A ring that crosses itself, (0,0) (10,10) (10,0) (0,12), is cut into two triangles.
+//! let job = include_bytes!("../../../samples/crossed.job");
+//! let (mut work, mut tray) = (vec![0; outline::WORK_WORDS], vec![0; outline::TRAY_BYTES]);
+//! outline::finish(job, &mut work, &mut tray)?;
+//! let paths = outline::paths(&tray);
+//! assert_eq!(paths.len(), 2);
+//! assert_eq!(paths[0], outline::Path { open: false, points: vec![(5, 5), (0, 12), (0, 0)] });
+//! # Ok::<(), outline::Refused>(())
+//! ```
+//!
+//! Or by steps, in any order: [`open`], [`step`] on each record until it is refused as [`Refused::OUT_OF_TURN`], [`write`].
+//!
+//! A work space is lent by the caller and nothing else is kept between calls, so two threads may use two work spaces at once.
+#![deny(missing_docs)]
 
+mod refused;
+mod tray;
+
+pub use refused::Refused;
+pub use tray::{paths, Path};
+
+/// At most so many points, those made while finishing included.
+pub const POINTS: usize = 2_048;
+/// At most so many records, offcuts included.
+pub const RECORDS: usize = 512;
+/// At most so many level segments in a job.
+pub const SEGMENTS: usize = 256;
+/// At most so many joins in a job.
+pub const JOINS: usize = 256;
+/// A coordinate is at most so many micrometres either way.
+pub const COORDINATE: i32 = 1_048_576;
 /// The fixed length of a work space in words; a shorter one is refused with 10.
-pub const WORK_WORDS: usize = 13_840;
+pub const WORK_WORDS: usize = 16 + 5 * POINTS + 7 * RECORDS;
 /// A tray of so many bytes is always long enough.
-pub const TRAY_BYTES: usize = 17_920;
-
-/// The number of a refusal, 1 to 12.
-#[derive(Clone, Copy, Debug, PartialEq)]
-pub struct Refused(pub u32);
+pub const TRAY_BYTES: usize = 3 * RECORDS + 8 * POINTS;
+/// The first so many bytes of a job decide what becomes of it: the longest job that is accepted, and one point more.
+pub const JOB_BYTES: usize = 4 + 17 * (POINTS + 1) + 8 * RECORDS + 5 * SEGMENTS + 7 * JOINS;
 
 /// A slice is passed as a pointer and a length.
 mod c {
@@ -35,49 +67,73 @@ fn answer(number: u32) -> Result<(), Refused> {
     }
 }
 
-/// `WORK_WORDS`, as the library has it.
+/// [`WORK_WORDS`], as the library has it.
+///
+/// ```
+/// assert_eq!(outline::work_words(), outline::WORK_WORDS as u64);
+/// ```
 pub fn work_words() -> u64 {
     unsafe { c::outline_work_words() }
 }
 
 /// Opens a job: reads it and joins its rings. Refused, it leaves every word 0.
+///
+/// ```
+/// let mut work = vec![7; outline::WORK_WORDS];
+/// assert_eq!(outline::open(b"no job", &mut work), Err(outline::Refused::STRANGE));
+/// assert!(work.iter().all(|word| *word == 0));
+/// ```
 pub fn open(job: &[u8], work: &mut [u32]) -> Result<(), Refused> {
     answer(unsafe { c::outline_open(job.as_ptr(), job.len(), work.as_mut_ptr(), work.len()) })
 }
 
-/// One step on the ring of a record. Refused, it leaves every word as found; 12 says that there is nothing to step.
+/// One step on the ring of a record. Refused, it leaves every word as found; [`Refused::OUT_OF_TURN`] says that there is nothing to step.
+///
+/// ```
+/// # use outline::*;
+/// # let mut work = vec![0; WORK_WORDS];
+/// open(include_bytes!("../../../samples/crossed.job"), &mut work)?;
+/// let mut steps = 0;
+/// while step(&mut work, 0).is_ok() {
+///     steps += 1;
+/// }
+/// assert!(steps > 0);
+/// assert_eq!(step(&mut work, 0), Err(Refused::OUT_OF_TURN));
+/// # Ok::<(), Refused>(())
+/// ```
 pub fn step(work: &mut [u32], record: u32) -> Result<(), Refused> {
     answer(unsafe { c::outline_step(work.as_mut_ptr(), work.len(), record) })
 }
 
 /// Writes the paths of finished rings into the tray, zeros after them. Refused, it leaves every byte as found.
+///
+/// ```
+/// # use outline::*;
+/// # let (mut work, mut tray) = (vec![0; WORK_WORDS], vec![7; TRAY_BYTES]);
+/// open(include_bytes!("../../../samples/crossed.job"), &mut work)?;
+/// assert_eq!(write(&work, &mut tray), Err(Refused::OUT_OF_TURN));
+/// // Record 1 is the offcut.
+/// for record in [0, 1] {
+///     while step(&mut work, record).is_ok() {}
+/// }
+/// write(&work, &mut tray)?;
+/// assert_eq!(paths(&tray).len(), 2);
+/// # Ok::<(), Refused>(())
+/// ```
 pub fn write(work: &[u32], tray: &mut [u8]) -> Result<(), Refused> {
     answer(unsafe { c::outline_write(work.as_ptr(), work.len(), tray.as_mut_ptr(), tray.len()) })
 }
 
 /// Opens, steps every ring until it is done, and writes out. Refused, it leaves every word and every byte 0.
+///
+/// ```
+/// # use outline::*;
+/// let (mut work, mut tray) = (vec![7; WORK_WORDS], vec![7; TRAY_BYTES]);
+/// let refused = finish(&[1], &mut work, &mut tray).unwrap_err();
+/// assert_eq!(refused.to_string(), "refused 1, torn: a field is cut off, or its length is not its tag's");
+/// assert!(work.iter().all(|word| *word == 0) && tray.iter().all(|byte| *byte == 0));
+/// ```
 pub fn finish(job: &[u8], work: &mut [u32], tray: &mut [u8]) -> Result<(), Refused> {
     let (words, bytes) = (work.len(), tray.len());
     answer(unsafe { c::outline_finish(job.as_ptr(), job.len(), work.as_mut_ptr(), words, tray.as_mut_ptr(), bytes) })
-}
-
-/// One path of a tray: whether it is open, and its points.
-#[derive(Clone, Debug, PartialEq)]
-pub struct Path {
-    pub open: bool,
-    pub points: Vec<(i32, i32)>,
-}
-
-/// The paths that a written tray holds.
-pub fn paths(tray: &[u8]) -> Vec<Path> {
-    let mut paths = Vec::new();
-    let mut rest = tray;
-    while rest.len() >= 3 && rest[0] != 0 {
-        let length = u16::from_le_bytes([rest[1], rest[2]]) as usize;
-        let number = |b: &[u8]| i32::from_le_bytes([b[0], b[1], b[2], b[3]]);
-        let points = rest[3..3 + length].chunks(8).map(|point| (number(point), number(&point[4..]))).collect();
-        paths.push(Path { open: rest[0] == 7, points });
-        rest = &rest[3 + length..];
-    }
-    paths
 }

@@ -1,16 +1,16 @@
 //! steps FILE: opens the job in FILE, steps its rings one after another in falling record order until none can be stepped, writes out, and
 //! prints the paths. The order of the steps changes no path, only the order in which offcuts are listed.
-use outline::{open, paths, step, write, Refused, TRAY_BYTES, WORK_WORDS};
+use outline::{open, paths, step, write, Refused, RECORDS, TRAY_BYTES, WORK_WORDS};
 
 /// Steps every ring until it is done; an offcut that a step cuts off is a record of its own.
 fn step_all(work: &mut [u32]) -> Result<usize, Refused> {
     let mut steps = 0;
     loop {
         let before = steps;
-        for record in (0..512).rev() {
+        for record in (0..RECORDS as u32).rev() {
             while match step(work, record) {
                 Ok(()) => true,
-                Err(Refused(12)) => false,
+                Err(Refused::OUT_OF_TURN) => false,
                 Err(refused) => return Err(refused),
             } {
                 steps += 1;

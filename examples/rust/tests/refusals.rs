@@ -1,4 +1,4 @@
-// Refusals 11 and 12, which only the library gives, on the examples of docs/JOB.md. 1 to 10 are run by tests/cutlist.
+// The refusals' words; and 11 and 12, which only the library gives, on the examples of docs/JOB.md. 1 to 10 are run by tests/cutlist.
 use outline::*;
 
 /// `ring 1 - 0,0 5,5` under `settings 0`: an open line of two points, a path of 19 bytes.
@@ -20,4 +20,13 @@ fn out_of_turn() {
     let mut work = vec![7; WORK_WORDS];
     assert_eq!(open(&[1, 1, 0, 0], &mut work), Ok(()));
     assert_eq!(step(&mut work, 0), Err(Refused(12)));
+}
+
+#[test]
+fn every_refusal_has_its_word() {
+    assert!((1..=12).all(|number| !Refused(number).word().is_empty() && !Refused(number).meaning().is_empty()));
+    assert_eq!(Refused(7).word(), "muddled");
+    assert_eq!(Refused(12).to_string(), format!("refused 12, out of turn: {}", Refused::OUT_OF_TURN.meaning()));
+    assert_eq!((Refused(0).word(), Refused(13).meaning()), ("", ""));
+    assert_eq!(Refused(99).to_string(), "refused 99");
 }

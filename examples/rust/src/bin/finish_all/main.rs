@@ -1,11 +1,9 @@
 //! finish_all DIR: finishes every job below a folder on all cores, one work space a thread, and writes a listing beside each job.
 mod folder;
 mod listing;
-#[path = "../common/refusals.rs"]
-mod refusals;
 mod tally;
 
-use outline::{finish, paths, Refused, TRAY_BYTES, WORK_WORDS};
+use outline::{finish, paths, Refused, JOB_BYTES, TRAY_BYTES, WORK_WORDS};
 use std::io::{IsTerminal, Read, Write};
 use std::path::{Path, PathBuf};
 use std::process::exit;
@@ -18,9 +16,6 @@ const USAGE: &str = "usage: finish_all DIR [--threads N]
 Finishes every file NAME.job below DIR, on all cores or on N, and writes its listing, as ./cutlist prints it, to NAME.list beside it.
 Says at the end how many were accepted, and how many refused with which word.
 Ends with 0 if all were accepted, with 1 if some were refused or a file could not be read or written, with 2 if it could not be run.";
-
-/// So many bytes decide any job; what follows them changes nothing.
-const JOB_BYTES: u64 = 42_005;
 
 fn fail(what: &str) -> ! {
     eprintln!("finish_all: {what}");
@@ -67,7 +62,7 @@ impl Room {
     /// Finishes the job in a file and writes its listing.
     fn finish(&mut self, file: &Path) -> std::io::Result<Result<(), Refused>> {
         self.job.clear();
-        std::fs::File::open(file)?.take(JOB_BYTES).read_to_end(&mut self.job)?;
+        std::fs::File::open(file)?.take(JOB_BYTES as u64).read_to_end(&mut self.job)?;
         let answer = finish(&self.job, &mut self.work, &mut self.tray);
         let text = match answer {
             Ok(()) => listing::listing(&paths(&self.tray)),

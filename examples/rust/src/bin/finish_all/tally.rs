@@ -1,5 +1,4 @@
 //! How many jobs were accepted, and how many refused with which number.
-use crate::refusals;
 use outline::Refused;
 use std::collections::BTreeMap;
 
@@ -41,8 +40,7 @@ impl Tally {
         let mut out =
             format!("{} jobs: {accepted} accepted, {refused} refused, {failed} failed\n", accepted + refused + failed);
         for (number, count) in &self.refused {
-            let word = refusals::word(Refused(*number)).map_or("", |(word, _)| word);
-            out += &format!("{count:8}  refused {number} {word}\n");
+            out += &format!("{count:8}  refused {number} {}\n", Refused(*number).word());
         }
         out
     }

@@ -2,8 +2,6 @@
 mod compare;
 mod orders;
 mod page;
-#[path = "../common/refusals.rs"]
-mod refusals;
 mod view;
 
 use orders::{Order, Run};
@@ -56,14 +54,6 @@ fn asked() -> Asked {
     }
 }
 
-/// A refusal as a line says it: number, word and meaning.
-fn said(refused: Refused) -> String {
-    match refusals::word(refused) {
-        Some((word, meaning)) => format!("refused {}, {word}: {meaning}", refused.0),
-        None => format!("refused {}", refused.0),
-    }
-}
-
 fn count(number: usize, thing: &str) -> String {
     format!("{number} {thing}{}", if number == 1 { "" } else { "s" })
 }
@@ -85,8 +75,8 @@ fn verdict(runs: &[Run]) -> (String, i32) {
             None => ("the same: every ring and every offcut has the same points in all three orders".to_string(), 0),
             Some(difference) => (format!("NOT the same: {difference}"), 1),
         },
-        [first, ..] if refused.len() == runs.len() => (format!("no order ends: {}", said(first)), 1),
-        [first, ..] => (format!("NOT the same: one order ends, another is {}", said(first)), 1),
+        [first, ..] if refused.len() == runs.len() => (format!("no order ends: {first}"), 1),
+        [first, ..] => (format!("NOT the same: one order ends, another is {first}"), 1),
     }
 }
 
@@ -95,7 +85,7 @@ fn main() {
     let job = std::fs::read(&asked.job).unwrap_or_else(|why| fail(&format!("cannot read {}: {why}", asked.job), 2));
     let mut work = vec![0; WORK_WORDS];
     if let Err(refused) = open(&job, &mut work) {
-        fail(&said(refused), 1);
+        fail(&refused.to_string(), 1);
     }
     let rings = view::rings(&work).iter().filter(|ring| !ring.points.is_empty()).count();
     println!("opened    {}", count(rings, "ring"));

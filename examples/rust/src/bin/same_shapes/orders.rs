@@ -70,7 +70,7 @@ fn step_all(
                 left.extend(before..view::records(work));
             }
             // Done, open or without a ring.
-            Err(Refused(12)) => {
+            Err(Refused::OUT_OF_TURN) => {
                 left.remove(at);
             }
             Err(refused) => return (count, Some(refused)),

@@ -1,10 +1,9 @@
 //! The rings that a work space holds: docs/WORKSPACE.md's layout, read here and nowhere else.
+use outline::{POINTS, RECORDS};
 
 const HEAD: usize = 16;
-const POINTS: usize = 2_048;
-const RECORDS: usize = 512;
 /// How far a coordinate's word is raised.
-const RAISED: i32 = 1_048_576;
+const RAISED: i32 = outline::COORDINATE;
 const NONE: usize = 65_535;
 
 /// The columns of a point and of a record, in their order.
