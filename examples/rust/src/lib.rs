@@ -14,7 +14,7 @@
 //! # Ok::<(), outline::Refused>(())
 //! ```
 //!
-//! Or by steps, in any order: [`open`], [`step`] on each record until it is refused as [`Refused::OUT_OF_TURN`], [`write`].
+//! Or by steps, in any order: [`open`], [`step`] on each record until it is refused as [`Refused::OUT_OF_TURN`], [`write()`].
 //!
 //! A work space is lent by the caller and nothing else is kept between calls, so two threads may use two work spaces at once.
 #![deny(missing_docs)]
