@@ -102,17 +102,18 @@ fn number(s: &[u8], at: usize) -> i64 {
     signed(digits(s, at), false)
 }
 
-// The largest coordinate.
-const FURTHEST: i64 = Job::COORDINATE as i64;
+// The largest coordinate and the least.
+const MOST: i64 = Job::COORDINATE as i64;
+const LEAST: i64 = -MOST;
 
 // A coordinate; what no case has, one beyond the limit, is 0.
 fn coordinate(z: i64) -> i32
     ensures { λ r. ⌜ Within (2 ^ 20) r ⌝ }
 {
-    if z > FURTHEST {
+    if z > MOST {
         return 0;
     }
-    if z < -FURTHEST {
+    if z < LEAST {
         return 0;
     }
     z as i32

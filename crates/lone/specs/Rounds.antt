@@ -1,7 +1,5 @@
 -- A bound on the steps that a ring takes.
-use Prim.Native.Nat.{ℕ, zero, suc, _+_}
-use Prim.Native.Nat.{ℕ, suc, _*_}
-use Rattle.lone.specs.Rounds.{heaviest}
+use Prim.Native.Nat.{ℕ, zero, suc, _+_, _*_}
 
 -- of a circle's size: more than a smaller circle's with any walk on it
 abbrev pub rounds : ℕ → ℕ
