@@ -75,7 +75,7 @@ given-started s t u o b =
 
 -- ---- row 8: the job's segments and joins are on closed rings
 
-shut : (w l : List ℕ) (n : ℕ) → Resolved (view w) → anyBelow n (λ i. onOpen w (getD l i 0)) ≡ false → (k : ℕ) → k < n → Shut (view w) (getD l k 0)
+pub shut : (w l : List ℕ) (n : ℕ) → Resolved (view w) → anyBelow n (λ i. onOpen w (getD l i 0)) ≡ false → (k : ℕ) → k < n → Shut (view w) (getD l k 0)
 shut w l n o e k h i z =
     let a = none-of n (λ j. onOpen w (getD l j 0)) e k h in
     let b = none-of (recordsOf w) (λ j. isOpen (view w) j && onRing w j (getD l k 0)) a i (z .res .real) in

@@ -52,7 +52,7 @@ none s =
     }
 
 -- a column with v at i: what is below i + 1
-more : (i v : ℕ) (c d : ℕ → ℕ) → ((k : ℕ) → k < i → c k ≡ d k) → d i ≡ v → (k : ℕ) → k < suc i → cond (eqb k i) v (c k) ≡ d k
+pub more : (i v : ℕ) (c d : ℕ → ℕ) → ((k : ℕ) → k < i → c k ≡ d k) → d i ≡ v → (k : ℕ) → k < suc i → cond (eqb k i) v (c k) ≡ d k
 more i v c d h e k l = go (ℕ-discrete k i)
   where
     go : Dec (k ≡ i) → cond (eqb k i) v (c k) ≡ d k

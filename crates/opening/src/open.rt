@@ -26,7 +26,7 @@ pub enum Opened {
 }
 
 // The fixed length of a work space, in words.
-pub const LENGTH: usize = 16 + Job::POINTS * 5 + Job::RECORDS * 7;
+pub const LENGTH: usize = store::LENGTH;
 
 // k joins are made, and every ring is set at its start.
 fn make_joins(work: &mut [u32], joins: &[u32], k: usize) -> Opened
