@@ -104,6 +104,7 @@ fn number(s: &[u8], at: usize) -> i64 {
 
 // The largest coordinate and the least.
 const MOST: i64 = Job::COORDINATE as i64;
+
 const LEAST: i64 = -MOST;
 
 // A coordinate; what no case has, one beyond the limit, is 0.

@@ -9,6 +9,7 @@ use job::refusal::Refusal;
 use joins::Joined;
 use joins::process_horz_joins;
 use reading::fill::Outcome;
+use store::LENGTH;
 ghost use mathlib.Core.Path.{_≡_};
 ghost use Prim.Native.Nat.{_≤_};
 ghost use lib.ListN.{length};
@@ -24,9 +25,6 @@ pub enum Opened {
     Accepted,
     Refused(Refusal),
 }
-
-// The fixed length of a work space, in words.
-pub const LENGTH: usize = store::LENGTH;
 
 // k joins are made, and every ring is set at its start.
 fn make_joins(work: &mut [u32], joins: &[u32], k: usize) -> Opened

@@ -1,7 +1,7 @@
 // A record's progress: the step due, and any other progress that a case gives it before its steps.
 use job::Job;
-use opening::open::LENGTH;
 use store::Col;
+use store::LENGTH;
 use store::NONE;
 use store::read;
 use store::set;
