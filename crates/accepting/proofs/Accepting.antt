@@ -14,7 +14,7 @@ use Rattle.store.proofs.Storing.{length-writes}
 use Rattle.audit.specs.Tests.{anyBelow, noSuch, noSuchOf}
 use Rattle.reading.specs.declared.fill.Outcome.{Outcome}
 use Rattle.reading.specs.declared.fill.Outcome.the-variants.{State, Refused}
-use Rattle.reading.specs.Fill.{End, end, fillOf}
+use Rattle.reading.specs.Fill.{ReadEnd, end, fillOf}
 use Rattle.reading.specs.Needs.{Space}
 use Rattle.reading.specs.Read.{counted, withCounts, readOf}
 use Rattle.reading.specs.Alike.{Counts, Bits}
@@ -39,7 +39,7 @@ pub read-whole : (bytes w ss js : List ℕ) → Space w ss js → (j : Job) (v t
 unfolding readOf
 read-whole bytes w ss js s j v ts ks e = by (fillOf bytes w ss js) refl e (bits-of bytes w ss js (s .words) j v ts ks e)
   where
-    by : (T : End) → fillOf bytes w ss js ≡ T → withCounts T ≡ end (State j) v ts ks → Bits v → Whole j v ts ks
+    by : (T : ReadEnd) → fillOf bytes w ss js ≡ T → withCounts T ≡ end (State j) v ts ks → Bits v → Whole j v ts ks
     by (end (State i) u us ls) f d q =
         let g = filled bytes i u us ls w ss js f in
         let a : i ≡ j = cc (d) in
@@ -113,6 +113,6 @@ accepted bytes w ss js s j v ts ks e = by (readOf bytes w ss js) refl e
         rw (← a, ← b, ← c, ← k) (of i u us ls g p)
     at i u us ls g (verdict.Refused x) p d = absurd (let z : _≡_ {A = ℕ} 0 1 = cc in omega arith)
 
-    by : (T : End) → readOf bytes w ss js ≡ T → judged T ≡ end (State j) v ts ks → Accepted j v ts ks
+    by : (T : ReadEnd) → readOf bytes w ss js ≡ T → judged T ≡ end (State j) v ts ks → Accepted j v ts ks
     by (end (State i) u us ls) f d = at i u us ls (read-whole bytes w ss js s i u us ls f) (rowsOf u us (i .segments) ls (i .joins)) refl d
     by (end (Refused x) u us ls) f d = absurd (let z : _≡_ {A = ℕ} 0 1 = cc in omega arith)

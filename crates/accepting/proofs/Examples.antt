@@ -10,7 +10,7 @@ use Rattle.store.specs.Field.{LENGTH}
 use Rattle.store.specs.Words.{cell, put}
 use Rattle.audit.specs.Tests.{anyBelow}
 use Rattle.reading.specs.declared.fill.Outcome.the-variants.{State, Refused}
-use Rattle.reading.specs.Fill.{End, end, turnOf, run, fillOf}
+use Rattle.reading.specs.Fill.{ReadEnd, end, turnOf, run, fillOf}
 use Rattle.reading.specs.Read.{readOf}
 use Rattle.rows.specs.Owners.{endsIn, findIn}
 use Rattle.rings.specs.Walk as walk
@@ -22,7 +22,7 @@ pub record Row : Type 0 where
   pub job : List ℕ
   pub says : ℕ
 
-abbrev said : End → ℕ
+abbrev said : ReadEnd → ℕ
 said (end (State j) w ss js) = 0
 said (end (Refused r) w ss js) = numberOf r
 

@@ -4,7 +4,7 @@ use mathlib.Core.List.{List}
 use Rattle.job.specs.declared.Job.{Job}
 use Rattle.reading.specs.declared.fill.Outcome.{Outcome}
 use Rattle.reading.specs.declared.fill.Outcome.the-variants.{State, Refused}
-use Rattle.reading.specs.Fill.{End, end}
+use Rattle.reading.specs.Fill.{ReadEnd, end}
 use Rattle.reading.specs.Read.{readOf}
 use Rattle.audit.specs.declared.Verdict.{Verdict}
 use Rattle.audit.specs.declared.Verdict.the-variants as verdict
@@ -18,10 +18,10 @@ answer (verdict.Refused r) j = Refused r
 abbrev pub judgeOf : Job → List ℕ → List ℕ → List ℕ → Outcome
 judgeOf j w ss js = answer (rowsOf w ss (j .segments) js (j .joins)) j
 
-abbrev pub judged : End → End
+abbrev pub judged : ReadEnd → ReadEnd
 judged (end (State j) w ss js) = end (judgeOf j w ss js) w ss js
 judged (end (Refused r) w ss js) = end (Refused r) w ss js
 
 -- the first of rows 1 to 8 that holds, or the job as words and two lists
-unfoldable pub acceptOf : List ℕ → List ℕ → List ℕ → List ℕ → End
+unfoldable pub acceptOf : List ℕ → List ℕ → List ℕ → List ℕ → ReadEnd
 acceptOf bytes w ss js = judged (readOf bytes w ss js)

@@ -23,7 +23,7 @@ use Rattle.acts.proofs.Offcuts.{offcut-steps, offcut-kept, CutAway}
 use Rattle.acts.proofs.Positions.{Loop, inLoop}
 use Rattle.acts.proofs.Progressing.{move-steps, to-first-steps, discard-steps}
 use Rattle.acts.proofs.Putting.{put-steps}
-use Rattle.acts.proofs.Representing.{Stepped}
+use Rattle.acts.proofs.Representing.{ActDone}
 use Rattle.acts.specs.Apply.{Coding, takesRecord, ringWrites}
 use Rattle.acts.specs.Codes.{Codes, after}
 use Rattle.acts.specs.Value.{value}
@@ -41,12 +41,12 @@ module _ {P : Type 0} (f : Coding P) where
 
   -- what it gives
   pub record Acted (s s′ : Store) (i : ℕ) (act : Act P) : Type 0 where
-    pub stepped : Stepped s s′ i act
+    pub stepped : ActDone s s′ i act
     pub first-value : (v : P) → ringsNew act ≡ some v → value (f .of) s′ (pts s) ≡ v
     pub last-value : (v : P) → offcutsNew act ≡ some v → value (f .of) s′ (pts s + count (ringsNew act)) ≡ v
 
   module _ (s : Store) (o : Sound s) (i : ℕ) (c : Closed s i) where
-    quiet : (s′ : Store) (act : Act P) → ringsNew act ≡ none → offcutsNew act ≡ none → Stepped s s′ i act → Acted s s′ i act
+    quiet : (s′ : Store) (act : Act P) → ringsNew act ≡ none → offcutsNew act ≡ none → ActDone s s′ i act → Acted s s′ i act
     quiet s′ act e g t =
         record {
           stepped = t;

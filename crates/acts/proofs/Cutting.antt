@@ -23,7 +23,7 @@ use Rattle.store.specs.Good.{PointIn, Sound}
 use Rattle.store.specs.Words.{Store}
 use Rattle.store.specs.Stores.{onStore}
 use Rattle.acts.proofs.Positions.{Positioned, Loop, lone-is, occ-from, sound-is}
-use Rattle.acts.proofs.Representing.{Stepped}
+use Rattle.acts.proofs.Representing.{ActDone}
 use Rattle.acts.specs.Writes.{cutWrites}
 
 -- a circle of four at least, and its links about the present point
@@ -94,7 +94,7 @@ module _ (W : Type 0) (v : W) (s : Store) (o : Sound s) (i : ℕ) (c : Closed s 
   pub cut-occ : (k : ℕ) → occ k (ringAt (onStore s (cutWrites s i d)) i) + (one k (s (rc PRESENT) i) + one k y) ≡ occ k (ringAt s i)
   cut-occ k = omega (arith, occ-from (onStore s (cutWrites s i d)) i _ _ _ _ d positioned k, fewer k)
 
-  pub cut-steps : Stepped {W = W} s (onStore s (cutWrites s i d)) i (cut v false false d)
+  pub cut-steps : ActDone {W = W} s (onStore s (cutWrites s i d)) i (cut v false false d)
   cut-steps =
       record {
         kept = kept;

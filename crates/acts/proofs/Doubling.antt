@@ -25,7 +25,7 @@ use Rattle.store.specs.Good.{PointIn, Sound}
 use Rattle.store.specs.Words.{Store}
 use Rattle.store.specs.Stores.{onStore}
 use Rattle.acts.proofs.Positions.{Positioned, Loop, place-on, lone-is, sound-is}
-use Rattle.acts.proofs.Representing.{Stepped}
+use Rattle.acts.proofs.Representing.{ActDone}
 use Rattle.acts.specs.Writes.{doubleWrites}
 
 -- a ring's points and one fresh one
@@ -148,7 +148,7 @@ module _ (W : Type 0) (v : W) (s : Store) (o : Sound s) (i : ℕ) (c : Closed s 
           record-in = rw (miss k (pts s) (s (pt REC) (s (rc PRESENT) i)) (s (pt REC) k) n) (t .record-in);
         }
 
-    pub double-steps : Stepped {W = W} s (onStore s (doubleWrites s i vx vy d)) i (double v d)
+    pub double-steps : ActDone {W = W} s (onStore s (doubleWrites s i vx vy d)) i (double v d)
     double-steps =
         record {
           kept = kept;

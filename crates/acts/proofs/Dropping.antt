@@ -27,7 +27,7 @@ use Rattle.store.specs.Good.{PointIn, Sound}
 use Rattle.store.specs.Words.{Store}
 use Rattle.store.specs.Stores.{onStore}
 use Rattle.acts.proofs.Positions.{Positioned, Loop, mark-due, lone-is, sound-is}
-use Rattle.acts.proofs.Representing.{Stepped}
+use Rattle.acts.proofs.Representing.{ActDone}
 use Rattle.acts.specs.Writes.{dropWrites}
 
 module _ (W : Type 0) (s : Store) (o : Sound s) (i : ℕ) (c : Closed s i) (m : dueAt s i ≡ removal) (b : Loop s i (s (rc PRESENT) i) removal) where
@@ -97,7 +97,7 @@ module _ (W : Type 0) (s : Store) (o : Sound s) (i : ℕ) (c : Closed s i) (m : 
           start-at = ap (λ (n : ℕ). place n (z ∷ w ∷ r)) (hit i _ _ ∙ next-z) ∙ place-head z (w ∷ r);
         }
 
-    pub drop-steps : Stepped {W = W} s (onStore s (dropWrites s i)) i dropPoint
+    pub drop-steps : ActDone {W = W} s (onStore s (dropWrites s i)) i dropPoint
     drop-steps =
         record {
           kept = kept;

@@ -22,9 +22,9 @@ use Rattle.acts.specs.Codes.{after}
 use Rattle.acts.specs.Laws.{Laws}
 use Rattle.acts.specs.Rep.{RepW}
 use Rattle.acts.specs.Step.{Outcome, outcome, actAt, answerS, stepW}
-use Rattle.acts.specs.Run.{stepBy, stepS}
+use Rattle.acts.specs.Run.{stepAnswered, stepS}
 use Rattle.acts.specs.Finish.{stepsByW, finishRecord}
-use Rattle.acts.specs.Finishable.{Finishes, wordsLeft}
+use Rattle.acts.specs.Finishable.{MayFinish, wordsLeft}
 use Rattle.acts.proofs.Representing.{here}
 use Rattle.acts.proofs.Stepping.{answer-is, view-step, stepW-is, length-step}
 
@@ -46,23 +46,23 @@ abbrev pub wordsOf : Outcome → List ℕ
 wordsOf (outcome a w) = w
 
 module _ {P : Type 0} (G : Geo P) (f : Coding P) (Λ : Laws G f) where
-  pub settings-kept : (w : List ℕ) (i : ℕ) → Finishes G f w → view (stepW G f w i) (ct SETTINGS) 0 ≡ view w (ct SETTINGS) 0
+  pub settings-kept : (w : List ℕ) (i : ℕ) → MayFinish G f w → view (stepW G f w i) (ct SETTINGS) 0 ≡ view w (ct SETTINGS) 0
   unfolding stepS
   settings-kept w i v = ap (λ (s : Store). s (ct SETTINGS) 0) (view-step G f Λ w i (v .rep .long) (v .rep .rep .sound)) ∙ by (answerS G f (view w) i)
     where
-      by : (a : Answer) → stepBy G f (view w) i a (ct SETTINGS) 0 ≡ view w (ct SETTINGS) 0
+      by : (a : Answer) → stepAnswered G f (view w) i a (ct SETTINGS) 0 ≡ view w (ct SETTINGS) 0
       by ok = settings-after f (view w) i (actAt G f (view w) i)
       by full = refl
       by outOfTurn = refl
 
-  pub finishes-step : (w : List ℕ) (i : ℕ) → Finishes G f w → Finishes G f (stepW G f w i)
+  pub finishes-step : (w : List ℕ) (i : ℕ) → MayFinish G f w → MayFinish G f (stepW G f w i)
   finishes-step w i v = record { forest = stepForest (machine G) 2048 512 (v .forest) i; rep = stepW-is G f Λ w (v .forest) (v .rep) i; held = kept G 2048 512 (v .forest) i (v .held) }
 
   left-is : (w : List ℕ) (F : Forest (Ring P) (List P)) (i : ℕ) (q : Option ℕ) (L : State (Ring P)) → RepW f w F → at (F .entries) i ≡ closedRing q L → left G 2048 512 F i ≡ wordsLeft G f w i
   unfolding left leftOf wordsLeft
   left-is w F i q L r e = rw (e, r .rep .points-are, here (f .of) G (view w) (view w) F (r .rep) i q L e .now-is)
 
-  pub words-fall : (w : List ℕ) (i : ℕ) → Finishes G f w → answerS G f (view w) i ≡ ok → wordsLeft G f (stepW G f w i) i < wordsLeft G f w i
+  pub words-fall : (w : List ℕ) (i : ℕ) → MayFinish G f w → answerS G f (view w) i ≡ ok → wordsLeft G f (stepW G f w i) i < wordsLeft G f w i
   words-fall w i v e = go (lone.view (machine G) 2048 512 (v .forest) i)
     where
       says : answer (machine G) 2048 512 (v .forest) i ≡ ok
@@ -75,7 +75,7 @@ module _ {P : Type 0} (G : Geo P) (f : Coding P) (Λ : Laws G f) where
           (falls G 2048 512 (v .forest) i (v .held) says)
       go (inr z) = absurd (true≢false (sym (ap isOk says) ∙ z .says))
 
-  pub words-bound : (w : List ℕ) (i : ℕ) → Finishes G f w → answerS G f (view w) i ≡ ok → wordsLeft G f w i < enough 2048
+  pub words-bound : (w : List ℕ) (i : ℕ) → MayFinish G f w → answerS G f (view w) i ≡ ok → wordsLeft G f w i < enough 2048
   words-bound w i v e = go (lone.view (machine G) 2048 512 (v .forest) i)
     where
       says : answer (machine G) 2048 512 (v .forest) i ≡ ok
@@ -86,13 +86,13 @@ module _ {P : Type 0} (G : Geo P) (f : Coding P) (Λ : Laws G f) where
       go (inr z) = absurd (true≢false (sym (ap isOk says) ∙ z .says))
 
   -- ---- a record's steps in a row
-  pub finishes-steps : (n : ℕ) (a : Answer) (w : List ℕ) (i : ℕ) → Finishes G f w → Finishes G f (wordsOf (stepsByW G f n a w i))
+  pub finishes-steps : (n : ℕ) (a : Answer) (w : List ℕ) (i : ℕ) → MayFinish G f w → MayFinish G f (wordsOf (stepsByW G f n a w i))
   finishes-steps zero a w i v = v
   finishes-steps (suc n) ok w i v = finishes-steps n (answerS G f (view (stepW G f w i)) i) (stepW G f w i) i (finishes-step w i v)
   finishes-steps (suc n) full w i v = v
   finishes-steps (suc n) outOfTurn w i v = v
 
-  settings-steps : (n : ℕ) (a : Answer) (w : List ℕ) (i : ℕ) → Finishes G f w → view (wordsOf (stepsByW G f n a w i)) (ct SETTINGS) 0 ≡ view w (ct SETTINGS) 0
+  settings-steps : (n : ℕ) (a : Answer) (w : List ℕ) (i : ℕ) → MayFinish G f w → view (wordsOf (stepsByW G f n a w i)) (ct SETTINGS) 0 ≡ view w (ct SETTINGS) 0
   settings-steps zero a w i v = refl
   settings-steps (suc n) ok w i v = settings-steps n (answerS G f (view (stepW G f w i)) i) (stepW G f w i) i (finishes-step w i v) ∙ settings-kept w i v
   settings-steps (suc n) full w i v = refl
@@ -108,10 +108,10 @@ module _ {P : Type 0} (G : Geo P) (f : Coding P) (Λ : Laws G f) where
   unfolding finishRecord
   length-record w i a w′ e = ap (λ (o : Outcome). length (wordsOf o)) e ∙ length-steps (enough 2048) (answerS G f (view w) i) w i
 
-  pub finishes-record : (w : List ℕ) (i : ℕ) (a : Answer) (w′ : List ℕ) → Finishes G f w → outcome a w′ ≡ finishRecord G f w i → Finishes G f w′
+  pub finishes-record : (w : List ℕ) (i : ℕ) (a : Answer) (w′ : List ℕ) → MayFinish G f w → outcome a w′ ≡ finishRecord G f w i → MayFinish G f w′
   unfolding finishRecord
-  finishes-record w i a w′ v e = subst (λ (o : Outcome). Finishes G f (wordsOf o)) (sym e) (finishes-steps (enough 2048) (answerS G f (view w) i) w i v)
+  finishes-record w i a w′ v e = subst (λ (o : Outcome). MayFinish G f (wordsOf o)) (sym e) (finishes-steps (enough 2048) (answerS G f (view w) i) w i v)
 
-  pub settings-record : (w : List ℕ) (i : ℕ) (a : Answer) (w′ : List ℕ) → Finishes G f w → outcome a w′ ≡ finishRecord G f w i → view w′ (ct SETTINGS) 0 ≡ view w (ct SETTINGS) 0
+  pub settings-record : (w : List ℕ) (i : ℕ) (a : Answer) (w′ : List ℕ) → MayFinish G f w → outcome a w′ ≡ finishRecord G f w i → view w′ (ct SETTINGS) 0 ≡ view w (ct SETTINGS) 0
   unfolding finishRecord
   settings-record w i a w′ v e = ap (λ (o : Outcome). view (wordsOf o) (ct SETTINGS) 0) e ∙ settings-steps (enough 2048) (answerS G f (view w) i) w i v

@@ -25,7 +25,7 @@ use Rattle.store.specs.Good.{total, PointIn, Good, Sound}
 use Rattle.store.specs.Words.{Store}
 use Rattle.store.specs.Stores.{onStore}
 use Rattle.acts.proofs.Positions.{Positioned, Loop, lone-is, good-is, occ-from}
-use Rattle.acts.proofs.Representing.{Stepped}
+use Rattle.acts.proofs.Representing.{ActDone}
 use Rattle.acts.specs.Writes.{offcutWrites}
 
 -- two neighbours that are on no ring
@@ -164,7 +164,7 @@ module _ (s : Store) (o : Sound s) (i x y vx vy : ℕ) (h : i < recs s) (q : Cut
 
 -- a cut with an offcut is the cut without one and then the new record
 module _ (W : Type 0) (v : W) (s s₁ : Store) (o : Sound s) (i : ℕ) (c : Closed s i) (d₀ d : Due) (b : Loop s i (s (rc PRESENT) i) d₀)
-    (y z u : ℕ) (r : List ℕ) (e : b .others ≡ y ∷ z ∷ u ∷ r) (put : Bool) (t : Stepped {W = W} s s₁ i (cut v put false d)) (q : CutAway s₁ (s (rc PRESENT) i) y)
+    (y z u : ℕ) (r : List ℕ) (e : b .others ≡ y ∷ z ∷ u ∷ r) (put : Bool) (t : ActDone {W = W} s s₁ i (cut v put false d)) (q : CutAway s₁ (s (rc PRESENT) i) y)
     (vx vy : ℕ) (hx : vx ≤ 2097152) (hy : vy ≤ 2097152) (room : pts s₁ < 2048) (more : recs s < 512) where
   h₁ : i < recs s₁
   h₁ = rw (t .made) (c .known)
@@ -193,7 +193,7 @@ module _ (W : Type 0) (v : W) (s s₁ : Store) (o : Sound s) (i : ℕ) (c : Clos
   new-same true = refl
   new-same false = refl
 
-  pub offcut-steps : Stepped {W = W} s (onStore s₁ (offcutWrites s₁ i (s (rc PRESENT) i) y vx vy)) i (cut v put true d)
+  pub offcut-steps : ActDone {W = W} s (onStore s₁ (offcutWrites s₁ i (s (rc PRESENT) i) y vx vy)) i (cut v put true d)
   offcut-steps =
       record {
         kept = kept-new s s₁ (onStore s₁ (offcutWrites s₁ i (s (rc PRESENT) i) y vx vy)) o i (c .known) (t .kept) (t .made) N;

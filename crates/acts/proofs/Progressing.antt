@@ -28,7 +28,7 @@ use Rattle.store.specs.Good.{PointIn, Good, Sound}
 use Rattle.store.specs.Words.{Store}
 use Rattle.store.specs.Stores.{onStore}
 use Rattle.acts.proofs.Positions.{Positioned, Loop, loop, inLoop, ringed, occ-from, lone-is, good-is}
-use Rattle.acts.proofs.Representing.{Stepped}
+use Rattle.acts.proofs.Representing.{ActDone}
 use Rattle.acts.specs.Writes.{moveWrites, toFirstWrites, discardWrites}
 
 -- a store that differs from s in record i's columns only
@@ -94,7 +94,7 @@ module _ (W : Type 0) (s : Store) (o : Sound s) (i : ℕ) (c : Closed s i) where
     move-on : OnRecord s (onStore s (moveWrites s i d)) i
     move-on = record { counts = λ f. refl; points = λ f. refl; records = λ f j n. unwritten s (moveWrites s i d) (rc f) j (inr n, (inr n, tt)) }
 
-    pub move-steps : (d₀ : Due) → dueAt s i ≡ d₀ → inLoop d₀ ≡ true → Stepped {W = W} s (onStore s (moveWrites s i d)) i (moveOn d)
+    pub move-steps : (d₀ : Due) → dueAt s i ≡ d₀ → inLoop d₀ ≡ true → ActDone {W = W} s (onStore s (moveWrites s i d)) i (moveOn d)
     move-steps d₀ m h =
         let s′ : Store = onStore s (moveWrites s i d) in
         let x : ℕ = s (rc PRESENT) i in
@@ -129,7 +129,7 @@ module _ (W : Type 0) (s : Store) (o : Sound s) (i : ℕ) (c : Closed s i) where
     to-first : OnRecord s (onStore s (toFirstWrites s i d)) i
     to-first = record { counts = λ f. refl; points = λ f. refl; records = λ f j n. unwritten s (toFirstWrites s i d) (rc f) j (inr n, (inr n, (inr n, tt))) }
 
-    pub to-first-steps : (d₀ : Due) → dueAt s i ≡ d₀ → inLoop d₀ ≡ false → Stepped {W = W} s (onStore s (toFirstWrites s i d)) i (toFirst d)
+    pub to-first-steps : (d₀ : Due) → dueAt s i ≡ d₀ → inLoop d₀ ≡ false → ActDone {W = W} s (onStore s (toFirstWrites s i d)) i (toFirst d)
     to-first-steps d₀ m h =
         let s′ : Store = onStore s (toFirstWrites s i d) in
         let x : ℕ = s (rc FIRST) i in
@@ -159,7 +159,7 @@ module _ (W : Type 0) (s : Store) (o : Sound s) (i : ℕ) (c : Closed s i) where
   discards : OnRecord s (onStore s (discardWrites i)) i
   discards = record { counts = λ f. refl; points = λ f. refl; records = λ f j n. unwritten s (discardWrites i) (rc f) j (inr n, (inr n, tt)) }
 
-  pub discard-steps : Stepped {W = W} s (onStore s (discardWrites i)) i discard
+  pub discard-steps : ActDone {W = W} s (onStore s (discardWrites i)) i discard
   discard-steps =
       let s′ : Store = onStore s (discardWrites i) in
       let e : s′ (rc FIRST) i ≡ NONE = hit i NONE (s (rc FIRST) i) in

@@ -27,7 +27,7 @@ use Rattle.store.specs.Stores.{onStore}
 use Rattle.acts.proofs.Cutting.{Four}
 use Rattle.acts.proofs.Doubling.{once-snoc}
 use Rattle.acts.proofs.Positions.{Positioned, Loop, lone-is, occ-from, sound-is}
-use Rattle.acts.proofs.Representing.{Stepped}
+use Rattle.acts.proofs.Representing.{ActDone}
 use Rattle.acts.specs.Writes.{cutPutWrites}
 
 module _ (W : Type 0) (v : W) (s : Store) (o : Sound s) (i : ℕ) (c : Closed s i) (d₀ d : Due) (b : Loop s i (s (rc PRESENT) i) d₀)
@@ -129,7 +129,7 @@ module _ (W : Type 0) (v : W) (s : Store) (o : Sound s) (i : ℕ) (c : Closed s 
   pub put-occ : (k : ℕ) → occ k (ringAt (onStore s (cutPutWrites s i vx vy d)) i) + (one k (s (rc PRESENT) i) + one k y) ≡ occ k (ringAt s i) + one k (pts s)
   put-occ k = omega (arith, occ-from (onStore s (cutPutWrites s i vx vy d)) i _ _ _ _ d positioned k, changed k)
 
-  pub put-steps : Stepped {W = W} s (onStore s (cutPutWrites s i vx vy d)) i (cut v true false d)
+  pub put-steps : ActDone {W = W} s (onStore s (cutPutWrites s i vx vy d)) i (cut v true false d)
   put-steps =
       record {
         kept = kept;

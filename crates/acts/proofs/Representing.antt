@@ -1,4 +1,4 @@
--- What an act on record i owes, by indices only (`Stepped`): then the forest's step, carried out, is again in step with the store (rep-step).
+-- What an act on record i owes, by indices only (`ActDone`): then the forest's step, carried out, is again in step with the store (rep-step).
 use Prim.Native.Nat.{ℕ, suc, _+_, _<_}
 use mathlib.Core.Path.{_≡_, refl, ap, _∙_, sym, subst}
 use mathlib.Core.Logic.{_≢_}
@@ -28,7 +28,7 @@ use Rattle.store.specs.Field.{pt, rc, NEXT, PREV, FLAGS, FIRST, PRESENT, START,
 use Rattle.store.specs.Sound.{pts, recs, ringless, ringAt, isOpen, dueAt, loneDue, loneAt}
 use Rattle.store.specs.Good.{Sound}
 use Rattle.store.specs.Words.{Store}
-use Rattle.acts.specs.Rep.{numberOf, Shows, as-ringless, as-open, as-closed, Rep}
+use Rattle.acts.specs.Rep.{orNone, Shows, as-ringless, as-open, as-closed, Rep}
 use Rattle.acts.specs.Value.{value}
 
 -- the record that a cut makes, if it makes one
@@ -37,7 +37,7 @@ Makes s s′ i none = recs s′ ≡ recs s
 Makes s s′ i (some R) = (recs s′ ≡ suc (recs s)) × (loneAt s′ (recs s) ≡ R) × (isOpen s′ (recs s) ≡ false) × (s′ (rc CUT) (recs s) ≡ i) × (s′ (rc START) (recs s) < pts s′)
 
 -- what an act on record i owes
-pub record Stepped {W : Type 0} (s s′ : Store) (i : ℕ) (act : Act W) : Type 0 where
+pub record ActDone {W : Type 0} (s s′ : Store) (i : ℕ) (act : Act W) : Type 0 where
   pub kept : Kept s s′ i
   pub sound : Sound s′
   pub points : pts s′ ≡ pts s + takesPoints act
@@ -97,7 +97,7 @@ module _ {P : Type 0} (of : ℕ → ℕ → P) (G : Geo P) (s s′ : Store) (F :
   pub record Here (q : Option ℕ) (L : State (Ring P)) : Type 0 where
     pub known : i < recs s
     pub closed : isOpen s i ≡ false
-    pub named : s (rc CUT) i ≡ numberOf q
+    pub named : s (rc CUT) i ≡ orNone q
     pub started : s (rc START) i < pts s
     pub now-is : L .now ≡ mapRing (value of s) (loneAt s i)
 
@@ -113,9 +113,9 @@ module _ {P : Type 0} (of : ℕ → ℕ → P) (G : Geo P) (s s′ : Store) (F :
       go x z (as-closed q′ L′ a b t m) =
           let y : q′ ≡ q = cc in
           let y′ : L′ ≡ L = cc in
-          record { known = l; closed = a; named = b ∙ ap numberOf y; started = t; now-is = ap (λ (v : State (Ring P)). v .now) (sym y′) ∙ m }
+          record { known = l; closed = a; named = b ∙ ap orNone y; started = t; now-is = ap (λ (v : State (Ring P)). v .now) (sym y′) ∙ m }
 
-  module _ (q : Option ℕ) (L : State (Ring P)) (e : at (F .entries) i ≡ closedRing q L) (t : Stepped s s′ i (actOf G (mapRing (value of s) (loneAt s i))))
+  module _ (q : Option ℕ) (L : State (Ring P)) (e : at (F .entries) i ≡ closedRing q L) (t : ActDone s s′ i (actOf G (mapRing (value of s) (loneAt s i))))
       (ha : (v : P) → ringsNew (actOf G (mapRing (value of s) (loneAt s i))) ≡ some v → value of s′ (pts s) ≡ v)
       (hb : (v : P) → offcutsNew (actOf G (mapRing (value of s) (loneAt s i))) ≡ some v → value of s′ (pts s + count (ringsNew (actOf G (mapRing (value of s) (loneAt s i))))) ≡ v) where
     act : Act P

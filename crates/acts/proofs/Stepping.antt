@@ -31,7 +31,7 @@ use Rattle.acts.specs.Laws.{Laws}
 use Rattle.acts.specs.Rep.{Shows, as-ringless, as-open, as-closed, Rep, RepW}
 use Rattle.acts.specs.Value.{value}
 use Rattle.acts.specs.Step.{actAt, live, roomFor, answerS, stepByW, stepW}
-use Rattle.acts.specs.Run.{stepBy, stepS, runS, runW}
+use Rattle.acts.specs.Run.{stepAnswered, stepS, runS, runW}
 
 -- the step on record i can be done
 pub record Able {P : Type 0} (G : Geo P) (f : Coding P) (s : Store) (i : ℕ) : Type 0 where
@@ -98,7 +98,7 @@ module _ {P : Type 0} (G : Geo P) (f : Coding P) where
     unfolding stepS
     step-sound Λ o = by (answerS G f s i) refl
       where
-        by : (a : Answer) → answerS G f s i ≡ a → Sound (stepBy G f s i a)
+        by : (a : Answer) → answerS G f s i ≡ a → Sound (stepAnswered G f s i a)
         by ok e = step-acts Λ o (able e) .stepped .sound
         by full e = o
         by outOfTurn e = o
@@ -153,12 +153,12 @@ module _ {P : Type 0} (G : Geo P) (f : Coding P) where
       unfolding stepS
       step-is = go (lone.view (machine G) 2048 512 F i)
         where
-          refused : (a : Answer) → answerS G f s i ≡ a → isOk a ≡ false → stepBy G f s i (answerS G f s i) ≡ s
+          refused : (a : Answer) → answerS G f s i ≡ a → isOk a ≡ false → stepAnswered G f s i (answerS G f s i) ≡ s
           refused ok e h = let y : _≡_ {A = ℕ} 0 1 = cc in absurd (omega arith)
-          refused full e h = ap (stepBy G f s i) e
-          refused outOfTurn e h = ap (stepBy G f s i) e
+          refused full e h = ap (stepAnswered G f s i) e
+          refused outOfTurn e h = ap (stepAnswered G f s i) e
 
-          go : Accepted (machine G) 2048 512 F i ⊎ Refused (machine G) 2048 512 F i → Rep (f .of) (stepBy G f s i (answerS G f s i)) (stepForest (machine G) 2048 512 F i)
+          go : Accepted (machine G) 2048 512 F i ⊎ Refused (machine G) 2048 512 F i → Rep (f .of) (stepAnswered G f s i (answerS G f s i)) (stepForest (machine G) 2048 512 F i)
           go (inl g) = rw (answer-is, g .says) (accepted g)
           go (inr z) = rw (z .becomes, refused (answer (machine G) 2048 512 F i) answer-is (z .says)) r
 
@@ -184,7 +184,7 @@ module _ {P : Type 0} (G : Geo P) (f : Coding P) where
   unfolding stepW stepS
   view-step Λ w i l o = by (answerS G f (view w) i) refl
     where
-      by : (a : Answer) → answerS G f (view w) i ≡ a → view (stepByW G f w i a) ≡ stepBy G f (view w) i a
+      by : (a : Answer) → answerS G f (view w) i ≡ a → view (stepByW G f w i a) ≡ stepAnswered G f (view w) i a
       by ok e = let a : Able G f (view w) i = able G f (view w) i e in after-view f w l o i (a .closed) (actAt G f (view w) i) (ready G f Λ (view w) o i (a .closed) (a .going)) (a .fits) (a .room)
       by full e = refl
       by outOfTurn e = refl

@@ -15,7 +15,7 @@ use Rattle.acts.specs.Value.{value}
 
 module _ {P : Type 0} (G : Geo P) (f : Coding P) where
   -- words that may be finished: in step with a forest whose rings are as steps leave them
-  pub record Finishes (w : List ℕ) : Type 0 where
+  pub record MayFinish (w : List ℕ) : Type 0 where
     pub forest : Forest (Ring P) (List P)
     pub rep : RepW f w forest
     pub held : HeldIn POINTS forest

@@ -4,7 +4,7 @@ use mathlib.Core.Path.{_≡_}
 use mathlib.Core.Bool.{false, cond}
 use mathlib.Core.List.{List, [], _∷_, map}
 use Rattle.rings.specs.Progress.{Ring, atStart}
-use Rattle.lone.specs.Forest.{Opened, leftRingless, leftOpen, leftClosed}
+use Rattle.lone.specs.Forest.{Fed, leftRingless, leftOpen, leftClosed}
 use Rattle.store.specs.Field.{rc, MARK, START, CUT, NONE}
 use Rattle.store.specs.Words.{Store}
 use Rattle.store.specs.Sound.{pts, recs, ringless, ringAt, isOpen}
@@ -22,9 +22,9 @@ pub record Fresh (s : Store) (i : ℕ) : Type 0 where
   pub start-in : ringless s i ≡ false → s (rc START) i < pts s
 
 module _ {P : Type 0} (of : ℕ → ℕ → P) (s : Store) where
-  abbrev pub openedAt : ℕ → Opened (Ring P) (List P)
+  abbrev pub openedAt : ℕ → Fed (Ring P) (List P)
   openedAt i = cond (ringless s i) leftRingless (cond (isOpen s i) (leftOpen (map (value of s) (ringAt s i))) (leftClosed (atStart (map (value of s) (ringAt s i)))))
 
   -- what opening left
-  abbrev pub records : List (Opened (Ring P) (List P))
+  abbrev pub records : List (Fed (Ring P) (List P))
   records = table openedAt 0 (recs s)

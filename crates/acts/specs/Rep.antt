@@ -16,16 +16,16 @@ use Rattle.acts.specs.Apply.{Coding}
 use Rattle.acts.specs.Value.{value}
 
 -- the record that a ring was cut from, as a word
-abbrev pub numberOf : Option ℕ → ℕ
-numberOf none = NONE
-numberOf (some q) = q
+abbrev pub orNone : Option ℕ → ℕ
+orNone none = NONE
+orNone (some q) = q
 
 module _ {P : Type 0} (of : ℕ → ℕ → P) where
   -- record i of the store is this record of the forest. What its lone ring cut off and took is not in the words.
   pub data Shows (s : Store) (i : ℕ) : Entry (Ring P) (List P) → Type 0 where
     as-ringless : ringless s i ≡ true → s (rc CUT) i ≡ NONE → Shows s i forest.ringless
     as-open : (c : List P) → isOpen s i ≡ true → s (rc CUT) i ≡ NONE → c ≡ map (value of s) (ringAt s i) → Shows s i (openRing c)
-    as-closed : (q : Option ℕ) (L : State (Ring P)) → isOpen s i ≡ false → s (rc CUT) i ≡ numberOf q → s (rc START) i < pts s → L .now ≡ mapRing (value of s) (loneAt s i) → Shows s i (closedRing q L)
+    as-closed : (q : Option ℕ) (L : State (Ring P)) → isOpen s i ≡ false → s (rc CUT) i ≡ orNone q → s (rc START) i < pts s → L .now ≡ mapRing (value of s) (loneAt s i) → Shows s i (closedRing q L)
 
   pub record Rep (s : Store) (F : Forest (Ring P) (List P)) : Type 0 where
     pub sound : Sound s

@@ -9,13 +9,13 @@ use Rattle.acts.specs.Codes.{after}
 use Rattle.acts.specs.Step.{Outcome, actAt, answerS, outcome, stepW}
 
 module _ {P : Type 0} (G : Geo P) (f : Coding P) where
-  abbrev pub stepBy : Store → ℕ → Answer → Store
-  stepBy s i ok = after f s i (actAt s i)
-  stepBy s i full = s
-  stepBy s i outOfTurn = s
+  abbrev pub stepAnswered : Store → ℕ → Answer → Store
+  stepAnswered s i ok = after f s i (actAt s i)
+  stepAnswered s i full = s
+  stepAnswered s i outOfTurn = s
 
   unfoldable pub stepS : Store → ℕ → Store
-  stepS s i = stepBy s i (answerS s i)
+  stepS s i = stepAnswered s i (answerS s i)
 
   abbrev pub runS : Store → List ℕ → Store
   runS s [] = s
@@ -26,5 +26,5 @@ module _ {P : Type 0} (G : Geo P) (f : Coding P) where
   runW w (i ∷ is) = runW (stepW w i) is
 
   -- its answer and the words it leaves
-  unfoldable pub stepOf : List ℕ → ℕ → Outcome
-  stepOf w i = outcome (answerS (view w) i) (stepW w i)
+  unfoldable pub stepWords : List ℕ → ℕ → Outcome
+  stepWords w i = outcome (answerS (view w) i) (stepW w i)

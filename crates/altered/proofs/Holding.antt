@@ -27,8 +27,8 @@ use Rattle.store.specs.Sound.{pts, recs, ringless, ringAt, isOpen, loneAt}
 use Rattle.store.specs.Good.{Sound}
 use Rattle.store.specs.Words.{Store}
 use Rattle.acts.proofs.Opening.{length-table, at-table}
-use Rattle.acts.proofs.Representing.{Makes, Stepped, map-agree, on-ring, lone-kept}
-use Rattle.acts.specs.Rep.{numberOf}
+use Rattle.acts.proofs.Representing.{Makes, ActDone, map-agree, on-ring, lone-kept}
+use Rattle.acts.specs.Rep.{orNone}
 use Rattle.acts.specs.Value.{value}
 use Rattle.order.specs.Demand3.{named}
 use Rattle.altered.specs.InStep.{Holds, no-ring, an-open, a-closed, InStep, entryOf, forestOf}
@@ -39,10 +39,10 @@ module _ {P : Type 0} (of : ℕ → ℕ → P) (s : Store) where
   held : (i : ℕ) → Holds of s i (entryOf of s i)
   held i = go (ringless s i) (isOpen s i) refl refl
     where
-      names : (n : ℕ) → n ≡ numberOf (named n)
+      names : (n : ℕ) → n ≡ orNone (named n)
       names n = by (eqb n NONE) refl
         where
-          by : (b : Bool) → eqb n NONE ≡ b → n ≡ numberOf (cond b none (some n))
+          by : (b : Bool) → eqb n NONE ≡ b → n ≡ orNone (cond b none (some n))
           by true e = eqb-true n NONE e
           by false e = refl
 
@@ -78,7 +78,7 @@ module _ {P : Type 0} (of : ℕ → ℕ → P) (G : Geo P) (s s′ : Store) (F :
   record Here (q : Option ℕ) (L : State (Ring P)) : Type 0 where
     pub known : i < recs s
     pub closed : isOpen s i ≡ false
-    pub cut-from : s (rc CUT) i ≡ numberOf q
+    pub cut-from : s (rc CUT) i ≡ orNone q
     pub now-is : L .now ≡ mapRing (value of s) (loneAt s i)
 
   here : (q : Option ℕ) (L : State (Ring P)) → at (F .entries) i ≡ closedRing q L → Here q L
@@ -93,9 +93,9 @@ module _ {P : Type 0} (of : ℕ → ℕ → P) (G : Geo P) (s s′ : Store) (F :
       go x z (a-closed q′ L′ a b m) =
           let y : q′ ≡ q = cc in
           let y′ : L′ ≡ L = cc in
-          record { known = l; closed = a; cut-from = b ∙ ap numberOf y; now-is = ap (λ (v : State (Ring P)). v .now) (sym y′) ∙ m }
+          record { known = l; closed = a; cut-from = b ∙ ap orNone y; now-is = ap (λ (v : State (Ring P)). v .now) (sym y′) ∙ m }
 
-  module _ (q : Option ℕ) (L : State (Ring P)) (e : at (F .entries) i ≡ closedRing q L) (t : Stepped s s′ i (actOf G (mapRing (value of s) (loneAt s i))))
+  module _ (q : Option ℕ) (L : State (Ring P)) (e : at (F .entries) i ≡ closedRing q L) (t : ActDone s s′ i (actOf G (mapRing (value of s) (loneAt s i))))
       (ha : (v : P) → ringsNew (actOf G (mapRing (value of s) (loneAt s i))) ≡ some v → value of s′ (pts s) ≡ v)
       (hb : (v : P) → offcutsNew (actOf G (mapRing (value of s) (loneAt s i))) ≡ some v → value of s′ (pts s + count (ringsNew (actOf G (mapRing (value of s) (loneAt s i))))) ≡ v)
       (elsewhere : (v : P) → ringsNew (actOf G (mapRing (value of s) (loneAt s i))) ≡ some v → s (rc START) i ≢ pts s) where

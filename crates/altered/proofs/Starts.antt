@@ -23,13 +23,13 @@ use Rattle.store.specs.Good.{Sound}
 use Rattle.store.specs.Words.{Store}
 use Rattle.acts.proofs.Acting.{Ready, to-discard, to-move, to-go-first, to-drop, to-double, to-cut}
 use Rattle.acts.proofs.Readiness.{ready}
-use Rattle.acts.proofs.Representing.{Makes, Stepped}
+use Rattle.acts.proofs.Representing.{Makes, ActDone}
 use Rattle.acts.proofs.Stepping.{Able, able, step-acts}
 use Rattle.acts.specs.Apply.{Coding}
 use Rattle.acts.specs.Codes.{after}
 use Rattle.acts.specs.Laws.{Laws}
 use Rattle.acts.specs.Step.{actAt, answerS}
-use Rattle.acts.specs.Run.{stepBy, stepS, runS}
+use Rattle.acts.specs.Run.{stepAnswered, stepS, runS}
 use Rattle.altered.proofs.Stepping.{step-is}
 use Rattle.altered.specs.InStep.{InStep, Elsewhere, Settled}
 
@@ -71,7 +71,7 @@ module _ {P : Type 0} (G : Geo P) (f : Coding P) (Λ : Laws G f) where
     carried : Able G f s i → Settled (after f s i (actAt G f s i))
     carried a j l = go (decLt j (recs s)) (ℕ-discrete j i)
       where
-        t : Stepped s (after f s i (actAt G f s i)) i (actAt G f s i)
+        t : ActDone s (after f s i (actAt G f s i)) i (actAt G f s i)
         t = step-acts G f s i Λ o a .stepped
 
         up : (x : ℕ) → (x < pts s) ⊎ (2048 ≤ x) → (x < pts (after f s i (actAt G f s i))) ⊎ (2048 ≤ x)
@@ -99,7 +99,7 @@ module _ {P : Type 0} (G : Geo P) (f : Coding P) (Λ : Laws G f) where
     unfolding stepS
     settled-step = by (answerS G f s i) refl
       where
-        by : (a : Answer) → answerS G f s i ≡ a → Settled (stepBy G f s i a)
+        by : (a : Answer) → answerS G f s i ≡ a → Settled (stepAnswered G f s i a)
         by ok e = carried (able G f s i e)
         by full e = h
         by outOfTurn e = h

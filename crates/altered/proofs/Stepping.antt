@@ -25,7 +25,7 @@ use Rattle.acts.specs.Codes.{after}
 use Rattle.acts.specs.Laws.{Laws}
 use Rattle.acts.specs.Value.{value}
 use Rattle.acts.specs.Step.{actAt, roomFor, answerS}
-use Rattle.acts.specs.Run.{stepBy, stepS}
+use Rattle.acts.specs.Run.{stepAnswered, stepS}
 use Rattle.altered.proofs.Holding.{carried}
 use Rattle.altered.specs.InStep.{Holds, no-ring, an-open, a-closed, InStep, Elsewhere}
 
@@ -76,11 +76,11 @@ module _ {P : Type 0} (G : Geo P) (f : Coding P) (s : Store) (F : Forest (Ring P
     unfolding stepS
     step-is = go (lone.view (machine G) 2048 512 F i)
       where
-        refused : (a : Answer) → answerS G f s i ≡ a → isOk a ≡ false → stepBy G f s i (answerS G f s i) ≡ s
+        refused : (a : Answer) → answerS G f s i ≡ a → isOk a ≡ false → stepAnswered G f s i (answerS G f s i) ≡ s
         refused ok e k = let y : _≡_ {A = ℕ} 0 1 = cc in absurd (omega arith)
-        refused full e k = ap (stepBy G f s i) e
-        refused outOfTurn e k = ap (stepBy G f s i) e
+        refused full e k = ap (stepAnswered G f s i) e
+        refused outOfTurn e k = ap (stepAnswered G f s i) e
 
-        go : Accepted (machine G) 2048 512 F i ⊎ Refused (machine G) 2048 512 F i → InStep (f .of) (stepBy G f s i (answerS G f s i)) (stepForest (machine G) 2048 512 F i)
+        go : Accepted (machine G) 2048 512 F i ⊎ Refused (machine G) 2048 512 F i → InStep (f .of) (stepAnswered G f s i (answerS G f s i)) (stepForest (machine G) 2048 512 F i)
         go (inl g) = rw (answer-is, g .says) (went g)
         go (inr z) = rw (z .becomes, refused (answer (machine G) 2048 512 F i) answer-is (z .says)) r

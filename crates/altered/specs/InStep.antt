@@ -19,7 +19,7 @@ use Rattle.store.specs.Sound.{pts, recs, ringless, ringAt, isOpen, loneAt}
 use Rattle.store.specs.Good.{Sound}
 use Rattle.acts.specs.Apply.{Coding}
 use Rattle.acts.specs.Opened.{table}
-use Rattle.acts.specs.Rep.{numberOf}
+use Rattle.acts.specs.Rep.{orNone}
 use Rattle.acts.specs.Value.{value}
 use Rattle.acts.specs.Step.{actAt, answerS}
 use Rattle.order.specs.Demand3.{named}
@@ -29,7 +29,7 @@ module _ {P : Type 0} (of : ℕ → ℕ → P) where
   pub data Holds (s : Store) (i : ℕ) : Entry (Ring P) (List P) → Type 0 where
     no-ring : ringless s i ≡ true → Holds s i forest.ringless
     an-open : (c : List P) → isOpen s i ≡ true → c ≡ map (value of s) (ringAt s i) → Holds s i (openRing c)
-    a-closed : (q : Option ℕ) (L : State (Ring P)) → isOpen s i ≡ false → s (rc CUT) i ≡ numberOf q → L .now ≡ mapRing (value of s) (loneAt s i) → Holds s i (closedRing q L)
+    a-closed : (q : Option ℕ) (L : State (Ring P)) → isOpen s i ≡ false → s (rc CUT) i ≡ orNone q → L .now ≡ mapRing (value of s) (loneAt s i) → Holds s i (closedRing q L)
 
   pub record InStep (s : Store) (F : Forest (Ring P) (List P)) : Type 0 where
     pub sound : Sound s

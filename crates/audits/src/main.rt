@@ -12,7 +12,7 @@ ghost use Prim.Native.Nat.{_+_, _<_, _≤_, _^_};
 ghost use lib.ListN.{length};
 ghost use Rattle.job.specs.Limits as limit;
 ghost use Rattle.store.specs.Field.{size, LENGTH};
-ghost use Rattle.store.specs.Column.{fieldOf};
+ghost use Rattle.store.specs.Column.{columnOf};
 
 // The word of the coordinate 0.
 const AT: usize = Job::COORDINATE as usize;
@@ -73,7 +73,7 @@ fn digit(n: u32) -> u8 {
 
 // The good work space with one word altered.
 fn altered(w: &mut [u32], c: Col, i: usize, v: usize)
-    requires { ⌜ (LENGTH ≤ length (now w)) × (i < size (fieldOf c)) × (v < 2 ^ 32) ⌝ }
+    requires { ⌜ (LENGTH ≤ length (now w)) × (i < size (columnOf c)) × (v < 2 ^ 32) ⌝ }
 {
     build(w);
     set(w, c, i, v);

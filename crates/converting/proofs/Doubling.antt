@@ -24,7 +24,7 @@ use Rattle.joins.specs.Resolved.{Ready}
 use Rattle.joins.specs.Needs.{Point}
 use Rattle.joins.proofs.Homes.{home-of, next-lives, prev-lives, prev-next, on-ring, table}
 use Rattle.joins.proofs.Growing.{Grown, grown-res, grown-resolved, grown-lives}
-use Rattle.joins.proofs.Joining.{Shut, Opened, ring-kept}
+use Rattle.joins.proofs.Joining.{Shut, OpenKept, ring-kept}
 use Rattle.joins.proofs.Resolving.{res-same}
 use Rattle.segments.specs.Level.{xOf}
 
@@ -115,7 +115,7 @@ module _ (w : List ℕ) (o : Ready w) (room : pointsOf w < 2048) (i q like : ℕ
   at-home : (k h : ℕ) → Lives (view (onWords w writes)) h k → isOpen (view (onWords w writes)) h ≡ false → Shut (view (onWords w writes)) k
   at-home k h z e j y = subst (λ (x : ℕ). isOpen (view (onWords w writes)) x ≡ false) (res-same (view (onWords w writes)) (view (onWords w writes) (pt REC) k) h j (z .res) (y .res)) e
 
-  pub copy-open : isOpen (view w) i ≡ false → Opened (view w) (view (onWords w (copyWrites (view w) like ++ linkWrites (prevOf w q) (pointsOf w) q)))
+  pub copy-open : isOpen (view w) i ≡ false → OpenKept (view w) (view (onWords w (copyWrites (view w) like ++ linkWrites (prevOf w q) (pointsOf w) q)))
   unfolding writes
   copy-open shut =
       let g = grown-words in
@@ -192,7 +192,7 @@ doubles w p after t = go (ltb (pointsOf w) 2048) after refl
 
 -- a copy of a point on a closed ring leaves open rings as they are, and is on a closed ring itself
 abbrev pub Opens : List ℕ → Taken → Type 0
-Opens w (taken (At k) x) = Opened (view w) (view x) × Shut (view x) k
+Opens w (taken (At k) x) = OpenKept (view w) (view x) × Shut (view x) k
 Opens w (taken Full x) = x ≡ w
 
 pub opens : (w : List ℕ) (p : ℕ) (after : Bool) → Point w p → Shut (view w) p → Opens w (duplicateOp w p after)
@@ -205,7 +205,7 @@ opens w p after t shut = go (ltb (pointsOf w) 2048) after refl
         let z = home-of (view w) (t .ready .resolved) p (t .low) in
         let n = next-lives (view w) (t .ready .resolved) (z .0) p (z .1) in
         let f : prevOf w (nextOf w p) ≡ p = prev-next (view w) (t .ready .resolved) (z .0) p (z .1) in
-        subst (λ (y : ℕ). Opened (view w) (view (onWords w (copyWrites (view w) p ++ linkWrites y (pointsOf w) (nextOf w p)))) × Shut (view (onWords w (copyWrites (view w) p ++ linkWrites y (pointsOf w) (nextOf w p)))) (pointsOf w)) f
+        subst (λ (y : ℕ). OpenKept (view w) (view (onWords w (copyWrites (view w) p ++ linkWrites y (pointsOf w) (nextOf w p)))) × Shut (view (onWords w (copyWrites (view w) p ++ linkWrites y (pointsOf w) (nextOf w p)))) (pointsOf w)) f
         (copy-open w (t .ready) room (z .0) (nextOf w p) p n (z .1) (shut (z .0) (z .1)), copy-shut w (t .ready) room (z .0) (nextOf w p) p n (z .1) (shut (z .0) (z .1)))
     go true false e =
         let room : pointsOf w < 2048 = ltb-true _ _ e in

@@ -20,7 +20,7 @@ use Rattle.joins.specs.Resolve.{homeOf}
 use Rattle.joins.specs.Paths.{Lives}
 use Rattle.joins.specs.Needs.{Point}
 use Rattle.joins.proofs.Resolving.{res-same}
-use Rattle.joins.proofs.Joining.{Shut, Opened}
+use Rattle.joins.proofs.Joining.{Shut, OpenKept}
 use Rattle.joins.proofs.Open.{opened-self, opened-on}
 use Rattle.converting.specs.declared.pairs.Converted.the-variants.{Joins, Full}
 use Rattle.sorting.specs.declared.HorzSegment.{HorzSegment}
@@ -45,7 +45,7 @@ pub record Shuts (w ls rs js : List ℕ) (m : ℕ) : Type 0 where
 -- ---- two copies and their join
 
 abbrev MadeOpen : List ℕ → ℕ → Made → Type 0
-MadeOpen w m (made (Joins m′) x js′) = Opened (view w) (view x) × ((k : ℕ) → k < 2 * m′ → Shut (view x) (getD js′ k 0))
+MadeOpen w m (made (Joins m′) x js′) = OpenKept (view w) (view x) × ((k : ℕ) → k < 2 * m′ → Shut (view x) (getD js′ k 0))
 MadeOpen w m (made Full x js′) = Unit {0}
 
 module _ (w js : List ℕ) (m a b : ℕ) (t : Making w js m a b) (ea : Shut (view w) a) (eb : Shut (view w) b) (p : (k : ℕ) → k < 2 * m → (getD js k 0 < pointsOf w) × Shut (view w) (getD js k 0)) where
@@ -53,7 +53,7 @@ module _ (w js : List ℕ) (m a b : ℕ) (t : Making w js m a b) (ea : Shut (vie
   unfolding makeJoin
   make-open = go (duplicateOp w a true) (doubles w a true (making-point w js m a b t)) (opens w a true (making-point w js m a b t) ea)
     where
-      next : (k : ℕ) (x : List ℕ) → Grew w x k → Opened (view w) (view x) → Shut (view x) k → (c : Taken) → Doubles x c → Opens x c → MadeOpen w m (secondAt js m k c)
+      next : (k : ℕ) (x : List ℕ) → Grew w x k → OpenKept (view w) (view x) → Shut (view x) k → (c : Taken) → Doubles x c → Opens x c → MadeOpen w m (secondAt js m k c)
       next k x g o s (taken (room.At j) y) h u = (opened-on (view w) (view x) (view y) o (u .0), λ z l. at z l (ℕ-discrete z (2 * m + 1)) (ℕ-discrete z (2 * m)))
         where
           fits : 2 * m + 1 < length js
@@ -76,7 +76,7 @@ module _ (w js : List ℕ) (m a b : ℕ) (t : Making w js m a b) (ea : Shut (vie
 -- ---- a pair
 
 abbrev pub OutOpen : List ℕ → List ℕ → Out → Type 0
-OutOpen w rs (out (Joins m) x ls js) = Opened (view w) (view x) × Shuts x ls rs js m
+OutOpen w rs (out (Joins m) x ls js) = OpenKept (view w) (view x) × Shuts x ls rs js m
 OutOpen w rs (out Full x ls js) = Unit {0}
 
 -- a point of the same ring
@@ -137,7 +137,7 @@ module _ (w ls rs fs js : List ℕ) (m i j : ℕ) (t : PairAt w ls rs fs js m i 
 
 -- ---- the loops
 
-open-on : (w x rs : List ℕ) (c : Out) → Opened (view w) (view x) → OutOpen x rs c → OutOpen w rs c
+open-on : (w x rs : List ℕ) (c : Out) → OpenKept (view w) (view x) → OutOpen x rs c → OutOpen w rs c
 open-on w x rs (out (Joins m) y ls js) o p = (opened-on (view w) (view x) (view y) o (p .0), p .1)
 open-on w x rs (out Full y ls js) o p = tt
 
@@ -216,7 +216,7 @@ shut-at w (a ∷ R) h (suc s) l d = shut-at w R (h .1) s (omega arith) d
 
 -- convert_horz_segs_to_joins of segments and joins on closed rings
 abbrev pub ConvertedOpen : List ℕ → Made → Type 0
-ConvertedOpen w (made (Joins m) x js) = Opened (view w) (view x) × ((k : ℕ) → k < 2 * m → Shut (view x) (getD js k 0))
+ConvertedOpen w (made (Joins m) x js) = OpenKept (view w) (view x) × ((k : ℕ) → k < 2 * m → Shut (view x) (getD js k 0))
 ConvertedOpen w (made Full x js) = Unit {0}
 
 pub convert-open : (w ps : List ℕ) (n : ℕ) (js : List ℕ) (m : ℕ) → Converting w ps n js m → ((k : ℕ) → k < n → Shut (view w) (getD ps k 0)) → ((k : ℕ) → k < 2 * m → Shut (view w) (getD js k 0)) → ConvertedOpen w (convertHorzSegsToJoins w n ps js m)

@@ -13,7 +13,7 @@ use Rattle.store.specs.Field.{NONE}
 use Rattle.store.specs.Named.{pointsOf}
 use Rattle.joins.specs.Resolved.{Ready}
 use Rattle.sorting.specs.declared.HorzSegment.{HorzSegment}
-use Rattle.sorting.specs.Sorted.{LAST, place, placeAll, reverse, sorted}
+use Rattle.sorting.specs.Sorted.{LAST, inserted, placeAll, reverse, sorted}
 use Rattle.sorting.proofs.Stable.{Each, Rises, sorted-rises}
 use Rattle.segments.specs.Level.{xOf}
 use Rattle.segments.specs.Needs.{Span}
@@ -77,7 +77,7 @@ valid-first w n ps t = record { first = first; by-left = λ i j k l v. omega (ar
 -- ---- fewer than two valid
 
 -- the sort keeps how many are valid
-place-valid : (a : HorzSegment) (l : List HorzSegment) → validIn (place a l) ≡ validIn (a ∷ l)
+place-valid : (a : HorzSegment) (l : List HorzSegment) → validIn (inserted a l) ≡ validIn (a ∷ l)
 place-valid a [] = refl
 place-valid a (b ∷ l) = go (ltb (a .key) (b .key)) (place-valid a l)
   where
@@ -87,13 +87,13 @@ place-valid a (b ∷ l) = go (ltb (a .key) (b .key)) (place-valid a l)
     either false true n = refl
     either false false n = refl
 
-    go : (t : Bool) → validIn (place a l) ≡ validIn (a ∷ l) → validIn (cond t (b ∷ place a l) (a ∷ b ∷ l)) ≡ validIn (a ∷ b ∷ l)
+    go : (t : Bool) → validIn (inserted a l) ≡ validIn (a ∷ l) → validIn (cond t (b ∷ inserted a l) (a ∷ b ∷ l)) ≡ validIn (a ∷ b ∷ l)
     go true h = ap (λ (n : ℕ). cond (eqb (b .right) NONE) n (suc n)) h ∙ either (eqb (a .right) NONE) (eqb (b .right) NONE) (validIn l)
     go false h = refl
 
 all-valid : (s l : List HorzSegment) → validIn (placeAll s l) ≡ validIn s + validIn l
 all-valid s [] = omega arith
-all-valid s (a ∷ l) = all-valid (place a s) l ∙ ap (λ (n : ℕ). n + validIn l) (place-valid a s) ∙ go (eqb (a .right) NONE)
+all-valid s (a ∷ l) = all-valid (inserted a s) l ∙ ap (λ (n : ℕ). n + validIn l) (place-valid a s) ∙ go (eqb (a .right) NONE)
   where
     go : (t : Bool) → cond t (validIn s) (suc (validIn s)) + validIn l ≡ validIn s + cond t (validIn l) (suc (validIn l))
     go true = refl

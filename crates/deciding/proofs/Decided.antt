@@ -22,11 +22,11 @@ use Rattle.deciding.specs.Decides.{LONGEST, DECIDES}
 use Rattle.deciding.proofs.Alike.{fill-same, fill-longest}
 
 -- all stages after reading
-abbrev onwards : ℕ → fill.End → End
+abbrev onwards : ℕ → fill.ReadEnd → End
 onwards n T = cond (ltb n LENGTH) (end (Refused refusal.Full) (replicate n 0)) (settled n (afterRows (judged (withCounts T))))
 
 -- what opening reads, over words that are zero
-abbrev readIn : List ℕ → ℕ → fill.End
+abbrev readIn : List ℕ → ℕ → fill.ReadEnd
 readIn bytes n = fillOf bytes (replicate n 0) (replicate 256 0) (replicate 2560 0)
 
 open-reads : (bytes : List ℕ) (n : ℕ) → openOf bytes n ≡ onwards n (readIn bytes n)
@@ -53,7 +53,7 @@ finish-decided bytes n t = finish-same (take DECIDES bytes) bytes (take-take DEC
 pub longest : (bytes : List ℕ) (n : ℕ) (w : List ℕ) → openOf bytes n ≡ end Accepted w → length bytes ≤ LONGEST
 longest bytes n w e = by (readIn bytes n) refl (ltb n LENGTH) (rw (open-reads bytes n) at e)
   where
-    by : (T : fill.End) → readIn bytes n ≡ T → (t : Bool) → cond t (end (Refused refusal.Full) (replicate n 0)) (settled n (afterRows (judged (withCounts T)))) ≡ end Accepted w → length bytes ≤ LONGEST
+    by : (T : fill.ReadEnd) → readIn bytes n ≡ T → (t : Bool) → cond t (end (Refused refusal.Full) (replicate n 0)) (settled n (afterRows (judged (withCounts T)))) ≡ end Accepted w → length bytes ≤ LONGEST
     by (fill.end (State j) v ts ks) f t d = fill-longest bytes j v ts ks (replicate n 0) (replicate 256 0) (replicate 2560 0) f
     by (fill.end (outcome.Refused x) v ts ks) f true d = absurd (let z : _≡_ {A = ℕ} 0 1 = cc in omega arith)
     by (fill.end (outcome.Refused x) v ts ks) f false d = absurd (let z : _≡_ {A = ℕ} 0 1 = cc in omega arith)

@@ -67,8 +67,8 @@ module _ (w : List ℕ) (i : ℕ) where
   step-passed v r w′ l e p h = h ∙ sym (long-step w i l ∙ ap (λ (u : Verdict). stepBy u w i) (sym e ∙ p))
 
   -- the answer by the code's name
-  pub step-carried : (a : code.Answer) (r : Stepped) (w′ : List ℕ) → outcome (answerIs a) w′ ≡ acts.stepOf (geometryOf (view w)) raised w i → r ≡ steppedAs (answerIs a) → left r w′ ≡ stepBy verdict.Passed w i
-  unfolding acts.stepOf
+  pub step-carried : (a : code.Answer) (r : Stepped) (w′ : List ℕ) → outcome (answerIs a) w′ ≡ acts.stepWords (geometryOf (view w)) raised w i → r ≡ steppedAs (answerIs a) → left r w′ ≡ stepBy verdict.Passed w i
+  unfolding acts.stepWords
   step-carried a r w′ h e =
       let p : answerIs a ≡ answerS (geometryOf (view w)) raised (view w) i = cc in
       let q : w′ ≡ stepW (geometryOf (view w)) raised w i = cc in

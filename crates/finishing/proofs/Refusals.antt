@@ -62,7 +62,7 @@ abbrev JudgedTo : ℕ → Verdict → Type 0
 JudgedTo m verdict.Passed = Unit {0}
 JudgedTo m (verdict.Refused x) = numberOf x ≤ m
 
-abbrev FilledTo : ℕ → fill.End → Type 0
+abbrev FilledTo : ℕ → fill.ReadEnd → Type 0
 FilledTo m (fill.end (outcome.State j) w ss js) = Unit {0}
 FilledTo m (fill.end (outcome.Refused x) w ss js) = numberOf x ≤ m
 
@@ -90,7 +90,7 @@ taken-rows : (r : Reading) (j : Job) (w ss js : List ℕ) → ReadTo 8 r → Fil
 taken-rows (reading.Read f n) j w ss js h = placed-rows f n j w ss js
 taken-rows (reading.Refused x) j w ss js h = h
 
-follow-rows : (f : Job → List ℕ → List ℕ → List ℕ → fill.End) → ((j : Job) (w ss js : List ℕ) → FilledTo 8 (f j w ss js)) → (e : fill.End) → FilledTo 8 e → FilledTo 8 (follow f e)
+follow-rows : (f : Job → List ℕ → List ℕ → List ℕ → fill.ReadEnd) → ((j : Job) (w ss js : List ℕ) → FilledTo 8 (f j w ss js)) → (e : fill.ReadEnd) → FilledTo 8 e → FilledTo 8 (follow f e)
 follow-rows f g (fill.end (outcome.State j) w ss js) h = g j w ss js
 follow-rows f g (fill.end (outcome.Refused x) w ss js) h = h
 
@@ -101,7 +101,7 @@ run-rows (suc k) bytes j w ss js =
     go (ltb (j .at) (length bytes)) (follow (run k bytes) (turnOf bytes j w ss js))
     (follow-rows (run k bytes) (run-rows k bytes) (turnOf bytes j w ss js) (taken-rows (fieldOf j (drop (j .at) bytes)) j w ss js (field-rows j (drop (j .at) bytes))))
   where
-    go : (b : Bool) (e : fill.End) → FilledTo 8 e → FilledTo 8 (cond b e (fill.end (outcome.State j) w ss js))
+    go : (b : Bool) (e : fill.ReadEnd) → FilledTo 8 e → FilledTo 8 (cond b e (fill.end (outcome.State j) w ss js))
     go true e h = h
     go false e h = tt
 
@@ -109,11 +109,11 @@ fill-rows : (bytes w ss js : List ℕ) → FilledTo 8 (fillOf bytes w ss js)
 unfolding fillOf
 fill-rows bytes w ss js = go (eqb (length bytes) 0) (run (suc (length bytes)) bytes fresh w ss js) (run-rows (suc (length bytes)) bytes fresh w ss js)
   where
-    go : (b : Bool) (e : fill.End) → FilledTo 8 e → FilledTo 8 (cond b (fill.end (outcome.Refused Strange) w ss js) e)
+    go : (b : Bool) (e : fill.ReadEnd) → FilledTo 8 e → FilledTo 8 (cond b (fill.end (outcome.Refused Strange) w ss js) e)
     go true e h = omega arith
     go false e h = h
 
-count-rows : (e : fill.End) → FilledTo 8 e → FilledTo 8 (withCounts e)
+count-rows : (e : fill.ReadEnd) → FilledTo 8 e → FilledTo 8 (withCounts e)
 count-rows (fill.end (outcome.State j) w ss js) h = tt
 count-rows (fill.end (outcome.Refused x) w ss js) h = h
 
@@ -130,7 +130,7 @@ rows-rows w ss m js n = go (offTheTable w) (noSuchNumber w ss m js n) (looseLink
     go false false false false true = omega arith
     go false false false false false = tt
 
-judged-rows : (e : fill.End) → FilledTo 8 e → FilledTo 8 (judged e)
+judged-rows : (e : fill.ReadEnd) → FilledTo 8 e → FilledTo 8 (judged e)
 judged-rows (fill.end (outcome.State j) w ss js) h = go (rowsOf w ss (j .segments) js (j .joins)) (rows-rows w ss (j .segments) js (j .joins))
   where
     go : (v : Verdict) → JudgedTo 8 v → FilledTo 8 (fill.end (answer v j) w ss js)
@@ -144,7 +144,7 @@ abbrev pub OpenedTo : ℕ → End → Type 0
 OpenedTo m (end Accepted w) = Unit {0}
 OpenedTo m (end (Refused x) w) = numberOf x ≤ m
 
-joins-rows : (e : join.End) → OpenedTo 10 (afterJoins e)
+joins-rows : (e : join.JoinEnd) → OpenedTo 10 (afterJoins e)
 joins-rows (join.end joined.Done w) = tt
 joins-rows (join.end joined.Knot w) = omega arith
 joins-rows (join.end joined.Full w) = omega arith
@@ -153,7 +153,7 @@ segments-rows : (m : Made) → OpenedTo 10 (afterSegments m)
 segments-rows (made (converted.Joins k) w js) = joins-rows (processHorzJoins k js w)
 segments-rows (made converted.Full w js) = omega arith
 
-stages-rows : (e : fill.End) → FilledTo 8 e → OpenedTo 10 (afterRows e)
+stages-rows : (e : fill.ReadEnd) → FilledTo 8 e → OpenedTo 10 (afterRows e)
 stages-rows (fill.end (outcome.State j) w ss js) h = segments-rows (convertHorzSegsToJoins w (j .segments) ss js (j .joins))
 stages-rows (fill.end (outcome.Refused x) w ss js) h = omega (arith, h)
 
@@ -167,7 +167,7 @@ open-rows bytes n =
     let w : List ℕ = replicate n 0 in
     let ss : List ℕ = replicate SEGMENTS 0 in
     let js : List ℕ = replicate JOIN-POINTS 0 in
-    let read : fill.End = fillOf bytes w ss js in
+    let read : fill.ReadEnd = fillOf bytes w ss js in
     go (ltb n LENGTH) (settled n (afterRows (judged (withCounts read))))
     (settled-rows n (afterRows (judged (withCounts read))) (stages-rows (judged (withCounts read)) (judged-rows (withCounts read) (count-rows read (fill-rows bytes w ss js)))))
   where

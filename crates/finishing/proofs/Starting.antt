@@ -21,7 +21,7 @@ use Rattle.store.proofs.Soundness.{whole, from-first}
 use Rattle.acts.specs.Opened.{records}
 use Rattle.acts.specs.Rep.{Shows, as-ringless, as-open, as-closed, RepW}
 use Rattle.acts.specs.Value.{value}
-use Rattle.acts.specs.Finishable.{Finishes}
+use Rattle.acts.specs.Finishable.{MayFinish}
 use Rattle.acts.proofs.Opening.{opening-rep}
 use Rattle.turns.specs.Form.{raised, geometryOf}
 use Rattle.finishing.specs.Opened.{OpeningLeft}
@@ -62,5 +62,5 @@ module _ (w : List ℕ) (o : OpeningLeft w) where
       each i (yes l) = held-shown i l (at (F₀ .entries) i) (start-rep .rep .shows i l)
       each i (no n) = rw (List·getD-eq-default (F₀ .entries) ringless {n = i} (omega (arith, start-rep .rep .records-are))) tt
 
-  pub finishes : Finishes (geometryOf (view w)) raised w
+  pub finishes : MayFinish (geometryOf (view w)) raised w
   finishes = record { forest = F₀; rep = start-rep; held = held }

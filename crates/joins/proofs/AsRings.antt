@@ -25,8 +25,8 @@ use Rattle.store.specs.Sound.{pts, recs, ringAt}
 use Rattle.joins.specs.declared.Joined.the-variants.{Done, Knot, Full}
 use Rattle.joins.specs.Resolve.{homeOf}
 use Rattle.joins.specs.Resolved.{Resolved}
-use Rattle.joins.specs.Join.{End, end, splitRing, splitOf, mergeOf, byRecords, joinOf, follow, joinsFrom, processHorzJoins}
-use Rattle.joins.specs.Needs.{Points, Pair, Joins}
+use Rattle.joins.specs.Join.{JoinEnd, end, splitRing, splitOf, mergeOf, byRecords, joinOf, follow, joinsFrom, processHorzJoins}
+use Rattle.joins.specs.Needs.{Points, Unknotted, Joins}
 use Rattle.joins.specs.AsRings.{before, onward, seenFrom, goes, stays, firstLeft, spliced, OneRecord, TwoRecords, OneOrTwo, AsRings, AtTurn}
 use Rattle.joins.proofs.Homes.{on-ring, from}
 use Rattle.joins.proofs.Joining.{Split, split-others, Merged, merge-whole, merge-others}
@@ -225,21 +225,21 @@ module _ (s u : Store) (o : Resolved s) (a b i j : ℕ) (r : List ℕ) (ij : i �
 
 -- ---- a join at its turn
 
-split-ring-rings : (w : List ℕ) (a c i k : ℕ) → Pair w a c i i → k ≡ recordsOf w → k < limit.RECORDS → OneRecord (view w) (view (splitRing w a c i k)) a c i
+split-ring-rings : (w : List ℕ) (a c i k : ℕ) → Unknotted w a c i i → k ≡ recordsOf w → k < limit.RECORDS → OneRecord (view w) (view (splitRing w a c i k)) a c i
 unfolding splitRing
 split-ring-rings w a c i k t kn kf =
     let p = parts w a c i t in
     one-record (view w) (view (splitRing w a c i k)) (t .ready .resolved) a (prevOf w c) i (p .l) (p .r) (t .one .res .real) (omega arith) (t .one .res .some) (p .whole) (p .occs) (split w a c i k t kn kf p) c
     (back w a c i i t) (rw (← kn) (split-first-new w a c i k t kn kf p)) (split-first w a c i k t kn kf p)
 
-merge-rings : (w : List ℕ) (a c i j : ℕ) → Pair w a c i j → i ≢ j → TwoRecords (view w) (view (mergeOf w a c i j)) a c i j
+merge-rings : (w : List ℕ) (a c i j : ℕ) → Unknotted w a c i j → i ≢ j → TwoRecords (view w) (view (mergeOf w a c i j)) a c i j
 merge-rings w a c i j t d =
     let o = t .ready .resolved in
     let g = from (view w) o j (prevOf w c) (mate w a c i j t) in
     two-record (view w) (view (mergeOf w a c i j)) o a (prevOf w c) i j (g .others) d (t .one .res .real) (t .two .res .real) (t .one .res .some) (t .two .res .some) (on-ring (view w) o i a (t .one))
     (g .whole) (g .occs) (merged w a c i j t) c (back w a c i j t)
 
-split-rings : (w : List ℕ) (a c : ℕ) → Pair w a c (homeOf w a) (homeOf w a) → homeOf w a ≡ homeOf w c → nextOf w a ≢ c → AsRings w a c (splitOf w a c (homeOf w a))
+split-rings : (w : List ℕ) (a c : ℕ) → Unknotted w a c (homeOf w a) (homeOf w a) → homeOf w a ≡ homeOf w c → nextOf w a ≢ c → AsRings w a c (splitOf w a c (homeOf w a))
 unfolding splitOf
 split-rings w a c t e d = go (ltb (recordsOf w) limit.RECORDS) refl
   where
@@ -247,7 +247,7 @@ split-rings w a c t e d = go (ltb (recordsOf w) limit.RECORDS) refl
     go true f = (d, inl (e, split-ring-rings w a c (homeOf w a) (recordsOf w) t refl (ltb-true _ _ f)))
     go false f = (refl, d, e, omega (arith, ltb-false (recordsOf w) limit.RECORDS f, t .ready .resolved .few-records))
 
-by-rings : (w : List ℕ) (a c : ℕ) → Pair w a c (homeOf w a) (homeOf w c) → nextOf w a ≢ c → AsRings w a c (byRecords w a c (homeOf w a) (homeOf w c))
+by-rings : (w : List ℕ) (a c : ℕ) → Unknotted w a c (homeOf w a) (homeOf w c) → nextOf w a ≢ c → AsRings w a c (byRecords w a c (homeOf w a) (homeOf w c))
 unfolding byRecords
 by-rings w a c t d = go (eqb (homeOf w a) (homeOf w c)) refl
   where
@@ -267,15 +267,15 @@ join-rings w a c t = go (eqb (nextOf w a) c) refl
 -- ---- each join of a list
 
 -- join number k
-abbrev turnOf : List ℕ → ℕ → List ℕ → End
+abbrev turnOf : List ℕ → ℕ → List ℕ → JoinEnd
 turnOf js k x = joinOf x (getD js (2 * k) 0) (getD js (2 * k + 1) 0)
 
-follow-none : (g : List ℕ → End) → ((x : List ℕ) → g x ≡ end Done x) → (e : End) → follow g e ≡ e
+follow-none : (g : List ℕ → JoinEnd) → ((x : List ℕ) → g x ≡ end Done x) → (e : JoinEnd) → follow g e ≡ e
 follow-none g h (end Done w) = h w
 follow-none g h (end Knot w) = refl
 follow-none g h (end Full w) = refl
 
-follow-two : (g h k : List ℕ → End) → ((x : List ℕ) → k x ≡ follow h (g x)) → (e : End) → follow k e ≡ follow h (follow g e)
+follow-two : (g h k : List ℕ → JoinEnd) → ((x : List ℕ) → k x ≡ follow h (g x)) → (e : JoinEnd) → follow k e ≡ follow h (follow g e)
 follow-two g h k f (end Done w) = f w
 follow-two g h k f (end Knot w) = refl
 follow-two g h k f (end Full w) = refl
@@ -292,7 +292,7 @@ last-turn (suc f) i js w =
 pub at-turn : (n : ℕ) (js w : List ℕ) → Joins w n js → (k : ℕ) → k < n → (x : List ℕ) → processHorzJoins k js w ≡ end Done x → AtTurn k js w x
 at-turn n js w t k h x e =
     let b : Joins w k js = record { ready = t .ready; fits = omega (arith, t .fits); points = λ i l. t .points i (omega arith) } in
-    let s : Still w x = subst (λ (z : End). Still w (words z)) e (joins-kept k js w b) in
+    let s : Still w x = subst (λ (z : JoinEnd). Still w (words z)) e (joins-kept k js w b) in
     record {
       next = last-turn k 0 js w ∙ ap (λ (i : ℕ). follow (turnOf js i) (processHorzJoins k js w)) (let z : 0 + k ≡ k = omega arith in z) ∙ ap (follow (turnOf js k)) e;
       rings = join-rings x (getD js (2 * k) 0) (getD js (2 * k + 1) 0) (record { ready = s .ready; one = rw (s .points) (t .points (2 * k) (omega arith)); two = rw (s .points) (t .points (2 * k + 1) (omega arith)) });

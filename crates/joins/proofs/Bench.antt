@@ -12,7 +12,7 @@ use Rattle.rings.specs.Walk.{run}
 use Rattle.job.specs.declared.refusal.Refusal.{Refusal}
 use Rattle.job.specs.Refusal.{numberOf}
 use Rattle.joins.specs.Resolve.{realOf, getRealOutrec, homeOf}
-use Rattle.joins.specs.Join.{End, end, refusalOf, relinkOf, newOutRec, nameAll, fixOutrecPts, settleOf, splitRing, splitOf, mergeOf, byRecords, joinOf, joinsFrom, processHorzJoins}
+use Rattle.joins.specs.Join.{JoinEnd, end, refusalOf, relinkOf, newOutRec, nameAll, fixOutrecPts, moveFirst, splitRing, splitOf, mergeOf, byRecords, joinOf, joinsFrom, processHorzJoins}
 use Rattle.joins.specs.AsRings.{goes, stays, seenFrom, firstLeft, spliced}
 
 -- from point c of record r's ring on by l, and back to f
@@ -48,7 +48,7 @@ abbrev pub answerBy : List ℕ → Option Refusal → Answer
 answerBy w none = joined (leftFrom w 0 (recordsOf w))
 answerBy w (some r) = refused (numberOf r)
 
-abbrev pub answerOf : End → Answer
+abbrev pub answerOf : JoinEnd → Answer
 answerOf (end t w) = answerBy w (refusalOf t)
 
 -- a job of rings with `points` points, its joins two by two, and the answer
@@ -62,9 +62,9 @@ pub record Example : Type 0 where
 unfoldable pub answered : Example → Answer
 answered e = answerOf (processHorzJoins (e .many) (e .joins) (onWords (replicate LENGTH 0) (write (ct POINTS) 0 (e .points) ∷ rings 0 (e .job))))
 
-abbrev pub Holds : List Example → Type 0
-Holds [] = Unit {0}
-Holds (e ∷ l) = (answered e ≡ e .answer) × Holds l
+abbrev pub RowsHold : List Example → Type 0
+RowsHold [] = Unit {0}
+RowsHold (e ∷ l) = (answered e ≡ e .answer) × RowsHold l
 
 abbrev pub triangle : List ℕ
 triangle = 0 ∷ 1 ∷ 2 ∷ []
@@ -97,8 +97,8 @@ examples =
     ∷ record { points = 6; job = triangle ∷ other ∷ []; joins = 0 ∷ 4 ∷ 0 ∷ 4 ∷ []; many = 2; answer = refused 9 }
     ∷ []
 
-pub bench : Holds examples
-unfolding examples answered joinsFrom joinOf byRecords splitOf splitRing settleOf fixOutrecPts nameAll newOutRec relinkOf mergeOf homeOf getRealOutrec realOf run cell put
+pub bench : RowsHold examples
+unfolding examples answered joinsFrom joinOf byRecords splitOf splitRing moveFirst fixOutrecPts nameAll newOutRec relinkOf mergeOf homeOf getRealOutrec realOf run cell put
 bench = (refl, (refl, (refl, (refl, (refl, (refl, (refl, (refl, (refl, tt)))))))))
 
 -- ---- the same by lists alone: what goes, what stays, what is spliced

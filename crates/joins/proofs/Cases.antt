@@ -27,12 +27,12 @@ use Rattle.store.proofs.Soundness.{first-on}
 use Rattle.store.proofs.Storing.{view-writes, length-writes}
 use Rattle.joins.specs.Paths.{Lives}
 use Rattle.joins.specs.Resolved.{Ready}
-use Rattle.joins.specs.Join.{relinkWrites, madeWrites, emptyWrites, firstWrites, relinkOf, newOutRec, fixOutrecPts, settleOf, splitRing, mergeOf}
-use Rattle.joins.specs.Needs.{Four, Ringed, Pair}
+use Rattle.joins.specs.Join.{relinkWrites, madeWrites, emptyWrites, firstWrites, relinkOf, newOutRec, fixOutrecPts, moveFirst, splitRing, mergeOf}
+use Rattle.joins.specs.Needs.{Four, Ringed, Unknotted}
 use Rattle.joins.specs.AsRings.{firstLeft}
 use Rattle.joins.proofs.Resolving.{res-low}
 use Rattle.joins.proofs.Homes.{on-ring, from, next-lives, prev-lives, next-prev}
-use Rattle.joins.proofs.Joining.{Split, split-resolved, split-opened, Merged, merge-resolved, merge-opened, Opened}
+use Rattle.joins.proofs.Joining.{Split, split-resolved, split-opened, Merged, merge-resolved, merge-opened, OpenKept}
 use Rattle.joins.proofs.Naming.{name-length, name-col, name-out, name-in}
 
 -- ---- the four links
@@ -49,7 +49,7 @@ relinked s a c e d g =
       prev-else = λ i x y. rw (ne-eqb i (s (pt NEXT) a) x, ne-eqb i c (λ z. y (z ∙ sym e)));
     }
 
-module _ (w : List ℕ) (a c i j : ℕ) (t : Pair w a c i j) where
+module _ (w : List ℕ) (a c i j : ℕ) (t : Unknotted w a c i j) where
   pub mate : Lives (view w) j (prevOf w c)
   mate = prev-lives (view w) (t .ready .resolved) j c (t .two)
 
@@ -107,7 +107,7 @@ module _ (w : List ℕ) (a c i j : ℕ) (t : Pair w a c i j) where
   unfolding mergeOf relinkOf merges
   merge-long = omega (arith, t .ready .long, length-writes w merges)
 
-  pub merge-open : i ≢ j → isOpen (view w) i ≡ false → isOpen (view w) j ≡ false → Opened (view w) (view (mergeOf w a c i j))
+  pub merge-open : i ≢ j → isOpen (view w) i ≡ false → isOpen (view w) j ≡ false → OpenKept (view w) (view (mergeOf w a c i j))
   merge-open d =
       let o = t .ready .resolved in
       let f = from (view w) o i a (t .one) in
@@ -134,7 +134,7 @@ pub record Parts (w : List ℕ) (a b i : ℕ) : Type 0 where
   pub whole : Whole (nextOf w) (prevOf w) (pointsOf w) (a ∷ l ++ b ∷ r)
   pub occs : (k : ℕ) → occ k (a ∷ l ++ b ∷ r) ≡ occ k (ringAt (view w) i)
 
-pub parts : (w : List ℕ) (a c i : ℕ) → Pair w a c i i → Parts w a (prevOf w c) i
+pub parts : (w : List ℕ) (a c i : ℕ) → Unknotted w a c i i → Parts w a (prevOf w c) i
 parts w a c i t =
     let o = t .ready .resolved in
     let f = from (view w) o i a (t .one) in
@@ -148,7 +148,7 @@ parts w a c i t =
       occs = λ k. subst (λ (m : List ℕ). occ k (a ∷ m) ≡ occ k (ringAt (view w) i)) (q .is) (f .occs k);
     }
 
-module _ (w : List ℕ) (a c i k : ℕ) (t : Pair w a c i i) (kn : k ≡ recordsOf w) (kf : k < limit.RECORDS) (q : Parts w a (prevOf w c) i) where
+module _ (w : List ℕ) (a c i k : ℕ) (t : Unknotted w a c i i) (kn : k ≡ recordsOf w) (kf : k < limit.RECORDS) (q : Parts w a (prevOf w c) i) where
   open Parts q using (l, r)
 
   -- after the relinks and the new record
@@ -313,26 +313,26 @@ module _ (w : List ℕ) (a c i k : ℕ) (t : Pair w a c i i) (kn : k ≡ records
           go (yes h) = absurd (d (ap (recOf y) own-first ∙ y-new (firstOf w i) h))
           go (no h) = omega arith
 
-  settled : Settled (settleOf y i k a)
-  unfolding settleOf
+  settled : Settled (moveFirst y i k a)
+  unfolding moveFirst
   settled = go (eqb (recOf y (firstOf y i)) k) refl
     where
       go : (m : Bool) → eqb (recOf y (firstOf y i)) k ≡ m → Settled (cond m (onWords y (firstWrites i a)) y)
       go true e = moved (eqb-true _ _ e)
       go false e = stayed (eqb-false _ _ e)
 
-  pub split-first-new : firstOf (settleOf y i k a) k ≡ nextOf w a
+  pub split-first-new : firstOf (moveFirst y i k a) k ≡ nextOf w a
   split-first-new = settled .first-else k (λ e. ik (sym e)) ∙ sym (col (rc FIRST) k) ∙ x-first-new
 
-  pub split-first : firstOf (settleOf y i k a) i ≡ firstLeft a (prevOf w c ∷ l) (firstOf w i)
+  pub split-first : firstOf (moveFirst y i k a) i ≡ firstLeft a (prevOf w c ∷ l) (firstOf w i)
   split-first = settled .first-is
 
-  pub split : Split (view w) (view (settleOf y i k a)) a (prevOf w c) i l r
+  pub split : Split (view w) (view (moveFirst y i k a)) a (prevOf w c) i l r
   unfolding splits
   split =
       let z = settled in
       record {
-        crossed = subst (λ (s : ℕ → ℕ). Crossed (nextOf w) (prevOf w) s (prevOf (settleOf y i k a)) a (prevOf w c)) (fun-ext (λ j. col (pt NEXT) j ∙ sym (z .cols (pt NEXT) j refl refl)))
+        crossed = subst (λ (s : ℕ → ℕ). Crossed (nextOf w) (prevOf w) s (prevOf (moveFirst y i k a)) a (prevOf w c)) (fun-ext (λ j. col (pt NEXT) j ∙ sym (z .cols (pt NEXT) j refl refl)))
             (subst (λ (s : ℕ → ℕ). Crossed (nextOf w) (prevOf w) (nextOf x) s a (prevOf w c)) (fun-ext (λ j. col (pt PREV) j ∙ sym (z .cols (pt PREV) j refl refl))) crossed);
         points = z .cols (ct POINTS) 0 refl refl;
         records = z .cols (ct RECORDS) 0 refl refl ∙ omega arith;
@@ -350,27 +350,27 @@ module _ (w : List ℕ) (a c i k : ℕ) (t : Pair w a c i i) (kn : k ≡ records
         flags-else = λ j e. z .cols (rc FLAGS) j refl refl ∙ rw (ne-eqb j k (λ h. e (h ∙ kn)));
       }
 
-  pub split-points : pointsOf (settleOf y i k a) ≡ pointsOf w
+  pub split-points : pointsOf (moveFirst y i k a) ≡ pointsOf w
   split-points = split .points
 
-  pub split-open : isOpen (view w) i ≡ false → Opened (view w) (view (settleOf y i k a))
-  split-open = split-opened (view w) (view (settleOf y i k a)) (t .ready .resolved) a (prevOf w c) i l r (t .one .res .real) (omega arith) (t .one .res .some) (q .whole) (q .occs) split
+  pub split-open : isOpen (view w) i ≡ false → OpenKept (view w) (view (moveFirst y i k a))
+  split-open = split-opened (view w) (view (moveFirst y i k a)) (t .ready .resolved) a (prevOf w c) i l r (t .one .res .real) (omega arith) (t .one .res .some) (q .whole) (q .occs) split
 
-  pub split-ready : Ready (settleOf y i k a)
+  pub split-ready : Ready (moveFirst y i k a)
   split-ready =
       record {
         long = settled .long;
-        resolved = split-resolved (view w) (view (settleOf y i k a)) (t .ready .resolved) a (prevOf w c) i l r (t .one .res .real) (omega arith) (t .one .res .some) (q .whole) (q .occs) split;
+        resolved = split-resolved (view w) (view (moveFirst y i k a)) (t .ready .resolved) a (prevOf w c) i l r (t .one .res .real) (omega arith) (t .one .res .some) (q .whole) (q .occs) split;
       }
 
-pub split-ring-ready : (w : List ℕ) (a c i k : ℕ) → Pair w a c i i → k ≡ recordsOf w → k < limit.RECORDS → Ready (splitRing w a c i k)
+pub split-ring-ready : (w : List ℕ) (a c i k : ℕ) → Unknotted w a c i i → k ≡ recordsOf w → k < limit.RECORDS → Ready (splitRing w a c i k)
 unfolding splitRing
 split-ring-ready w a c i k t kn kf = split-ready w a c i k t kn kf (parts w a c i t)
 
-pub split-ring-points : (w : List ℕ) (a c i k : ℕ) → Pair w a c i i → k ≡ recordsOf w → k < limit.RECORDS → pointsOf (splitRing w a c i k) ≡ pointsOf w
+pub split-ring-points : (w : List ℕ) (a c i k : ℕ) → Unknotted w a c i i → k ≡ recordsOf w → k < limit.RECORDS → pointsOf (splitRing w a c i k) ≡ pointsOf w
 unfolding splitRing
 split-ring-points w a c i k t kn kf = split-points w a c i k t kn kf (parts w a c i t)
 
-pub split-ring-open : (w : List ℕ) (a c i k : ℕ) → Pair w a c i i → k ≡ recordsOf w → k < limit.RECORDS → isOpen (view w) i ≡ false → Opened (view w) (view (splitRing w a c i k))
+pub split-ring-open : (w : List ℕ) (a c i k : ℕ) → Unknotted w a c i i → k ≡ recordsOf w → k < limit.RECORDS → isOpen (view w) i ≡ false → OpenKept (view w) (view (splitRing w a c i k))
 unfolding splitRing
 split-ring-open w a c i k t kn kf = split-open w a c i k t kn kf (parts w a c i t)

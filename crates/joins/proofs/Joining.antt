@@ -65,7 +65,7 @@ abbrev pub Shut : Store → ℕ → Type 0
 Shut s k = (i : ℕ) → Lives s i k → isOpen s i ≡ false
 
 -- open rings stay as they are; no new record is open; and points on closed rings stay on closed rings
-pub record Opened (s u : Store) : Type 0 where
+pub record OpenKept (s u : Store) : Type 0 where
   pub records : recs s ≤ recs u
   pub points : pts s ≤ pts u
   pub flags : (i : ℕ) → i < recs s → u (rc FLAGS) i ≡ s (rc FLAGS) i
@@ -228,7 +228,7 @@ module _ (s u : Store) (o : Resolved s) (a b i : ℕ) (l r : List ℕ) (hi : i <
       (λ k p. c .crossed .next-else k (apart s o i j hi h d k a p (omega (arith, occs a, one-is a a refl))) (apart s o i j hi h d k b p (omega (arith, occs b, halves b, one-is b b refl))))
 
   -- where record i is closed
-  pub split-opened : isOpen s i ≡ false → Opened s u
+  pub split-opened : isOpen s i ≡ false → OpenKept s u
   split-opened shut =
       record {
         records = omega (arith, c .records);
@@ -372,7 +372,7 @@ module _ (s u : Store) (o : Resolved s) (a b i j : ℕ) (l r : List ℕ) (ij : i
       (λ k p. c .crossed .next-else k (apart s o i t hi h d k a p (omega (arith, ones a, one-is a a refl))) (apart s o j t hj h e k b p (omega (arith, twos b, one-is b b refl))))
 
   -- where both records are closed
-  pub merge-opened : isOpen s i ≡ false → isOpen s j ≡ false → Opened s u
+  pub merge-opened : isOpen s i ≡ false → isOpen s j ≡ false → OpenKept s u
   merge-opened shut-i shut-j =
       record {
         records = omega (arith, c .records);

@@ -16,24 +16,24 @@ use Rattle.joins.specs.declared.Joined.{Joined}
 use Rattle.joins.specs.declared.Joined.the-variants.{Done, Knot, Full}
 use Rattle.joins.specs.Resolve.{homeOf}
 use Rattle.joins.specs.Resolved.{Ready}
-use Rattle.joins.specs.Join.{End, end, relinkOf, newOutRec, fixOutrecPts, settleOf, splitRing, splitOf, mergeOf, byRecords, joinOf, follow, joinsFrom, processHorzJoins}
-use Rattle.joins.specs.Needs.{Point, Points, Four, Ringed, Pair, Joins}
+use Rattle.joins.specs.Join.{JoinEnd, end, relinkOf, newOutRec, fixOutrecPts, moveFirst, splitRing, splitOf, mergeOf, byRecords, joinOf, follow, joinsFrom, processHorzJoins}
+use Rattle.joins.specs.Needs.{Point, Points, Four, Ringed, Unknotted, Joins}
 use Rattle.joins.proofs.Finding.{at-home}
 use Rattle.joins.proofs.Cases.{four, low-one, low-two, merge-ready, merge-points, parts, new-ring, first-low, split-ring-ready, split-ring-points}
 
-pub settle-yes : (w x y : List ℕ) (i k a f r : ℕ) → f ≡ firstOf w i → r ≡ recOf w f → r ≡ k → x ≡ put (rc FIRST) w i a → y ≡ put (pt REC) x a i → y ≡ settleOf w i k a
-unfolding settleOf
-settle-yes w x y i k a f r e d h g j =
+pub move-first-yes : (w x y : List ℕ) (i k a f r : ℕ) → f ≡ firstOf w i → r ≡ recOf w f → r ≡ k → x ≡ put (rc FIRST) w i a → y ≡ put (pt REC) x a i → y ≡ moveFirst w i k a
+unfolding moveFirst
+move-first-yes w x y i k a f r e d h g j =
     let t : eqb (recOf w (firstOf w i)) k ≡ true = eq-eqb (recOf w (firstOf w i)) k (cc) in
     cc
 
-pub settle-no : (w : List ℕ) (i k a f r : ℕ) → f ≡ firstOf w i → r ≡ recOf w f → r ≢ k → w ≡ settleOf w i k a
-unfolding settleOf
-settle-no w i k a f r e d h =
+pub move-first-no : (w : List ℕ) (i k a f r : ℕ) → f ≡ firstOf w i → r ≡ recOf w f → r ≢ k → w ≡ moveFirst w i k a
+unfolding moveFirst
+move-first-no w i k a f r e d h =
     let t : eqb (recOf w (firstOf w i)) k ≡ false = ne-eqb (recOf w (firstOf w i)) k (λ z. h (d ∙ ap (recOf w) e ∙ z)) in
     cc
 
-module _ (w : List ℕ) (a c i j : ℕ) (t : Pair w a c i j) where
+module _ (w : List ℕ) (a c i j : ℕ) (t : Unknotted w a c i j) where
   pub pair-four : Four w a c
   pair-four = four w a c i j t
 
@@ -54,14 +54,14 @@ module _ (w : List ℕ) (a c i j : ℕ) (t : Pair w a c i j) where
 
 -- ---- one record
 
-module _ (w x y : List ℕ) (a c i k n : ℕ) (t : Pair w a c i i) (kn : k ≡ recordsOf w) (kf : k < limit.RECORDS) (ne : n ≡ nextOf w a) (xe : x ≡ relinkOf w a c) (ye : y ≡ newOutRec x k n i) where
+module _ (w x y : List ℕ) (a c i k n : ℕ) (t : Unknotted w a c i i) (kn : k ≡ recordsOf w) (kf : k < limit.RECORDS) (ne : n ≡ nextOf w a) (xe : x ≡ relinkOf w a c) (ye : y ≡ newOutRec x k n i) where
   pub split-ring-new : Ringed y k
   split-ring-new = rw (ye, xe, ne) (new-ring w a c i k t kn kf (parts w a c i t))
 
   pub split-ring-first : (z : List ℕ) → z ≡ fixOutrecPts y k → firstOf z i < limit.POINTS
   split-ring-first z e = rw (e, ye, xe, ne) (first-low w a c i k t kn kf (parts w a c i t))
 
-  pub split-ring-done : (z u : List ℕ) → z ≡ fixOutrecPts y k → u ≡ settleOf z i k a → u ≡ splitRing w a c i k
+  pub split-ring-done : (z u : List ℕ) → z ≡ fixOutrecPts y k → u ≡ moveFirst z i k a → u ≡ splitRing w a c i k
   unfolding splitRing
   split-ring-done z u e f = cc
 
@@ -85,8 +85,8 @@ merge-done w x y z a c i j e f g = cc
 
 -- ---- by records
 
-pub pair-same : (w : List ℕ) (a c i j : ℕ) → Pair w a c i j → i ≡ j → Pair w a c i i
-pair-same w a c i j t e = subst (λ (k : ℕ). Pair w a c i k) (sym e) t
+pub pair-same : (w : List ℕ) (a c i j : ℕ) → Unknotted w a c i j → i ≡ j → Unknotted w a c i i
+pair-same w a c i j t e = subst (λ (k : ℕ). Unknotted w a c i k) (sym e) t
 
 pub by-same : (w x : List ℕ) (a c i j : ℕ) (r : Joined) → i ≡ j → end r x ≡ splitOf w a c i → end r x ≡ byRecords w a c i j
 unfolding byRecords
@@ -115,7 +115,7 @@ module _ (w : List ℕ) (a c : ℕ) (t : Points w a c) where
   pub points-long : LENGTH ≤ length w
   points-long = t .ready .long
 
-  pub points-pair : (n i j : ℕ) → n ≡ nextOf w a → n ≢ c → i ≡ homeOf w a → j ≡ homeOf w c → Pair w a c i j
+  pub points-pair : (n i j : ℕ) → n ≡ nextOf w a → n ≢ c → i ≡ homeOf w a → j ≡ homeOf w c → Unknotted w a c i j
   points-pair n i j e d f g = record { ready = t .ready; one = at-home w (t .ready) a i (t .one) f; two = at-home w (t .ready) c j (t .two) g; loose = λ z. d (e ∙ z) }
 
 pub join-knot : (w : List ℕ) (a c n : ℕ) → n ≡ nextOf w a → n ≡ c → end Knot w ≡ joinOf w a c
@@ -136,10 +136,10 @@ pub record Still (w x : List ℕ) : Type 0 where
   pub ready : Ready x
   pub points : pointsOf x ≡ pointsOf w
 
-abbrev pub words : End → List ℕ
+abbrev pub words : JoinEnd → List ℕ
 words (end u x) = x
 
-split-kept : (w : List ℕ) (a c i : ℕ) → Pair w a c i i → Still w (words (splitOf w a c i))
+split-kept : (w : List ℕ) (a c i : ℕ) → Unknotted w a c i i → Still w (words (splitOf w a c i))
 unfolding splitOf
 split-kept w a c i t = go (ltb (recordsOf w) limit.RECORDS) refl
   where
@@ -147,7 +147,7 @@ split-kept w a c i t = go (ltb (recordsOf w) limit.RECORDS) refl
     go true e = record { ready = split-ring-ready w a c i (recordsOf w) t refl (ltb-true _ _ e); points = split-ring-points w a c i (recordsOf w) t refl (ltb-true _ _ e) }
     go false e = record { ready = t .ready; points = refl }
 
-by-kept : (w : List ℕ) (a c i j : ℕ) → Pair w a c i j → Still w (words (byRecords w a c i j))
+by-kept : (w : List ℕ) (a c i j : ℕ) → Unknotted w a c i j → Still w (words (byRecords w a c i j))
 unfolding byRecords
 by-kept w a c i j t = go (eqb i j) refl
   where
@@ -166,11 +166,11 @@ join-kept w a c t = go (eqb (nextOf w a) c) refl
 
 -- ---- the list of joins
 
-on : (f i : ℕ) (js w : List ℕ) (F : End) → joinsFrom (suc f) i js w ≡ F → follow (joinsFrom f (i + 1) js) (joinOf w (getD js (2 * i) 0) (getD js (2 * i + 1) 0)) ≡ F
+on : (f i : ℕ) (js w : List ℕ) (F : JoinEnd) → joinsFrom (suc f) i js w ≡ F → follow (joinsFrom f (i + 1) js) (joinOf w (getD js (2 * i) 0) (getD js (2 * i + 1) 0)) ≡ F
 unfolding joinsFrom
 on f i js w F e = e
 
-pub record Going (F : End) (n : ℕ) (js w : List ℕ) (i : ℕ) : Type 0 where
+pub record Going (F : JoinEnd) (n : ℕ) (js w : List ℕ) (i : ℕ) : Type 0 where
   pub ready : Joins w n js
   pub left : ℕ
   pub far : i + left ≡ n
@@ -179,13 +179,13 @@ pub record Going (F : End) (n : ℕ) (js w : List ℕ) (i : ℕ) : Type 0 where
 pub begun : (n : ℕ) (js w : List ℕ) → Joins w n js → Going (processHorzJoins n js w) n js w 0
 begun n js w t = record { ready = t; left = n; far = omega arith; goes = refl }
 
-pub going-points : (F : End) (n : ℕ) (js w : List ℕ) (i a c : ℕ) → Going F n js w i → i < n → a ≡ getD js (2 * i) 0 → c ≡ getD js (2 * i + 1) 0 → Points w a c
+pub going-points : (F : JoinEnd) (n : ℕ) (js w : List ℕ) (i a c : ℕ) → Going F n js w i → i < n → a ≡ getD js (2 * i) 0 → c ≡ getD js (2 * i + 1) 0 → Points w a c
 going-points F n js w i a c g h e f = rw (e, f) (record { ready = g .ready .ready; one = g .ready .points (2 * i) (omega arith); two = g .ready .points (2 * i + 1) (omega arith) })
 
-pub going-fits : (F : End) (n : ℕ) (js w : List ℕ) (i : ℕ) → Going F n js w i → i < n → 2 * i + 1 < length js
+pub going-fits : (F : JoinEnd) (n : ℕ) (js w : List ℕ) (i : ℕ) → Going F n js w i → i < n → 2 * i + 1 < length js
 going-fits F n js w i g h = omega (arith, g .ready .fits)
 
-module _ (F : End) (n : ℕ) (js w x : List ℕ) (i a c : ℕ) (u : Joined) (g : Going F n js w i) (h : i < n) (e : a ≡ getD js (2 * i) 0) (f : c ≡ getD js (2 * i + 1) 0) (k : end u x ≡ joinOf w a c) where
+module _ (F : JoinEnd) (n : ℕ) (js w x : List ℕ) (i a c : ℕ) (u : Joined) (g : Going F n js w i) (h : i < n) (e : a ≡ getD js (2 * i) 0) (f : c ≡ getD js (2 * i + 1) 0) (k : end u x ≡ joinOf w a c) where
   step : (v : Joined) → u ≡ v → (m : ℕ) → i + m ≡ n → joinsFrom m i js w ≡ F → (l : ℕ) × (m ≡ suc l) × (follow (joinsFrom l (i + 1) js) (end v x) ≡ F)
   step v d zero p q = absurd (omega arith)
   step v d (suc l) p q =
@@ -195,7 +195,7 @@ module _ (F : End) (n : ℕ) (js w x : List ℕ) (i a c : ℕ) (u : Joined) (g :
   pub next : u ≡ Done → Going F n js x (i + 1)
   next d =
       let s = step Done d (g .left) (g .far) (g .goes) in
-      let v : Still w x = subst (λ (z : End). Still w (words z)) (sym k) (join-kept w a c (going-points F n js w i a c g h e f)) in
+      let v : Still w x = subst (λ (z : JoinEnd). Still w (words z)) (sym k) (join-kept w a c (going-points F n js w i a c g h e f)) in
       record {
         ready = record { ready = v .ready; fits = g .ready .fits; points = λ j l. rw (v .points) (g .ready .points j l) };
         left = s .0;
@@ -209,16 +209,16 @@ module _ (F : End) (n : ℕ) (js w x : List ℕ) (i a c : ℕ) (u : Joined) (g :
   pub full : u ≡ Full → end Full x ≡ F
   full d = step Full d (g .left) (g .far) (g .goes) .2
 
-over : (m i n : ℕ) (js w : List ℕ) (F : End) → i + m ≡ n → n ≤ i → joinsFrom m i js w ≡ F → end Done w ≡ F
+over : (m i n : ℕ) (js w : List ℕ) (F : JoinEnd) → i + m ≡ n → n ≤ i → joinsFrom m i js w ≡ F → end Done w ≡ F
 unfolding joinsFrom
 over zero i n js w F p h e = e
 over (suc m) i n js w F p h e = absurd (omega arith)
 
-pub done : (F : End) (n : ℕ) (js w : List ℕ) (i : ℕ) → Going F n js w i → n ≤ i → end Done w ≡ F
+pub done : (F : JoinEnd) (n : ℕ) (js w : List ℕ) (i : ℕ) → Going F n js w i → n ≤ i → end Done w ≡ F
 done F n js w i g h = over (g .left) i n js w F (g .far) h (g .goes)
 
 -- the whole list keeps the invariant, refused or not
-follow-kept : (g : List ℕ → End) (w : List ℕ) (e : End) → Still w (words e) → ((x : List ℕ) → Still w x → Still w (words (g x))) → Still w (words (follow g e))
+follow-kept : (g : List ℕ → JoinEnd) (w : List ℕ) (e : JoinEnd) → Still w (words e) → ((x : List ℕ) → Still w x → Still w (words (g x))) → Still w (words (follow g e))
 follow-kept g w (end Done x) s f = f x s
 follow-kept g w (end Knot x) s f = s
 follow-kept g w (end Full x) s f = s

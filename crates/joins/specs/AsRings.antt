@@ -16,7 +16,7 @@ use Rattle.store.specs.Named.{nextOf, recordsOf}
 use Rattle.store.specs.Sound.{pts, recs, ringAt, isOpen}
 use Rattle.joins.specs.declared.Joined.the-variants.{Done, Knot, Full}
 use Rattle.joins.specs.Resolve.{homeOf}
-use Rattle.joins.specs.Join.{End, end, joinOf, processHorzJoins}
+use Rattle.joins.specs.Join.{JoinEnd, end, joinOf, processHorzJoins}
 
 -- ---- rings as lists
 
@@ -93,7 +93,7 @@ abbrev pub OneOrTwo : List ℕ → List ℕ → ℕ → ℕ → ℕ → ℕ → 
 OneOrTwo w x a c i j = ((i ≡ j) × OneRecord (view w) (view x) a c i) ⊎ ((i ≢ j) × TwoRecords (view w) (view x) a c i j)
 
 -- rows 9 and 10, which leave all as it was, or one of the two cases
-abbrev pub AsRings : List ℕ → ℕ → ℕ → End → Type 0
+abbrev pub AsRings : List ℕ → ℕ → ℕ → JoinEnd → Type 0
 AsRings w a c (end Knot x) = (x ≡ w) × (nextOf w a ≡ c)
 AsRings w a c (end Full x) = (x ≡ w) × (nextOf w a ≢ c) × (homeOf w a ≡ homeOf w c) × (recordsOf w ≡ limit.RECORDS)
 AsRings w a c (end Done x) = (nextOf w a ≢ c) × OneOrTwo w x a c (homeOf w a) (homeOf w c)

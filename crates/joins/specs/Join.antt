@@ -17,8 +17,8 @@ use Rattle.joins.specs.declared.Joined.the-variants.{Done, Knot, Full}
 use Rattle.joins.specs.Resolve.{homeOf}
 
 -- the answer, and the words that it leaves
-pub data End : Type 0 where
-  end : Joined → List ℕ → End
+pub data JoinEnd : Type 0 where
+  end : Joined → List ℕ → JoinEnd
 
 -- the row of document 01's table that an answer is, if any
 abbrev pub refusalOf : Joined → Option Refusal
@@ -65,39 +65,39 @@ unfoldable pub fixOutrecPts : List ℕ → ℕ → List ℕ
 fixOutrecPts w k = nameAll w k (ringAt (view w) k)
 
 -- the first point of record i, if it went to record k, is a
-unfoldable pub settleOf : List ℕ → ℕ → ℕ → ℕ → List ℕ
-settleOf w i k a = cond (eqb (recOf w (firstOf w i)) k) (onWords w (firstWrites i a)) w
+unfoldable pub moveFirst : List ℕ → ℕ → ℕ → ℕ → List ℕ
+moveFirst w i k a = cond (eqb (recOf w (firstOf w i)) k) (onWords w (firstWrites i a)) w
 
 -- "one record for both points gives a new record owned by the first": the ring is split, and record k takes the part that starts at op1b
 unfoldable pub splitRing : List ℕ → ℕ → ℕ → ℕ → ℕ → List ℕ
-splitRing w a c i k = settleOf (fixOutrecPts (newOutRec (relinkOf w a c) k (nextOf w a) i) k) i k a
+splitRing w a c i k = moveFirst (fixOutrecPts (newOutRec (relinkOf w a c) k (nextOf w a) i) k) i k a
 
 -- if there is room for a record
-unfoldable pub splitOf : List ℕ → ℕ → ℕ → ℕ → End
+unfoldable pub splitOf : List ℕ → ℕ → ℕ → ℕ → JoinEnd
 splitOf w a c i = cond (ltb (recordsOf w) limit.RECORDS) (end Done (splitRing w a c i (recordsOf w))) (end Full w)
 
 -- "two records empty the second, now owned by the first"
 unfoldable pub mergeOf : List ℕ → ℕ → ℕ → ℕ → ℕ → List ℕ
 mergeOf w a c i j = onWords (relinkOf w a c) (emptyWrites j i)
 
-unfoldable pub byRecords : List ℕ → ℕ → ℕ → ℕ → ℕ → End
+unfoldable pub byRecords : List ℕ → ℕ → ℕ → ℕ → ℕ → JoinEnd
 byRecords w a c i j = cond (eqb i j) (splitOf w a c i) (end Done (mergeOf w a c i j))
 
 -- a join of op1 = a and op2 = c at its turn: a knot where a's next is c already
-unfoldable pub joinOf : List ℕ → ℕ → ℕ → End
+unfoldable pub joinOf : List ℕ → ℕ → ℕ → JoinEnd
 joinOf w a c = cond (eqb (nextOf w a) c) (end Knot w) (byRecords w a c (homeOf w a) (homeOf w c))
 
 -- the rest of the joins, unless one was refused
-abbrev pub follow : (List ℕ → End) → End → End
+abbrev pub follow : (List ℕ → JoinEnd) → JoinEnd → JoinEnd
 follow k (end Done w) = k w
 follow k (end Knot w) = end Knot w
 follow k (end Full w) = end Full w
 
 -- f joins from number i on; js holds their points two by two
-unfoldable pub joinsFrom : ℕ → ℕ → List ℕ → List ℕ → End
+unfoldable pub joinsFrom : ℕ → ℕ → List ℕ → List ℕ → JoinEnd
 joinsFrom zero i js w = end Done w
 joinsFrom (suc f) i js w = follow (joinsFrom f (i + 1) js) (joinOf w (getD js (2 * i) 0) (getD js (2 * i + 1) 0))
 
 -- process_horz_joins over n joins
-abbrev pub processHorzJoins : ℕ → List ℕ → List ℕ → End
+abbrev pub processHorzJoins : ℕ → List ℕ → List ℕ → JoinEnd
 processHorzJoins n js w = joinsFrom n 0 js w

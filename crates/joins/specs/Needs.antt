@@ -44,7 +44,7 @@ pub record Ringed (w : List ℕ) (k : ℕ) : Type 0 where
   pub whole : Whole (nextOf w) (prevOf w) limit.POINTS (firstOf w k ∷ others)
 
 -- a join that is no knot, by the records of its two points
-pub record Pair (w : List ℕ) (a c i j : ℕ) : Type 0 where
+pub record Unknotted (w : List ℕ) (a c i j : ℕ) : Type 0 where
   pub ready : Ready w
   pub one : Lives (view w) i a
   pub two : Lives (view w) j c

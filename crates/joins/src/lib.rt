@@ -11,8 +11,8 @@ ghost use Rattle.job.specs.Limits as limit;
 ghost use Rattle.store.specs.Field.{LENGTH};
 ghost use Rattle.store.specs.Named.{recordsOf, firstOf};
 ghost use Rattle.joins.specs.Resolve.{getRealOutrec, homeOf};
-ghost use Rattle.joins.specs.Needs.{Resolving, Point, Points, Four, Ringed, Pair, Joins};
-ghost use Rattle.joins.specs.Join.{end, relinkOf, newOutRec, fixOutrecPts, settleOf, splitRing, splitOf, mergeOf, byRecords, joinOf, processHorzJoins};
+ghost use Rattle.joins.specs.Needs.{Resolving, Point, Points, Four, Ringed, Unknotted, Joins};
+ghost use Rattle.joins.specs.Join.{end, relinkOf, newOutRec, fixOutrecPts, moveFirst, splitRing, splitOf, mergeOf, byRecords, joinOf, processHorzJoins};
 
 // How a join, or the list of them, ends: done, or refused as a knot (9) or full (10).
 pub enum Joined {
@@ -85,9 +85,9 @@ fn fix_outrec_pts(w: &mut [u32], k: usize)
 }
 
 // The first point of record i, if it went to record k, is now a.
-fn settle(w: &mut [u32], i: usize, k: usize, a: usize)
+fn move_first(w: &mut [u32], i: usize, k: usize, a: usize)
     requires { ⌜ (LENGTH ≤ length (now w)) × (i < limit.RECORDS) × (a < limit.POINTS) × (firstOf (now w) i < limit.POINTS) ⌝ }
-    ensures { λ _. ⌜ now (w .exit) ≡ settleOf (now (w .entry)) i k a ⌝ }
+    ensures { λ _. ⌜ now (w .exit) ≡ moveFirst (now (w .entry)) i k a ⌝ }
 {
     let f = get(w, Col::First, i);
     let r = get(w, Col::Rec, f);
@@ -99,7 +99,7 @@ fn settle(w: &mut [u32], i: usize, k: usize, a: usize)
 
 // Two records: the second is emptied, and now owned by the first.
 fn merge(w: &mut [u32], op1: usize, op2: usize, i: usize, j: usize)
-    requires { ⌜ Pair (now w) op1 op2 i j ⌝ }
+    requires { ⌜ Unknotted (now w) op1 op2 i j ⌝ }
     ensures { λ _. ⌜ now (w .exit) ≡ mergeOf (now (w .entry)) op1 op2 i j ⌝ }
 {
     relink(w, op1, op2);
@@ -109,19 +109,19 @@ fn merge(w: &mut [u32], op1: usize, op2: usize, i: usize, j: usize)
 
 // One record for both points: its ring is split, and record k is new.
 fn split_ring(w: &mut [u32], op1: usize, op2: usize, i: usize, k: usize)
-    requires { ⌜ Pair (now w) op1 op2 i i × (k ≡ recordsOf (now w)) × (k < limit.RECORDS) ⌝ }
+    requires { ⌜ Unknotted (now w) op1 op2 i i × (k ≡ recordsOf (now w)) × (k < limit.RECORDS) ⌝ }
     ensures { λ _. ⌜ now (w .exit) ≡ splitRing (now (w .entry)) op1 op2 i k ⌝ }
 {
     let n = get(w, Col::Next, op1);
     relink(w, op1, op2);
     new_out_rec(w, k, n, i);
     fix_outrec_pts(w, k);
-    settle(w, i, k, op1);
+    move_first(w, i, k, op1);
 }
 
 // The same, if there is room for a record.
 fn split(w: &mut [u32], op1: usize, op2: usize, i: usize) -> Joined
-    requires { ⌜ Pair (now w) op1 op2 i i ⌝ }
+    requires { ⌜ Unknotted (now w) op1 op2 i i ⌝ }
     ensures { λ r. ⌜ end r (now (w .exit)) ≡ splitOf (now (w .entry)) op1 op2 i ⌝ }
 {
     let k = get(w, Col::Records, 0);
@@ -133,7 +133,7 @@ fn split(w: &mut [u32], op1: usize, op2: usize, i: usize) -> Joined
 }
 
 fn by_records(w: &mut [u32], op1: usize, op2: usize, i: usize, j: usize) -> Joined
-    requires { ⌜ Pair (now w) op1 op2 i j ⌝ }
+    requires { ⌜ Unknotted (now w) op1 op2 i j ⌝ }
     ensures { λ r. ⌜ end r (now (w .exit)) ≡ byRecords (now (w .entry)) op1 op2 i j ⌝ }
 {
     if i == j {

@@ -15,7 +15,7 @@ use lib.Dec.{eqb}
 use borrow.Author.Tests.{eq-eqb, ne-eqb}
 use Rattle.rings.specs.Count.{sumBy}
 use Rattle.rings.proofs.Counting.{sumBy-append, sumBy-set}
-use Rattle.lone.specs.Forest.{ok, full, outOfTurn, Machine, State, initial, toList, Entry, ringless, openRing, closedRing, Opened, leftRingless, leftOpen, leftClosed, Forest, names, naming, isOk}
+use Rattle.lone.specs.Forest.{ok, full, outOfTurn, Machine, State, initial, toList, Entry, ringless, openRing, closedRing, Fed, leftRingless, leftOpen, leftClosed, Forest, names, naming, isOk}
 use Rattle.lone.specs.Forest.{enter, opening, newEntry, at, OfClosed, cutFrom, offcutsOf, takenBy, rank, allTaken, allCut, stepState, stepsState, stepsEntry, stepEntries, carryOut, answerTo, answer, stepForest, runForest, accepted}
 use Rattle.lone.specs.Order.{IsOffcut, Alone, Exactly, Independent}
 use Rattle.lone.proofs.Stepping.{step-length, step-here, step-other, Accepted, Refused, view, exactly}
@@ -51,14 +51,14 @@ module _ {S X : Type 0} where
   offcuts-append (e ∷ es) i o (suc p) = offcuts-append es i o p
 
   -- a number stays short where nothing was opened
-  opened-offcuts : (os : List (Opened S X)) (p : ℕ) → offcutsOf (at (map enter os) p) ≡ []
+  opened-offcuts : (os : List (Fed S X)) (p : ℕ) → offcutsOf (at (map enter os) p) ≡ []
   opened-offcuts [] p = refl
   opened-offcuts (leftRingless ∷ os) zero = refl
   opened-offcuts (leftOpen x ∷ os) zero = refl
   opened-offcuts (leftClosed s ∷ os) zero = refl
   opened-offcuts (o ∷ os) (suc p) = opened-offcuts os p
 
-  opened-naming : (os : List (Opened S X)) (p : ℕ) → naming p (map cutFrom (map enter os)) ≡ 0
+  opened-naming : (os : List (Fed S X)) (p : ℕ) → naming p (map cutFrom (map enter os)) ≡ 0
   opened-naming [] p = refl
   opened-naming (leftRingless ∷ os) p = omega (arith, opened-naming os p)
   opened-naming (leftOpen x ∷ os) p = omega (arith, opened-naming os p)
@@ -70,7 +70,7 @@ module _ {S X : Type 0} (M : Machine S) where
   advance-zero (openRing x) = refl
   advance-zero (closedRing q L) = refl
 
-  at-opening : (os : List (Opened S X)) → Alone M os (map enter os) (λ j. 0)
+  at-opening : (os : List (Fed S X)) → Alone M os (map enter os) (λ j. 0)
   at-opening os = record {
     longer = simp length-map (omega arith);
     idle = λ j h. refl;
@@ -137,7 +137,7 @@ module _ {S X : Type 0} (M : Machine S) where
     unfolding after
     after-cut = omega (arith, sumBy-append (λ (e : Entry S X). length (offcutsOf e)) (set es i (closedRing q (stepState M L))) (newEntry i (M .cuts (L .now))), new-offcuts (M .cuts (L .now)), sumBy-set (λ (e : Entry S X). length (offcutsOf e)) es i (closedRing q (stepState M L)) ringless inside, ap (λ (e : Entry S X). length (offcutsOf e)) here, length-append (L .offcuts) (toList (M .cuts (L .now))))
 
-    module _ (os : List (Opened S X)) (g : ℕ → ℕ) (a : Alone M os es g) where
+    module _ (os : List (Fed S X)) (g : ℕ → ℕ) (a : Alone M os es g) where
       cut-kept : (p : ℕ) (k : ℕ) (s : S) → getElem? (offcutsOf (at es p)) k ≡ some s → getElem? (offcutsOf (at after p)) k ≡ some s
       cut-kept p k s h = go (ℕ-discrete p i)
         where
@@ -233,32 +233,32 @@ module _ {S X : Type 0} (M : Machine S) where
           late j h k (no m) = newest (M .cuts (L .now)) refl j (omega arith) (rw after-length at k)
 
 module _ {S X : Type 0} where
-  opened-taken : (os : List (Opened S X)) → allTaken (map enter os) ≡ 0
+  opened-taken : (os : List (Fed S X)) → allTaken (map enter os) ≡ 0
   opened-taken [] = refl
   opened-taken (leftRingless ∷ os) = omega (arith, opened-taken os)
   opened-taken (leftOpen x ∷ os) = omega (arith, opened-taken os)
   opened-taken (leftClosed s ∷ os) = omega (arith, opened-taken os)
 
-  opened-cut : (os : List (Opened S X)) → allCut (map enter os) ≡ 0
+  opened-cut : (os : List (Fed S X)) → allCut (map enter os) ≡ 0
   opened-cut [] = refl
   opened-cut (leftRingless ∷ os) = omega (arith, opened-cut os)
   opened-cut (leftOpen x ∷ os) = omega (arith, opened-cut os)
   opened-cut (leftClosed s ∷ os) = omega (arith, opened-cut os)
 
 module _ {S X : Type 0} (M : Machine S) (lp lr : ℕ) where
-  answers-by : (os : List (Opened S X)) (p₀ : ℕ) (F : Forest S X) → F .points ≡ p₀ + allTaken (F .entries) → length (F .entries) ≡ length os + allCut (F .entries)
+  answers-by : (os : List (Fed S X)) (p₀ : ℕ) (F : Forest S X) → F .points ≡ p₀ + allTaken (F .entries) → length (F .entries) ≡ length os + allCut (F .entries)
       → (i : ℕ) → answer M lp lr F i ≡ answerTo M lp lr (at (F .entries) i) (p₀ + allTaken (F .entries)) (length os + allCut (F .entries))
   unfolding answer
   answers-by os p₀ F h k i = cc
 
-  exactly-by : (os : List (Opened S X)) (p₀ : ℕ) (F : Forest S X) → F .points ≡ p₀ + allTaken (F .entries) → length (F .entries) ≡ length os + allCut (F .entries)
+  exactly-by : (os : List (Fed S X)) (p₀ : ℕ) (F : Forest S X) → F .points ≡ p₀ + allTaken (F .entries) → length (F .entries) ≡ length os + allCut (F .entries)
       → (i : ℕ) → Exactly M lp lr ok full outOfTurn (answer M lp lr F i) (at (F .entries) i) (p₀ + allTaken (F .entries)) (length os + allCut (F .entries))
   exactly-by os p₀ F h k i = rw (answers-by os p₀ F h k i) (exactly M lp lr (at (F .entries) i) (p₀ + allTaken (F .entries)) (length os + allCut (F .entries)))
 
-  make : (os : List (Opened S X)) (p₀ : ℕ) (F : Forest S X) (g : ℕ → ℕ) → Alone M os (F .entries) g → F .points ≡ p₀ + allTaken (F .entries) → length (F .entries) ≡ length os + allCut (F .entries) → Independent M lp lr os p₀ F g
+  make : (os : List (Fed S X)) (p₀ : ℕ) (F : Forest S X) (g : ℕ → ℕ) → Alone M os (F .entries) g → F .points ≡ p₀ + allTaken (F .entries) → length (F .entries) ≡ length os + allCut (F .entries) → Independent M lp lr os p₀ F g
   make os p₀ F g a h k = record { alone = a; points-used = h; records-used = k; answers = answers-by os p₀ F h k; exactly = exactly-by os p₀ F h k }
 
-  step-independent : (os : List (Opened S X)) (p₀ : ℕ) (F : Forest S X) (g : ℕ → ℕ) (i : ℕ) → Independent M lp lr os p₀ F g → Independent M lp lr os p₀ (stepForest M lp lr F i) (λ j. g j + cond (isOk (answer M lp lr F i)) (cond (eqb i j) 1 0) 0)
+  step-independent : (os : List (Fed S X)) (p₀ : ℕ) (F : Forest S X) (g : ℕ → ℕ) (i : ℕ) → Independent M lp lr os p₀ F g → Independent M lp lr os p₀ (stepForest M lp lr F i) (λ j. g j + cond (isOk (answer M lp lr F i)) (cond (eqb i j) 1 0) 0)
   unfolding after bump
   step-independent os p₀ F g i v = go (view M lp lr F i)
     where
@@ -270,11 +270,11 @@ module _ {S X : Type 0} (M : Machine S) (lp lr : ℕ) where
           (omega (arith, v .records-used, after-cut M (F .entries) i (y .who) L (y .here) (y .unfinished), after-length M (F .entries) i (y .who) L (y .here) (y .unfinished))))
       go (inr n) = rw (n .becomes, n .says) (subst (λ (h : ℕ → ℕ). Independent M lp lr os p₀ F h) (fun-ext (λ j. sym (add-zero (g j)))) v)
 
-  run-independent : (os : List (Opened S X)) (p₀ : ℕ) (s : List ℕ) (F : Forest S X) (g : ℕ → ℕ) → Independent M lp lr os p₀ F g → Independent M lp lr os p₀ (runForest M lp lr F s) (λ j. g j + accepted M lp lr F s j)
+  run-independent : (os : List (Fed S X)) (p₀ : ℕ) (s : List ℕ) (F : Forest S X) (g : ℕ → ℕ) → Independent M lp lr os p₀ F g → Independent M lp lr os p₀ (runForest M lp lr F s) (λ j. g j + accepted M lp lr F s j)
   run-independent os p₀ [] F g v = subst (λ (h : ℕ → ℕ). Independent M lp lr os p₀ F h) (fun-ext (λ j. sym (add-zero (g j)))) v
   run-independent os p₀ (i ∷ s) F g v = subst (λ (h : ℕ → ℕ). Independent M lp lr os p₀ (runForest M lp lr (stepForest M lp lr F i) s) h) (fun-ext (λ j. add-assoc (g j) _ _)) (run-independent os p₀ s (stepForest M lp lr F i) _ (step-independent os p₀ F g i v))
 
   -- after every list of steps
-  pub independent : (os : List (Opened S X)) (p₀ : ℕ) (s : List ℕ) → Independent M lp lr os p₀ (runForest M lp lr (opening os p₀) s) (accepted M lp lr (opening os p₀) s)
+  pub independent : (os : List (Fed S X)) (p₀ : ℕ) (s : List ℕ) → Independent M lp lr os p₀ (runForest M lp lr (opening os p₀) s) (accepted M lp lr (opening os p₀) s)
   independent os p₀ s = subst (λ (h : ℕ → ℕ). Independent M lp lr os p₀ (runForest M lp lr (opening os p₀) s) h) (fun-ext (λ j. zero-add (accepted M lp lr (opening os p₀) s j)))
       (run-independent os p₀ s (opening os p₀) (λ j. 0) (make os p₀ (opening os p₀) (λ j. 0) (at-opening M os) (omega (arith, opened-taken os)) (omega (arith, opened-cut os, length-map os (enter {S = S} {X = X})))))

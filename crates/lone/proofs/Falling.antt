@@ -13,7 +13,7 @@ use Rattle.rings.specs.Progress.{Due, validity, removal, triangle, split, done,
 use Rattle.rings.proofs.Circles.{length-turn, length-spin, length-initOf}
 use Rattle.lone.specs.Ring.{Act, discard, dropPoint, moveOn, toFirst, cut, apply, offcut, takesPoints}
 use Rattle.lone.specs.Lone.{Geo, isDone, isZero, decide, actOf, stepRing, offcutRing, takesRing}
-use Rattle.lone.specs.Forest.{Opened, opening, enter, Every}
+use Rattle.lone.specs.Forest.{Fed, opening, enter, Every}
 use Rattle.lone.specs.Order.{machine, ForestFits, ForestNeverEnds}
 use Rattle.lone.specs.Kept.{HasStart}
 use Rattle.lone.specs.Measure.{walkLeft, weigh, weight}
@@ -117,7 +117,7 @@ module _ {P : Type 0} where
         (r .0, rw (weight-tidy (apply (λ (v : P). v) (decide G (R .circle) (R .first) (R .start) (R .due)) R)) (r .1))
 
     -- ---- of rings: from what opening left, the limits the job's
-    module _ {X : Type 0} (lp lr : ℕ) (os : List (Opened (Ring P) X)) (p₀ : ℕ) where
+    module _ {X : Type 0} (lp lr : ℕ) (os : List (Fed (Ring P) X)) (p₀ : ℕ) where
       offcut-start : (R O : Ring P) → machine G .cuts R ≡ some O → HasStart (O .due) (O .start)
       unfolding machine offcutRing
       offcut-start R O h = offcut-starts (λ (v : P). v) (λ (T : Ring P). HasStart (T .due) (T .start)) (λ c. tt) (actOf G R) R O h

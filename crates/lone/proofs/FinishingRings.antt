@@ -13,7 +13,7 @@ use Rattle.lone.specs.Ring.{Act, stay, discard, dropPoint, moveOn, toFir
 use Rattle.lone.specs.Lone.{Geo, actOf, offcutRing, takesRing}
 use Rattle.lone.specs.Forest.{Entry, ringless, openRing, closedRing, ok, Forest, isOk, at, Every, stepState, carryOut, answer, stepForest}
 use Rattle.lone.specs.Order.{machine, AllDone, ForestFits, ForestNeverEnds}
-use Rattle.lone.specs.Kept.{OnRing, HasStart, Held, HeldIn}
+use Rattle.lone.specs.Kept.{PlacesOnRing, HasStart, Held, HeldIn}
 use Rattle.lone.specs.Measure.{measure}
 use Rattle.lone.specs.Rounds.{heaviest}
 use Rattle.lone.specs.Finish.{finishForest}
@@ -73,12 +73,12 @@ module _ {P X : Type 0} (G : Geo P) (lp lr : ℕ) where
 
       new : (O : Ring P) → offcut (λ (v : P). v) (actOf G R) R ≡ some O → Held (F .points) R → Held (F .points + takesPoints (actOf G R)) O
       new O e h = record {
-        on-ring = offcut-starts (λ (v : P). v) (λ (T : Ring P). OnRing T) on-start (actOf G R) R O e;
+        on-ring = offcut-starts (λ (v : P). v) (λ (T : Ring P). PlacesOnRing T) on-start (actOf G R) R O e;
         has-start = offcut-starts (λ (v : P). v) (λ (T : Ring P). HasStart (T .due) (T .start)) (λ c. tt) (actOf G R) R O e;
         short = omega (arith, h .short, offcut-size (actOf G R) R O e);
       }
         where
-          on-start : (c : List P) → OnRing (atStart c)
+          on-start : (c : List P) → PlacesOnRing (atStart c)
           on-start [] = (omega arith, tt)
           on-start (x ∷ c) = (omega arith, tt)
 

@@ -19,7 +19,7 @@ use Rattle.rings.proofs.Circles.{length-turn, length-spin, length-initOf}
 use Rattle.rings.proofs.Counting.{one-here}
 use Rattle.lone.specs.Ring.{Act, stay, discard, dropPoint, moveOn, toFirst, double, cut, apply, offcut}
 use Rattle.lone.specs.Lone.{Geo, isValidClosedPath, decide, actOf, stepRing}
-use Rattle.lone.specs.Kept.{AtMost, OnCircle, OnRing, HasStart, SplitSize, LongEnough, GeoLaws}
+use Rattle.lone.specs.Kept.{AtMost, OnCircle, PlacesOnRing, HasStart, SplitSize, LongEnough, GeoLaws}
 use Rattle.lone.proofs.Turning.{Crosses, validity-cases, removal-cases, triangle-cases, split-cases}
 
 -- ---- on the circle
@@ -66,7 +66,7 @@ short put n (some (suc zero)) l h = tt
 short put n (some (suc (suc k))) l h = absurd (omega arith)
 
 module _ {A W : Type 0} (a : W → A) where
-  pub on-apply : (act : Act W) (R : Ring A) → OnRing R → OnRing (apply a act R)
+  pub on-apply : (act : Act W) (R : Ring A) → PlacesOnRing R → PlacesOnRing (apply a act R)
   on-apply stay R h = h
   on-apply discard R h = (omega arith, tt)
   on-apply dropPoint R h = go (R .circle) (R .first) (R .start) h
@@ -109,10 +109,10 @@ module _ {A W : Type 0} (a : W → A) where
   offcut-starts Q q (cut v put true d) R O h = let e : atStart (a v ∷ take 2 (R .circle)) ≡ O = cc in subst Q e (q (a v ∷ take 2 (R .circle)))
 
 module _ {A : Type 0} where
-  pub on-tidy : (R : Ring A) → OnRing R → OnRing (tidy R)
+  pub on-tidy : (R : Ring A) → PlacesOnRing R → PlacesOnRing (tidy R)
   on-tidy R h = go (R .circle) (R .first) (R .start) (R .due) h
     where
-      go : (c : List A) (f : ℕ) (s : Option ℕ) (d : Due) → OnCircle (length c) f s → OnRing (tidyAt c f s d)
+      go : (c : List A) (f : ℕ) (s : Option ℕ) (d : Due) → OnCircle (length c) f s → PlacesOnRing (tidyAt c f s d)
       go c f s validity h = on-first (length (spin f c)) none tt
       go c f s removal h = h
       go c f s triangle h = on-first (length (spin f c)) none tt
@@ -122,7 +122,7 @@ module _ {A : Type 0} where
 -- ---- what the step due says
 
 module _ {P : Type 0} (G : Geo P) where
-  pub on-step : (R : Ring P) → OnRing R → OnRing (stepRing G R)
+  pub on-step : (R : Ring P) → PlacesOnRing R → PlacesOnRing (stepRing G R)
   unfolding stepRing
   on-step R h = on-tidy (apply (λ (v : P). v) (actOf G R) R) (on-apply (λ (v : P). v) (actOf G R) R h)
 

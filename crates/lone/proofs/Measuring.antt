@@ -13,7 +13,7 @@ use Rattle.rings.proofs.Circles.{length-turn, length-spin, length-initOf}
 use Rattle.lone.specs.Ring.{Act, stay, discard, dropPoint, moveOn, toFirst, double, cut, apply, takesPoints}
 use Rattle.lone.specs.Lone.{Geo, actOf, stepRing, takesRing}
 use Rattle.lone.specs.Order.{machine}
-use Rattle.lone.specs.Kept.{OnCircle, OnRing, HasStart}
+use Rattle.lone.specs.Kept.{OnCircle, PlacesOnRing, HasStart}
 use Rattle.lone.specs.Measure.{walkLeft, startLeft, weigh, weight, measure}
 use Rattle.lone.specs.Rounds.{rounds, heaviest}
 use Rattle.lone.proofs.Falling.{falls}
@@ -44,7 +44,7 @@ weigh-le n f s split h = omega (arith, walk-le n f s h)
 weigh-le n f s done h = omega arith
 
 module _ {P : Type 0} where
-  pub weight-le : (n : ℕ) (R : Ring P) → OnRing R → length (R .circle) ≤ n → weight R ≤ heaviest n
+  pub weight-le : (n : ℕ) (R : Ring P) → PlacesOnRing R → length (R .circle) ≤ n → weight R ≤ heaviest n
   weight-le n R h l = omega (arith, weigh-le (length (R .circle)) (R .first) (R .start) (R .due) h, rounds-mono (length (R .circle)) n l)
 
   -- a circle grows by the points that a step takes, at most
@@ -83,7 +83,7 @@ module _ {P : Type 0} where
   step-grows G R = omega (arith, length-tidy (apply (λ (v : P). v) (actOf G R) R), grows (actOf G R) R)
 
   -- with circles of at most n points, and `free` points left after the step
-  pub measure-falls : (G : Geo P) (n free : ℕ) (R : Ring P) → machine G .over R ≡ false → HasStart (R .due) (R .start) → OnRing (machine G .next R) → length (machine G .next R .circle) ≤ n
+  pub measure-falls : (G : Geo P) (n free : ℕ) (R : Ring P) → machine G .over R ≡ false → HasStart (R .due) (R .start) → PlacesOnRing (machine G .next R) → length (machine G .next R .circle) ≤ n
       → measure n free (machine G .next R) < measure n (free + machine G .takes R) R
   measure-falls G n free R v g h l = go (machine G .takes R) refl
     where

@@ -7,7 +7,7 @@ use native.Mathlib.Nat.{add-suc, add-zero, zero-add, suc-add, le-of-lt, not-suc-
 use native.Mathlib.Omega.{arith}
 use lib.ListN.{length, take, drop, getElem?, length-map, drop-of-length-le, List·getD-map}
 use lib.Seq.{take-all, take-suc, drop-cons, getD-take, length-take-le, ext-getD}
-use Rattle.lone.specs.Forest.{Machine, Entry, ringless, Opened, naming, enter, at, cutFrom, offcutsOf, stepsEntry}
+use Rattle.lone.specs.Forest.{Machine, Entry, ringless, Fed, naming, enter, at, cutFrom, offcutsOf, stepsEntry}
 use Rattle.lone.specs.Order.{IsOffcut, Alone}
 use Rattle.lone.specs.Table.{openedEntries, nextEntry, addOffcuts, loneTable}
 
@@ -17,16 +17,16 @@ map-take f (suc k) [] = refl
 map-take {A} {B} f (suc k) (x ∷ l) = ap (λ (r : List B). f x ∷ r) (map-take f k l)
 
 module _ {S X : Type 0} (M : Machine S) where
-  length-opened : (g : ℕ → ℕ) (k : ℕ) (os : List (Opened S X)) → length (openedEntries M g k os) ≡ length os
+  length-opened : (g : ℕ → ℕ) (k : ℕ) (os : List (Fed S X)) → length (openedEntries M g k os) ≡ length os
   length-opened g k [] = refl
   length-opened g k (o ∷ os) = ap suc (length-opened g (suc k) os)
 
-  at-opened : (g : ℕ → ℕ) (k : ℕ) (os : List (Opened S X)) (j : ℕ) → j < length os → at (openedEntries M g k os) j ≡ stepsEntry M (g (k + j)) (at (map enter os) j)
+  at-opened : (g : ℕ → ℕ) (k : ℕ) (os : List (Fed S X)) (j : ℕ) → j < length os → at (openedEntries M g k os) j ≡ stepsEntry M (g (k + j)) (at (map enter os) j)
   at-opened g k [] j h = absurd (not-suc-le-zero h)
   at-opened g k (o ∷ os) zero h = rw add-zero
   at-opened g k (o ∷ os) (suc j) h = at-opened g (suc k) os j (le-of-suc-le-suc h) ∙ ap (λ (n : ℕ). stepsEntry M (g n) (at (map enter os) j)) (suc-add k j ∙ sym (add-suc k j))
 
-  module _ (os : List (Opened S X)) (es : List (Entry S X)) (g : ℕ → ℕ) (a : Alone M os es g) where
+  module _ (os : List (Fed S X)) (es : List (Entry S X)) (g : ℕ → ℕ) (a : Alone M os es g) where
     opened-is : openedEntries M g 0 os ≡ take (length os) es
     opened-is = ext-getD ringless (openedEntries M g 0 os) (take (length os) es) (length-opened g 0 os ∙ sym (length-take-le (length os) es (a .longer)))
         (λ j h. let h′ : j < length os = rw (length-opened g 0 os) at h in at-opened g 0 os j h′ ∙ (rw zero-add (sym (a .opened j h′))) ∙ sym (getD-take (length os) es j ringless h′))

@@ -11,10 +11,10 @@ use lib.ListN.{length, getD, take, drop, getElem?, length-map, drop-of-length-le
 use lib.Seq.{take-all, take-suc, drop-cons}
 use borrow.Author.Tests.{eqb-true}
 use Rattle.rings.proofs.Counting.{sumBy-append}
-use Rattle.lone.specs.Forest.{Machine, initial, Entry, ringless, closedRing, Opened, leftRingless, leftOpen, leftClosed, isNamed, names, naming}
+use Rattle.lone.specs.Forest.{Machine, initial, Entry, ringless, closedRing, Fed, leftRingless, leftOpen, leftClosed, isNamed, names, naming}
 use Rattle.lone.specs.Forest.{enter, opening, at, cutFrom, offcutsOf, rank, stepsState, stepsEntry}
 use Rattle.lone.specs.Order.{IsOffcut, Alone, AllDone}
-use Rattle.lone.specs.Tree.{Trees, nothing, ended, Finishes, no-more, and, Holds, seeds, roots}
+use Rattle.lone.specs.Tree.{Trees, nothing, ended, EndsAs, no-more, and, HoldsTrees, seeds, roots}
 use Rattle.lone.specs.Table.{offcutsFrom}
 use Rattle.lone.proofs.Alone.{at-closed}
 
@@ -25,7 +25,7 @@ drop-here (x ∷ l) (suc r) a h = drop-here l r a h
 
 -- ---- what the table holds, once all are done
 
-module _ {S X : Type 0} (M : Machine S) (os : List (Opened S X)) (es : List (Entry S X)) (g : ℕ → ℕ) (a : Alone M os es g) (over : AllDone M es) where
+module _ {S X : Type 0} (M : Machine S) (os : List (Fed S X)) (es : List (Entry S X)) (g : ℕ → ℕ) (a : Alone M os es g) (over : AllDone M es) where
   -- record j is a lone machine from this start
   record Branch (j : ℕ) : Type 0 where
     seed : S
@@ -35,17 +35,17 @@ module _ {S X : Type 0} (M : Machine S) (os : List (Opened S X)) (es : List (Ent
 
   -- what its offcuts end in is what the records that name it hold
   Below : (j : ℕ) → Branch j → Type 0
-  Below j b = (ts : Trees S) × Finishes M (stepsState M (g j) (initial (b .seed)) .offcuts) ts × Holds es (offcutsFrom j 0 (map cutFrom es)) ts
+  Below j b = (ts : Trees S) × EndsAs M (stepsState M (g j) (initial (b .seed)) .offcuts) ts × HoldsTrees es (offcutsFrom j 0 (map cutFrom es)) ts
 
   -- the same of the offcuts from record k on
   From : ℕ → ℕ → Type 0
-  From j k = (ts : Trees S) × Finishes M (drop (rank es j k) (offcutsOf (at es j))) ts × Holds es (offcutsFrom j k (drop k (map cutFrom es))) ts
+  From j k = (ts : Trees S) × EndsAs M (drop (rank es j k) (offcutsOf (at es j))) ts × HoldsTrees es (offcutsFrom j k (drop k (map cutFrom es))) ts
 
   rank-suc : (p k : ℕ) → k < length es → rank es p (suc k) ≡ rank es p k + names p (cutFrom (at es k))
   rank-suc p k h = ap (naming p) (take-suc (map cutFrom es) k none (rw (length-map es cutFrom) h)) ∙ sumBy-append (names p) (take k (map cutFrom es)) (getD (map cutFrom es) k none ∷ [])
       ∙ ap (λ (n : ℕ). rank es p k + n) (add-zero (names p (getD (map cutFrom es) k none)) ∙ ap (names p) (List·getD-map cutFrom es k ringless))
 
-  opened-none : (rs : List (Opened S X)) (n k : ℕ) → cutFrom (stepsEntry M n (at (map enter rs) k)) ≡ none
+  opened-none : (rs : List (Fed S X)) (n k : ℕ) → cutFrom (stepsEntry M n (at (map enter rs) k)) ≡ none
   opened-none [] n k = refl
   opened-none (leftRingless ∷ rs) n zero = refl
   opened-none (leftOpen x ∷ rs) n zero = refl
@@ -82,14 +82,14 @@ module _ {S X : Type 0} (M : Machine S) (os : List (Opened S X)) (es : List (Ent
       d = drop-cons (map cutFrom es) k none (rw (length-map es cutFrom) h) ∙ ap (λ (q : Option ℕ). q ∷ drop (suc k) (map cutFrom es)) (List·getD-map cutFrom es k ringless)
 
       named : isNamed j (cutFrom (at es k)) ≡ true → (c : IsOffcut M es g k) → c .from ≡ j
-          → (us : Trees S) × Finishes M (stepsState M (g k) (initial (c .seed)) .offcuts) us × Holds es (offcutsFrom k 0 (map cutFrom es)) us
-          → (ts : Trees S) × Finishes M (drop (rank es j k) (offcutsOf (at es j))) ts × Holds es (offcutsFrom j k (drop k (map cutFrom es))) ts
+          → (us : Trees S) × EndsAs M (stepsState M (g k) (initial (c .seed)) .offcuts) us × HoldsTrees es (offcutsFrom k 0 (map cutFrom es)) us
+          → (ts : Trees S) × EndsAs M (drop (rank es j k) (offcutsOf (at es j))) ts × HoldsTrees es (offcutsFrom j k (drop k (map cutFrom es))) ts
       named e c j-is u =
           let n : rank es j (suc k) ≡ suc (rank es j k) = rank-suc j k h ∙ (rw e (omega arith)) in
           let w : drop (rank es j k) (offcutsOf (at es j)) ≡ c .seed ∷ drop (suc (rank es j k)) (offcutsOf (at es j)) = drop-here (offcutsOf (at es j)) (rank es j k) (c .seed) (subst (λ (p : ℕ). getElem? (offcutsOf (at es p)) (rank es p k) ≡ some (c .seed)) j-is (c .cut-as)) in
           (ended (stepsState M (g k) (initial (c .seed)) .now) (u .0) (r .0), rw w (and (g k) (c .unfinished) (ends k (branch-of c)) (u .1) (rw n at (r .1))), rw d (rw e (and (c .is) (u .2) (r .2))))
 
-      go : (b : Bool) → isNamed j (cutFrom (at es k)) ≡ b → (ts : Trees S) × Finishes M (drop (rank es j k) (offcutsOf (at es j))) ts × Holds es (offcutsFrom j k (drop k (map cutFrom es))) ts
+      go : (b : Bool) → isNamed j (cutFrom (at es k)) ≡ b → (ts : Trees S) × EndsAs M (drop (rank es j k) (offcutsOf (at es j))) ts × HoldsTrees es (offcutsFrom j k (drop k (map cutFrom es))) ts
       go false e =
           let n : rank es j k ≡ rank es j (suc k) = sym (rank-suc j k h ∙ (rw e (add-zero (rank es j k)))) in
           (r .0, rw n (r .1), rw d (rw e (r .2)))
@@ -108,7 +108,7 @@ module _ {S X : Type 0} (M : Machine S) (os : List (Opened S X)) (es : List (Ent
   below (suc m) j h b = let r = walk j (λ k l c. below m k (omega arith) c) (length es) 0 (omega arith) in (r .0, rw (ap offcutsOf (b .is)) at (r .1), r .2)
 
   -- the rings from record k on that opening left closed
-  from-roots : (rs : List (Opened S X)) (k : ℕ) → k + length rs ≡ length os → ((i : ℕ) → at (map enter os) (k + i) ≡ at (map enter rs) i) → (ts : Trees S) × Finishes M (seeds rs) ts × Holds es (roots k rs) ts
+  from-roots : (rs : List (Fed S X)) (k : ℕ) → k + length rs ≡ length os → ((i : ℕ) → at (map enter os) (k + i) ≡ at (map enter rs) i) → (ts : Trees S) × EndsAs M (seeds rs) ts × HoldsTrees es (roots k rs) ts
   unfolding Below
   from-roots [] k e h = (nothing, no-more, no-more)
   from-roots (leftRingless ∷ rs) k e h = from-roots rs (suc k) (omega arith) (λ i. ap (at (map enter os)) (suc-add k i ∙ sym (add-suc k i)) ∙ h (suc i))
@@ -121,9 +121,9 @@ module _ {S X : Type 0} (M : Machine S) (os : List (Opened S X)) (es : List (Ent
       b : Branch k
       b = record { seed = s; from = none; is = a .opened k (omega arith) ∙ ap (stepsEntry M (g k)) here; unfinished = λ m l. (rw here at (a .unfinished k m (omega arith) l)) }
 
-      one : (ts : Trees S) × Finishes M (seeds rs) ts × Holds es (roots (suc k) rs) ts → (ts : Trees S) × Finishes M (s ∷ seeds rs) ts × Holds es (k ∷ roots (suc k) rs) ts
+      one : (ts : Trees S) × EndsAs M (seeds rs) ts × HoldsTrees es (roots (suc k) rs) ts → (ts : Trees S) × EndsAs M (s ∷ seeds rs) ts × HoldsTrees es (k ∷ roots (suc k) rs) ts
       one r = let u = below (length es) k (omega arith) b in (ended (stepsState M (g k) (initial s) .now) (u .0) (r .0), and (g k) (b .unfinished) (ends k b) (u .1) (r .1), and (b .is) (u .2) (r .2))
 
   -- the table holds what the lone machines end in
-  pub holds-end : (ts : Trees S) × Finishes M (seeds os) ts × Holds es (roots 0 os) ts
+  pub holds-end : (ts : Trees S) × EndsAs M (seeds os) ts × HoldsTrees es (roots 0 os) ts
   holds-end = from-roots os 0 (omega arith) (λ i. ap (at (map enter os)) (zero-add i))

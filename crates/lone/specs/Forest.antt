@@ -35,10 +35,10 @@ pub data Entry (S X : Type 0) : Type 0 where
   closedRing : Option ℕ → State S → Entry S X
 
 -- a record as opening leaves it
-pub data Opened (S X : Type 0) : Type 0 where
-  leftRingless : Opened S X
-  leftOpen : X → Opened S X
-  leftClosed : S → Opened S X
+pub data Fed (S X : Type 0) : Type 0 where
+  leftRingless : Fed S X
+  leftOpen : X → Fed S X
+  leftClosed : S → Fed S X
 
 -- what a step on a record answers: done, refused with 10, refused with 12
 pub data Answer : Type 0 where
@@ -66,13 +66,13 @@ isOk full = false
 isOk outOfTurn = false
 
 module _ {S X : Type 0} where
-  abbrev pub enter : Opened S X → Entry S X
+  abbrev pub enter : Fed S X → Entry S X
   enter leftRingless = ringless
   enter (leftOpen x) = openRing x
   enter (leftClosed s) = closedRing none (initial s)
 
   -- the forest as opening left it, with the number of points used
-  abbrev pub opening : List (Opened S X) → ℕ → Forest S X
+  abbrev pub opening : List (Fed S X) → ℕ → Forest S X
   opening os p = record { entries = map enter os; points = p }
 
   -- the record of what was cut off record i
@@ -154,16 +154,16 @@ module _ {S X : Type 0} (M : Machine S) where
     unfoldable pub answer : Forest S X → ℕ → Answer
     answer F i = answerTo (at (F .entries) i) (F .points) (length (F .entries))
 
-    abbrev pub stepBy : Forest S X → ℕ → Entry S X → Answer → Forest S X
-    stepBy F i ringless a = F
-    stepBy F i (openRing x) a = F
-    stepBy F i (closedRing q L) ok = carryOut F i q L
-    stepBy F i (closedRing q L) full = F
-    stepBy F i (closedRing q L) outOfTurn = F
+    abbrev pub stepAnswered : Forest S X → ℕ → Entry S X → Answer → Forest S X
+    stepAnswered F i ringless a = F
+    stepAnswered F i (openRing x) a = F
+    stepAnswered F i (closedRing q L) ok = carryOut F i q L
+    stepAnswered F i (closedRing q L) full = F
+    stepAnswered F i (closedRing q L) outOfTurn = F
 
     -- a step on any record number: a refused one changes nothing
     unfoldable pub stepForest : Forest S X → ℕ → Forest S X
-    stepForest F i = stepBy F i (at (F .entries) i) (answer F i)
+    stepForest F i = stepAnswered F i (at (F .entries) i) (answer F i)
 
     -- a list of steps, each on any record number, refused ones included
     abbrev pub runForest : Forest S X → List ℕ → Forest S X

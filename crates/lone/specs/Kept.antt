@@ -19,8 +19,8 @@ abbrev pub OnCircle : ℕ → ℕ → Option ℕ → Type 0
 OnCircle zero f s = (f ≤ 0) × AtMost 0 s
 OnCircle (suc m) f s = (f ≤ m) × AtMost m s
 
-abbrev pub OnRing : {A : Type 0} → Ring A → Type 0
-OnRing R = OnCircle (length (R .circle)) (R .first) (R .start)
+abbrev pub PlacesOnRing : {A : Type 0} → Ring A → Type 0
+PlacesOnRing R = OnCircle (length (R .circle)) (R .first) (R .start)
 
 -- a removal turn has its start on the circle
 abbrev pub HasStart : Due → Option ℕ → Type 0
@@ -33,7 +33,7 @@ HasStart done s = Unit {0}
 
 -- what steps keep of a ring among n points
 pub record Held {A : Type 0} (n : ℕ) (R : Ring A) : Type 0 where
-  pub on-ring : OnRing R
+  pub on-ring : PlacesOnRing R
   pub has-start : HasStart (R .due) (R .start)
   pub short : length (R .circle) ≤ n
 

@@ -8,7 +8,7 @@ use Prim.Native.Nat.{ℕ, _+_, _≤_, _<_}
 use lib.ListN.{length, getElem?}
 use Rattle.rings.specs.Progress.{Ring}
 use Rattle.lone.specs.Lone.{Geo, isDone, stepRing, offcutRing, takesRing}
-use Rattle.lone.specs.Forest.{Machine, initial, toList, Entry, ringless, openRing, closedRing, Opened, ok, full, outOfTurn, Forest, naming}
+use Rattle.lone.specs.Forest.{Machine, initial, toList, Entry, ringless, openRing, closedRing, Fed, ok, full, outOfTurn, Forest, naming}
 use Rattle.lone.specs.Forest.{enter, at, OfClosed, cutFrom, offcutsOf, rank, allTaken, allCut, stepsState, stepsEntry, answer, answerTo, runForest}
 
 -- the lone ring as a machine of the forest
@@ -38,7 +38,7 @@ module _ {S X : Type 0} (M : Machine S) where
     pub unfinished : (k : ℕ) → k < g j → M .over (stepsState M k (initial seed) .now) ≡ false
 
   -- os: what opening left; es: the records now; g: how many steps on each record were not refused
-  pub record Alone (os : List (Opened S X)) (es : List (Entry S X)) (g : ℕ → ℕ) : Type 0 where
+  pub record Alone (os : List (Fed S X)) (es : List (Entry S X)) (g : ℕ → ℕ) : Type 0 where
     -- no record goes away; a number that is no record's had no step
     pub longer : length os ≤ length es
     pub idle : (j : ℕ) → length es ≤ j → g j ≡ 0
@@ -77,7 +77,7 @@ module _ {S X : Type 0} (M : Machine S) where
     -- document 01's bullets of a forest F, from what opening left and p₀ points, with g steps not refused on each record: "Each closed ring has its
     -- lone ring's .. step due or done, and as many offcuts; open rings are as opening left them" (alone, where a closed record holds its lone
     -- ring); "Counts of points and records are those at opening plus all that the lone rings took"
-    pub record Independent (os : List (Opened S X)) (p₀ : ℕ) (F : Forest S X) (g : ℕ → ℕ) : Type 0 where
+    pub record Independent (os : List (Fed S X)) (p₀ : ℕ) (F : Forest S X) (g : ℕ → ℕ) : Type 0 where
       pub alone : Alone os (F .entries) g
       pub points-used : F .points ≡ p₀ + allTaken (F .entries)
       pub records-used : length (F .entries) ≡ length os + allCut (F .entries)

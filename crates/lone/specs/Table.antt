@@ -4,7 +4,7 @@ use mathlib.Core.List.{List, [], _∷_, _++_, map}
 use mathlib.Core.Option.{Option, none, some}
 use Prim.Native.Nat.{ℕ, suc}
 use lib.ListN.{length, getElem?}
-use Rattle.lone.specs.Forest.{Machine, initial, Entry, ringless, closedRing, Opened, naming, enter, at, cutFrom, offcutsOf, stepsState, stepsEntry}
+use Rattle.lone.specs.Forest.{Machine, initial, Entry, ringless, closedRing, Fed, naming, enter, at, cutFrom, offcutsOf, stepsState, stepsEntry}
 use mathlib.Core.List.{List, [], _∷_}
 use mathlib.Core.Option.{Option}
 use mathlib.Core.Bool.{cond}
@@ -12,7 +12,7 @@ use Rattle.lone.specs.Forest.{isNamed}
 
 module _ {S X : Type 0} (M : Machine S) where
   -- the records that opening left, from number k on, each stepped g of its number times
-  abbrev pub openedEntries : (ℕ → ℕ) → ℕ → List (Opened S X) → List (Entry S X)
+  abbrev pub openedEntries : (ℕ → ℕ) → ℕ → List (Fed S X) → List (Entry S X)
   openedEntries g k [] = []
   openedEntries g k (o ∷ os) = stepsEntry M (g k) (enter o) ∷ openedEntries g (suc k) os
 
@@ -31,7 +31,7 @@ module _ {S X : Type 0} (M : Machine S) where
   addOffcuts g es (q ∷ qs) = addOffcuts g (es ++ (nextEntry g es q ∷ [])) qs
 
   -- os: what opening left; g: steps not refused on each record; qs: the record that each later one was cut from
-  unfoldable pub loneTable : List (Opened S X) → (ℕ → ℕ) → List (Option ℕ) → List (Entry S X)
+  unfoldable pub loneTable : List (Fed S X) → (ℕ → ℕ) → List (Option ℕ) → List (Entry S X)
   loneTable os g qs = addOffcuts g (openedEntries g 0 os) qs
 
 -- the numbers, from k on, of the records that name p: its offcuts, by rising record number

@@ -34,7 +34,7 @@ use Rattle.joins.specs.Join.{processHorzJoins}
 use Rattle.joins.specs.Needs.{Joins}
 use Rattle.joins.specs.Resolved.{Resolved, Ready}
 use Rattle.joins.proofs.Homes.{on-ring}
-use Rattle.joins.proofs.Joining.{Shut, Opened}
+use Rattle.joins.proofs.Joining.{Shut, OpenKept}
 use Rattle.joins.proofs.Open.{opened-on, joins-open}
 use Rattle.joins.proofs.Turns.{words}
 use Rattle.opening.specs.declared.open.Opened.the-variants.{Accepted, Refused}
@@ -58,7 +58,7 @@ started w r =
           b .presents i (omega (arith, recs-same (view w) (view (startRings w)) b)) ∙ sym (first-same (view w) (view (startRings w)) b i);
     }
 
-given-started : (s t u : Store) → Opened s t → Begun t u (recs t) → OpenAsGiven s u
+given-started : (s t u : Store) → OpenKept s t → Begun t u (recs t) → OpenAsGiven s u
 given-started s t u o b =
     record {
       records = omega (arith, o .records, recs-same t u b);
@@ -94,11 +94,11 @@ record Both (v y : List ℕ) : Type 0 where
   given : OpenAsGiven (view v) (view y)
 
 module _ (y : List ℕ) where
-  by-joins : (v : List ℕ) (k : ℕ) (js w : List ℕ) → Joins w k js → Opened (view v) (view w) → ((i : ℕ) → i < 2 * k → Shut (view w) (getD js i 0)) → (T : join.End) → processHorzJoins k js w ≡ T → afterJoins T ≡ end Accepted y → Both v y
+  by-joins : (v : List ℕ) (k : ℕ) (js w : List ℕ) → Joins w k js → OpenKept (view v) (view w) → ((i : ℕ) → i < 2 * k → Shut (view w) (getD js i 0)) → (T : join.JoinEnd) → processHorzJoins k js w ≡ T → afterJoins T ≡ end Accepted y → Both v y
   by-joins v k js w g o s (join.end joined.Done x) e f =
       let a : startRings x ≡ y = cc in
       let r = made-ready k js w x joined.Done g (sym e) in
-      let p = opened-on (view v) (view w) (view x) o (subst (λ (z : join.End). Opened (view w) (view (words z))) e (joins-open k js w g s)) in
+      let p = opened-on (view v) (view w) (view x) o (subst (λ (z : join.JoinEnd). OpenKept (view w) (view (words z))) e (joins-open k js w g s)) in
       subst (Both v) a (record { opened = started x r; given = given-started (view v) (view x) (view (startRings x)) p (begun-all x r) })
   by-joins v k js w g o s (join.end joined.Knot x) e f = absurd (let z : _≡_ {A = ℕ} 0 1 = cc in omega arith)
   by-joins v k js w g o s (join.end joined.Full x) e f = absurd (let z : _≡_ {A = ℕ} 0 1 = cc in omega arith)
@@ -131,7 +131,7 @@ module _ (y : List ℕ) where
       by false e d = (omega (arith, ltb-false n LENGTH e, length-replicate {A = ℕ} n 0), by-stages n (afterRows (acceptOf bytes (replicate n 0) (replicate limit.SEGMENTS 0) (replicate JOIN-POINTS 0))) d)
 
   module _ (bytes : List ℕ) (n : ℕ) (f : openOf bytes n ≡ end Accepted y) where
-    by-read : (T : fill.End) → acceptOf bytes (replicate n 0) (replicate limit.SEGMENTS 0) (replicate JOIN-POINTS 0) ≡ T → afterRows T ≡ end Accepted y → AfterOpening y
+    by-read : (T : fill.ReadEnd) → acceptOf bytes (replicate n 0) (replicate limit.SEGMENTS 0) (replicate JOIN-POINTS 0) ≡ T → afterRows T ≡ end Accepted y → AfterOpening y
     by-read (fill.end (outcome.State j) v ts ks) e d = by-rows bytes (replicate n 0) (accepts bytes n f .0) j v ts ks e d .opened
     by-read (fill.end (outcome.Refused x) v ts ks) e d = absurd (let z : _≡_ {A = ℕ} 0 1 = cc in omega arith)
 

@@ -36,7 +36,7 @@ use Rattle.opening.specs.Open.{JOIN-POINTS}
 
 -- the two lists are as long as they were
 module _ (bytes w ss js v ts ks : List ℕ) (j : Job) where
-  by-fill : (T : fill.End) → fillOf bytes w ss js ≡ T → judged (withCounts T) ≡ fill.end (outcome.State j) v ts ks → (length ts ≡ length ss) × (length ks ≡ length js)
+  by-fill : (T : fill.ReadEnd) → fillOf bytes w ss js ≡ T → judged (withCounts T) ≡ fill.end (outcome.State j) v ts ks → (length ts ≡ length ss) × (length ks ≡ length js)
   by-fill (fill.end (outcome.State i) u us ls) e f =
       let c : us ≡ ts = cc in
       let d : ls ≡ ks = cc in
@@ -78,7 +78,7 @@ may-join w ss m js n c k x ks g e f =
     subst (JoinsOf w ss m js n g) (let z : convertHorzSegsToJoins w m ss js n ≡ made (converted.Joins k) x ks = cc in z) (convert-joins w ss m js n g)
 
 pub made-ready : (k : ℕ) (js w x : List ℕ) (t : Joined) → Joins w k js → join.end t x ≡ processHorzJoins k js w → Ready x
-made-ready k js w x t g e = subst (λ (z : join.End). Still w (words z)) (sym e) (joins-kept k js w g) .ready
+made-ready k js w x t g e = subst (λ (z : join.JoinEnd). Still w (words z)) (sym e) (joins-kept k js w g) .ready
 
 -- the needs of `start_rings`
 pub made-long : (k : ℕ) (js w x : List ℕ) (t : Joined) → Joins w k js → join.end t x ≡ processHorzJoins k js w → LENGTH ≤ length x

@@ -32,7 +32,7 @@ orStart w none = end Accepted (startRings w)
 orStart w (some r) = end (Refused r) w
 
 -- process_horz_joins has ended
-abbrev pub afterJoins : join.End → End
+abbrev pub afterJoins : join.JoinEnd → End
 afterJoins (join.end t w) = orStart w (join.refusalOf t)
 
 -- the row that the segments' answer is; or how many joins there are now
@@ -50,7 +50,7 @@ abbrev pub afterSegments : Made → End
 afterSegments (made c w js) = orJoins w js (convertedIs c)
 
 -- rows 1 to 8; then "`convert_horz_segs_to_joins` over the job's segments, its joins after the job's own"
-abbrev pub afterRows : fill.End → End
+abbrev pub afterRows : fill.ReadEnd → End
 afterRows (fill.end (outcome.State j) w ss js) = afterSegments (convertHorzSegsToJoins w (j .segments) ss js (j .joins))
 afterRows (fill.end (outcome.Refused r) w ss js) = end (Refused r) w
 

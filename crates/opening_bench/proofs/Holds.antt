@@ -17,14 +17,14 @@ use Rattle.segments.specs.Pair.{oneOf, twoOf}
 use Rattle.segments.specs.Update.{walledEnds, freeEnds, endsOf, headed, segmentThrough, claimOf, updateFrom, segmentsOf}
 use Rattle.converting.specs.Make.{makeJoin, apartOf, joinPair, firstOne, secondOne, movedPair, pairOf, innerFrom, outerFrom, sortedSegments, pairsOf, convertHorzSegsToJoins}
 use Rattle.joins.specs.Resolve.{realOf, getRealOutrec, homeOf}
-use Rattle.joins.specs.Join.{relinkOf, newOutRec, nameAll, fixOutrecPts, settleOf, splitRing, splitOf, mergeOf, byRecords, joinOf, joinsFrom}
+use Rattle.joins.specs.Join.{relinkOf, newOutRec, nameAll, fixOutrecPts, moveFirst, splitRing, splitOf, mergeOf, byRecords, joinOf, joinsFrom}
 use Rattle.opening.specs.Start.{startRing, startTo, startRings}
 use Rattle.opening.specs.Open.{stagesOf, openOf}
-use Rattle.opening_bench.specs.Bench.{result, Holds, bench, knotted, itself, overlapping, sameWay, levelFree, levelWalled, equalLeft, oneRing, nested, otherHeights, threeInLine, bothEnds, uprightSpike, openRing, ownJoinFirst}
+use Rattle.opening_bench.specs.Bench.{result, RowsHold, bench, knotted, itself, overlapping, sameWay, levelFree, levelWalled, equalLeft, oneRing, nested, otherHeights, threeInLine, bothEnds, uprightSpike, openRing, ownJoinFirst}
 
 -- the definitions that a row computes with: `unfolding computing` opens them all
 unfoldable computing : Unit {0}
-unfolding result openOf stagesOf acceptOf readOf fillOf run turnOf fieldOf bodyOf rowsOf endsIn findIn anyIn walk.run anyBelow cell put duplicateOp alongOf until atWall atStop atLimit wallRun stopRun limitRun sorted oneOf twoOf walledEnds freeEnds endsOf headed segmentThrough claimOf updateFrom segmentsOf makeJoin apartOf joinPair firstOne secondOne movedPair pairOf innerFrom outerFrom sortedSegments pairsOf convertHorzSegsToJoins realOf getRealOutrec homeOf relinkOf newOutRec nameAll fixOutrecPts settleOf splitRing splitOf mergeOf byRecords joinOf joinsFrom startRing startTo startRings
+unfolding result openOf stagesOf acceptOf readOf fillOf run turnOf fieldOf bodyOf rowsOf endsIn findIn anyIn walk.run anyBelow cell put duplicateOp alongOf until atWall atStop atLimit wallRun stopRun limitRun sorted oneOf twoOf walledEnds freeEnds endsOf headed segmentThrough claimOf updateFrom segmentsOf makeJoin apartOf joinPair firstOne secondOne movedPair pairOf innerFrom outerFrom sortedSegments pairsOf convertHorzSegsToJoins realOf getRealOutrec homeOf relinkOf newOutRec nameAll fixOutrecPts moveFirst splitRing splitOf mergeOf byRecords joinOf joinsFrom startRing startTo startRings
 computing = tt
 
 knotted-holds : result knotted ≡ knotted .answer
@@ -88,5 +88,5 @@ unfolding computing ownJoinFirst
 ownJoinFirst-holds = refl
 
 -- every row
-pub bench-holds : Holds bench
+pub bench-holds : RowsHold bench
 bench-holds = (knotted-holds, (itself-holds, (overlapping-holds, (sameWay-holds, (levelFree-holds, (levelWalled-holds, (equalLeft-holds, (oneRing-holds, (nested-holds, (otherHeights-holds, (threeInLine-holds, (bothEnds-holds, (uprightSpike-holds, (openRing-holds, (ownJoinFirst-holds, tt)))))))))))))))

@@ -24,14 +24,14 @@ pub record Loop : Type 0 where
   pub owner : ℕ
   pub points : List (List ℕ)
 
-pub record Pair : Type 0 where
+pub record JoinOf : Type 0 where
   pub one : ℕ
   pub two : ℕ
 
 abbrev pub loop : ℕ → ℕ → List (List ℕ) → Loop
 loop f o ps = record { flags = f; owner = o; points = ps }
 
-abbrev pub pair : ℕ → ℕ → Pair
+abbrev pub pair : ℕ → ℕ → JoinOf
 pair a b = record { one = a; two = b }
 
 -- numbers of two bytes, low byte first; a coordinate below 256 has three zeros after it
@@ -59,12 +59,12 @@ abbrev pub segmentFields : List ℕ → List ℕ
 segmentFields [] = []
 segmentFields (p ∷ ps) = 4 ∷ 2 ∷ 0 ∷ two p ++ segmentFields ps
 
-abbrev pub joinFields : List Pair → List ℕ
+abbrev pub joinFields : List JoinOf → List ℕ
 joinFields [] = []
 joinFields (j ∷ js) = 5 ∷ 4 ∷ 0 ∷ two (j .one) ++ two (j .two) ++ joinFields js
 
 -- settings 0
-abbrev pub jobOf : List Loop → List ℕ → List Pair → List ℕ
+abbrev pub jobOf : List Loop → List ℕ → List JoinOf → List ℕ
 jobOf ls ss js = 1 ∷ 1 ∷ 0 ∷ 0 ∷ ringFields 0 0 ls ++ recordFields 0 ls ++ segmentFields ss ++ joinFields js
 
 -- ---- an answer
@@ -104,7 +104,7 @@ pub record Row : Type 0 where
   pub job : List ℕ
   pub answer : Answer
 
-abbrev pub row : List Loop → List ℕ → List Pair → Answer → Row
+abbrev pub row : List Loop → List ℕ → List JoinOf → Answer → Row
 row ls ss js a = record { job = jobOf ls ss js; answer = a }
 
 -- a work space of the fixed length
@@ -202,9 +202,9 @@ ownJoinFirst =
     (opened 10 (left 0 NONE (on 0 0 10 ∷ on 8 0 10 ∷ on 9 5 10 ∷ on 5 5 10 ∷ on 3 0 20 ∷ []) ∷ left 0 0 [] ∷ left 0 0 (on 1 10 10 ∷ on 2 10 20 ∷ on 6 5 0 ∷ on 7 15 0 ∷ on 4 15 10 ∷ []) ∷ []))
 
 -- a row holds
-abbrev pub Holds : List Row → Type 0
-Holds [] = Unit {0}
-Holds (r ∷ rs) = (result r ≡ r .answer) × Holds rs
+abbrev pub RowsHold : List Row → Type 0
+RowsHold [] = Unit {0}
+RowsHold (r ∷ rs) = (result r ≡ r .answer) × RowsHold rs
 
 abbrev pub bench : List Row
 bench = knotted ∷ itself ∷ overlapping ∷ sameWay ∷ levelFree ∷ levelWalled ∷ equalLeft ∷ oneRing ∷ nested ∷ otherHeights ∷ threeInLine ∷ bothEnds ∷ uprightSpike ∷ openRing ∷ ownJoinFirst ∷ []

@@ -28,7 +28,7 @@ use Rattle.store.specs.Sound.{pts, ringAt}
 use Rattle.store.specs.Good.{PointIn}
 use Rattle.store.specs.Value.{preserveCollinear}
 use Rattle.paths.specs.Path.{pointAt, pointsAt, pathBy, sizeOf}
-use Rattle.paths.specs.Walking.{startFrom, roundFrom, Readable, Round, Known, Three, Sized, pathRound}
+use Rattle.paths.specs.Walking.{startFrom, roundFrom, Readable, Round, Known, ThreeOrMore, Sized, pathRound}
 use Rattle.paths.proofs.Walks.{othersOf, walk-is, round-here}
 use Rattle.paths.proofs.Directions.{Ringed, ringed, path-of}
 
@@ -105,7 +105,7 @@ module _ (w : List ℕ) (a : ℕ) (r : Round w false a) where
       let i : PointIn (view w) p = rw e (r .points-in (view w (pt PREV) a) (prev-on (view w (pt NEXT)) (view w (pt PREV)) (pts (view w)) (roundFrom (view w) false a) (r .whole) a (rw (walk-is (view w (pt NEXT)) a) (omega (arith, one-here a))))) in
       record { long = r .long; low = omega (arith, i .below, r .few); here = i }
 
-module _ (w : List ℕ) (a : ℕ) (r : Three w a) where
+module _ (w : List ℕ) (a : ℕ) (r : ThreeOrMore w a) where
   small-is : cond (eqb (view w (pt NEXT) (view w (pt NEXT) a)) (view w (pt PREV) a)) (isVerySmallTriangle (pointAt (view w) (view w (pt PREV) a)) (pointAt (view w) a) (pointAt (view w) (view w (pt NEXT) a))) false
       ≡ isSmallRing (plane (preserveCollinear (view w))) (map (pointAt (view w)) (roundFrom (view w) false a))
   small-is =
@@ -123,7 +123,7 @@ module _ (w : List ℕ) (a : ℕ) (r : Three w a) where
       → t ≡ isSmallRing (plane (preserveCollinear (view w))) (map (pointAt (view w)) (roundFrom (view w) false a))
   small-yes n p m x y z t e f g d a b c h = h ∙ rw (a, b, c) (rw (← e, ← f, ← g, eq-eqb m p d) at small-is)
 
-pub three-of : (w : List ℕ) (a n : ℕ) → Sized w a n → n ≡ 3 → Three w a
+pub three-of : (w : List ℕ) (a n : ℕ) → Sized w a n → n ≡ 3 → ThreeOrMore w a
 three-of w a n r e = record { round = r .round; three = omega (arith, r .fits) }
 
 -- the small test, in the code's order

@@ -76,7 +76,7 @@ pub record Going (w : List ℕ) (rev : Bool) (stop q : ℕ) (Q : List ℕ → Ty
   pub says : Q todo
 
 -- a ring of three or more points, from a
-pub record Three (w : List ℕ) (a : ℕ) : Type 0 where
+pub record ThreeOrMore (w : List ℕ) (a : ℕ) : Type 0 where
   pub round : Round w false a
   pub three : 2 < length (roundFrom (view w) false a)
 

@@ -28,7 +28,7 @@ ghost use Rattle.paths.specs.Tray.{pathBytes, tagOf, fieldsOf, padded, o
 ghost use Rattle.paths.specs.Tray as trays;
 ghost use Rattle.paths.specs.Filling.{pathPoints, fieldAt, fieldsBelow, layOver, PointsFit, FieldFits, FieldsFit, AllFit};
 ghost use Rattle.paths.specs.Wrote.{wrote, buildPaths64};
-ghost use Rattle.paths.specs.Walking.{startFrom, roundFrom, Ready, Known, Directed, Asked, Three, Sized, Round, laid};
+ghost use Rattle.paths.specs.Walking.{startFrom, roundFrom, Ready, Known, Directed, Asked, ThreeOrMore, Sized, Round, laid};
 
 // A tray of so many bytes is never too small.
 pub const TRAY: usize = 3 * Job::RECORDS + 8 * Job::POINTS;
@@ -64,7 +64,7 @@ fn too_short(w: &[u32], opened: bool, f: usize) -> bool
 
 // Whether the ring from a has three points of which two are really close.
 fn is_small_ring(w: &[u32], a: usize) -> bool
-    requires { ⌜ Three (now w) a ⌝ }
+    requires { ⌜ ThreeOrMore (now w) a ⌝ }
     ensures { λ r. ⌜ r ≡ isSmallRing (plane (preserveCollinear (view (now (w .entry))))) (map (pointAt (view (now (w .entry)))) (roundFrom (view (now (w .entry))) false a)) ⌝ }
 {
     let n = store::get(w, Col::Next, a);

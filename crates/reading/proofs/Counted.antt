@@ -21,13 +21,13 @@ use Rattle.store.specs.Words.{write}
 use Rattle.store.proofs.Storing.{length-writes, view-writes}
 use Rattle.reading.specs.declared.fill.Outcome.{Outcome}
 use Rattle.reading.specs.declared.fill.Outcome.the-variants.{State, Refused}
-use Rattle.reading.specs.Fill.{End, end, placed, taken, turnOf, follow, run, fillOf}
+use Rattle.reading.specs.Fill.{ReadEnd, end, placed, taken, turnOf, follow, run, fillOf}
 use Rattle.reading.specs.Read.{counted, readOf}
 use Rattle.reading.specs.Alike.{Counts}
 use Rattle.reading.proofs.Going.{After, moves}
 
 -- no list changes its length
-abbrev pub Kept : List ℕ → List ℕ → List ℕ → End → Type 0
+abbrev pub Kept : List ℕ → List ℕ → List ℕ → ReadEnd → Type 0
 Kept w ss js (end o w′ ss′ js′) = (length w′ ≡ length w) × (length ss′ ≡ length ss) × (length js′ ≡ length js)
 
 module _ (j : Job) (w ss js : List ℕ) where
@@ -71,13 +71,13 @@ module _ (bytes : List ℕ) (n : Job) (v ts ks : List ℕ) where
       by (ltb (j .at) (length bytes)) (turnOf bytes j w ss js) (moves bytes j w ss js) (turn-kept j w ss js bytes) e
       (λ m u us ls q. run-ended k m u us ls q)
     where
-      on : (T : End) → After j T → Kept w ss js T → follow (run k bytes) T ≡ end (State n) v ts ks → ((m : Job) (u us ls : List ℕ) → Within m → run k bytes m u us ls ≡ end (State n) v ts ks → Ended u us ls n v ts ks) → Ended w ss js n v ts ks
+      on : (T : ReadEnd) → After j T → Kept w ss js T → follow (run k bytes) T ≡ end (State n) v ts ks → ((m : Job) (u us ls : List ℕ) → Within m → run k bytes m u us ls ≡ end (State n) v ts ks → Ended u us ls n v ts ks) → Ended w ss js n v ts ks
       on (end (State m) u us ls) a b d f =
           let r = f m u us ls (a .within i) d in
           record { within = r .within; words = r .words ∙ b .0; segments = r .segments ∙ b .1; joins = r .joins ∙ b .2 }
       on (end (Refused x) u us ls) a b d f = absurd (let z : _≡_ {A = ℕ} 0 1 = cc in omega arith)
 
-      by : (t : Bool) (T : End) → After j T → Kept w ss js T → cond t (follow (run k bytes) T) (end (State j) w ss js) ≡ end (State n) v ts ks → ((m : Job) (u us ls : List ℕ) → Within m → run k bytes m u us ls ≡ end (State n) v ts ks → Ended u us ls n v ts ks) → Ended w ss js n v ts ks
+      by : (t : Bool) (T : ReadEnd) → After j T → Kept w ss js T → cond t (follow (run k bytes) T) (end (State j) w ss js) ≡ end (State n) v ts ks → ((m : Job) (u us ls : List ℕ) → Within m → run k bytes m u us ls ≡ end (State n) v ts ks → Ended u us ls n v ts ks) → Ended w ss js n v ts ks
       by true T a b d f = on T a b d f
       by false T a b d f = stays w ss js j i d
 

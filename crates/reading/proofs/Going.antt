@@ -17,14 +17,14 @@ use Rattle.job.specs.declared.field.Reading.{Reading}
 use Rattle.job.specs.declared.field.Reading.the-variants as reading
 use Rattle.reading.specs.declared.fill.Outcome.{Outcome}
 use Rattle.reading.specs.declared.fill.Outcome.the-variants.{State, Refused}
-use Rattle.reading.specs.Fill.{End, end, placed, taken, turnOf, follow, run, fillOf}
+use Rattle.reading.specs.Fill.{ReadEnd, end, placed, taken, turnOf, follow, run, fillOf}
 
 -- what a turn leaves, if it is no refusal: it is further on, and the counts keep within the limits
 pub record Forward (j n : Job) : Type 0 where
   pub at : j .at < n .at
   pub within : Within j → Within n
 
-abbrev pub After : Job → End → Type 0
+abbrev pub After : Job → ReadEnd → Type 0
 After j (end (State n) w ss js) = Forward j n
 After j (end (Refused r) w ss js) = Unit {0}
 
@@ -54,14 +54,14 @@ module _ (bytes : List ℕ) (j : Job) (w ss js : List ℕ) where
   moves = by (drop (j .at) bytes) (fieldOf j (drop (j .at) bytes)) refl
 
 -- where a loop stands that will answer F: turns are left, and enough of them
-pub record Going (bytes : List ℕ) (F : End) (j : Job) (w ss js : List ℕ) : Type 0 where
+pub record Going (bytes : List ℕ) (F : ReadEnd) (j : Job) (w ss js : List ℕ) : Type 0 where
   pub left : ℕ
   pub some : 0 < left
   pub far : length bytes < j .at + left
   pub within : Within j
   pub goes : run left bytes j w ss js ≡ F
 
-module _ (bytes : List ℕ) (F : End) (j : Job) (w ss js : List ℕ) where
+module _ (bytes : List ℕ) (F : ReadEnd) (j : Job) (w ss js : List ℕ) where
   -- before the end of the job a turn's outcome is handed on, with one turn less to go
   on : (k : ℕ) → j .at < length bytes → length bytes < j .at + k → run k bytes j w ss js ≡ F → (i : ℕ) × (k ≡ suc i) × (follow (run i bytes) (turnOf bytes j w ss js) ≡ F)
   unfolding run
@@ -73,7 +73,7 @@ module _ (bytes : List ℕ) (F : End) (j : Job) (w ss js : List ℕ) where
   over zero z h e = absurd (omega arith)
   over (suc i) z h e = rw (le-ltb _ _ h) at e
 
-module _ {bytes : List ℕ} {F : End} {j : Job} {w ss js : List ℕ} where
+module _ {bytes : List ℕ} {F : ReadEnd} {j : Job} {w ss js : List ℕ} where
   module _ {n : Job} {v ts ks : List ℕ} {r : Outcome} (g : Going bytes F j w ss js) (h : j .at < length bytes) (e : r ≡ State n) (s : end r v ts ks ≡ turnOf bytes j w ss js) where
     told : turnOf bytes j w ss js ≡ end (State n) v ts ks
     told = cc

@@ -24,7 +24,7 @@ use Rattle.store.specs.Words.{Store, view, Write, write, onWords}
 use Rattle.store.specs.Stores.{onStore}
 use Rattle.store.proofs.Storing.{view-writes, length-writes}
 use Rattle.reading.specs.declared.fill.Outcome.the-variants.{State, Refused}
-use Rattle.reading.specs.Fill.{End, end, placed, taken, turnOf, follow, run, fillOf}
+use Rattle.reading.specs.Fill.{ReadEnd, end, placed, taken, turnOf, follow, run, fillOf}
 use Rattle.reading.specs.Needs.{Space, Room}
 use Rattle.reading.specs.Read.{counted, withCounts, readOf}
 use Rattle.reading.specs.Alike.{SameJob, SameEnd, Ignores}
@@ -52,7 +52,7 @@ record Both (j : Job) (w w′ ss ss′ js js′ : List ℕ) : Type 0 where
   space′ : Space w′ ss′ js′
   same : SameJob j w w′ ss ss′ js js′
 
-abbrev BothEnd : End → End → Type 0
+abbrev BothEnd : ReadEnd → ReadEnd → Type 0
 BothEnd (end (State j) w ss js) (end (State j′) w′ ss′ js′) = (j′ ≡ j) × Both j w w′ ss ss′ js js′
 BothEnd (end (State j) w ss js) (end (Refused r′) w′ ss′ js′) = ⊥
 BothEnd (end (Refused r) w ss js) (end (State j′) w′ ss′ js′) = ⊥
@@ -174,19 +174,19 @@ both-run (suc k) bytes j w w′ ss ss′ js js′ b =
     by (ltb (j .at) (length bytes)) (turnOf bytes j w ss js) (turnOf bytes j w′ ss′ js′) (both-turn j w w′ ss ss′ js js′ b bytes)
     (λ i v v′ ts ts′ ks ks′ c. both-run k bytes i v v′ ts ts′ ks ks′ c)
   where
-    on : (T T′ : End) → BothEnd T T′ → ((i : Job) (v v′ ts ts′ ks ks′ : List ℕ) → Both i v v′ ts ts′ ks ks′ → BothEnd (run k bytes i v ts ks) (run k bytes i v′ ts′ ks′)) → BothEnd (follow (run k bytes) T) (follow (run k bytes) T′)
+    on : (T T′ : ReadEnd) → BothEnd T T′ → ((i : Job) (v v′ ts ts′ ks ks′ : List ℕ) → Both i v v′ ts ts′ ks ks′ → BothEnd (run k bytes i v ts ks) (run k bytes i v′ ts′ ks′)) → BothEnd (follow (run k bytes) T) (follow (run k bytes) T′)
     on (end (State i) v ts ks) (end (State i′) v′ ts′ ks′) c r = subst (λ (x : Job). BothEnd (run k bytes i v ts ks) (run k bytes x v′ ts′ ks′)) (sym (c .0)) (r i v v′ ts ts′ ks ks′ (c .1))
     on (end (State i) v ts ks) (end (Refused x′) v′ ts′ ks′) c r = absurd c
     on (end (Refused x) v ts ks) (end (State i′) v′ ts′ ks′) c r = absurd c
     on (end (Refused x) v ts ks) (end (Refused x′) v′ ts′ ks′) c r = c
 
-    by : (t : Bool) (T T′ : End) → BothEnd T T′ → ((i : Job) (v v′ ts ts′ ks ks′ : List ℕ) → Both i v v′ ts ts′ ks ks′ → BothEnd (run k bytes i v ts ks) (run k bytes i v′ ts′ ks′))
+    by : (t : Bool) (T T′ : ReadEnd) → BothEnd T T′ → ((i : Job) (v v′ ts ts′ ks ks′ : List ℕ) → Both i v v′ ts ts′ ks ks′ → BothEnd (run k bytes i v ts ks) (run k bytes i v′ ts′ ks′))
         → BothEnd (cond t (follow (run k bytes) T) (end (State j) w ss js)) (cond t (follow (run k bytes) T′) (end (State j) w′ ss′ js′))
     by true T T′ c r = on T T′ c r
     by false T T′ c r = (refl, b)
 
 -- the counts are written last, and are the same too
-with-counts : (T T′ : End) → BothEnd T T′ → SameEnd (withCounts T) (withCounts T′)
+with-counts : (T T′ : ReadEnd) → BothEnd T T′ → SameEnd (withCounts T) (withCounts T′)
 with-counts (end (State j) w ss js) (end (State j′) w′ ss′ js′) c =
     let b = c .1 in
     let s = b .same in

@@ -9,7 +9,7 @@ use Rattle.store.specs.Field.{PointCol, pt}
 use Rattle.store.specs.Words.{view}
 use Rattle.store.specs.Named.{settingsOf, pointsOf, recordsOf, flagsOf, ownerOf, firstOf}
 use Rattle.reading.specs.declared.fill.Outcome.the-variants.{State, Refused}
-use Rattle.reading.specs.Fill.{End, end}
+use Rattle.reading.specs.Fill.{ReadEnd, end}
 use Rattle.reading.specs.Needs.{Space}
 use Rattle.reading.specs.Read.{readOf}
 
@@ -23,7 +23,7 @@ pub record SameJob (j : Job) (w w′ ss ss′ js js′ : List ℕ) : Type 0 wher
   pub joins : (i : ℕ) → i < 2 * j .joins → getD js′ i 0 ≡ getD js i 0
 
 -- the same refusal, or the same job
-abbrev pub SameEnd : End → End → Type 0
+abbrev pub SameEnd : ReadEnd → ReadEnd → Type 0
 SameEnd (end (State j) w ss js) (end (State j′) w′ ss′ js′) = (j′ ≡ j) × SameJob j w w′ ss ss′ js js′
 SameEnd (end (State j) w ss js) (end (Refused r′) w′ ss′ js′) = ⊥
 SameEnd (end (Refused r) w ss js) (end (State j′) w′ ss′ js′) = ⊥

@@ -19,8 +19,8 @@ use Rattle.reading.specs.declared.fill.Outcome.{Outcome}
 use Rattle.reading.specs.declared.fill.Outcome.the-variants.{State, Refused}
 
 -- an outcome, with the words and the two lists that are left
-pub data End : Type 0 where
-  end : Outcome → List ℕ → List ℕ → List ℕ → End
+pub data ReadEnd : Type 0 where
+  end : Outcome → List ℕ → List ℕ → List ℕ → ReadEnd
 
 -- point i, a word in each of five columns
 abbrev pub putPoint : ℕ → ℕ → ℕ → ℕ → ℕ → ℕ → List ℕ → List ℕ
@@ -36,7 +36,7 @@ abbrev pub putJoin : ℕ → ℕ → ℕ → List ℕ → List ℕ
 putJoin i a b js = set (set js (2 * i) a) (2 * i + 1) b
 
 -- a field of n bytes goes to the next free place of its kind
-abbrev pub placed : Field → ℕ → Job → List ℕ → List ℕ → List ℕ → End
+abbrev pub placed : Field → ℕ → Job → List ℕ → List ℕ → List ℕ → ReadEnd
 placed (Settings bits) n j w ss js = end (State (past (Settings bits) n j)) w ss js
 placed (Point x y next prev rec) n j w ss js =
     end (State (past (Point x y next prev rec) n j)) (putPoint (j .points) x y next prev rec w) ss js
@@ -45,26 +45,26 @@ placed (Record flags owner first) n j w ss js =
 placed (Segment p) n j w ss js = end (State (past (Segment p) n j)) w (set ss (j .segments) p) js
 placed (Join a b) n j w ss js = end (State (past (Join a b) n j)) w ss (putJoin (j .joins) a b js)
 
-abbrev pub taken : Reading → Job → List ℕ → List ℕ → List ℕ → End
+abbrev pub taken : Reading → Job → List ℕ → List ℕ → List ℕ → ReadEnd
 taken (reading.Read f n) j w ss js = placed f n j w ss js
 taken (reading.Refused r) j w ss js = end (Refused r) w ss js
 
 -- a turn: "each field's value is read from the part of the job where it begins"
-unfoldable pub turnOf : List ℕ → Job → List ℕ → List ℕ → List ℕ → End
+unfoldable pub turnOf : List ℕ → Job → List ℕ → List ℕ → List ℕ → ReadEnd
 turnOf bytes j w ss js = taken (fieldOf j (drop (j .at) bytes)) j w ss js
 
 -- a turn's outcome handed on: a refusal ends
-abbrev pub follow : (Job → List ℕ → List ℕ → List ℕ → End) → End → End
+abbrev pub follow : (Job → List ℕ → List ℕ → List ℕ → ReadEnd) → ReadEnd → ReadEnd
 follow f (end (State j) w ss js) = f j w ss js
 follow f (end (Refused r) w ss js) = end (Refused r) w ss js
 
 -- turns up to the end of the job; the first number bounds how many. `fillOf` gives more than there are bytes, and each turn takes some, so it never runs out
-unfoldable pub run : ℕ → List ℕ → Job → List ℕ → List ℕ → List ℕ → End
+unfoldable pub run : ℕ → List ℕ → Job → List ℕ → List ℕ → List ℕ → ReadEnd
 run zero bytes j w ss js = end (Refused Torn) w ss js
 run (suc k) bytes j w ss js =
-    let on : End = follow (run k bytes) (turnOf bytes j w ss js) in
+    let on : ReadEnd = follow (run k bytes) (turnOf bytes j w ss js) in
     cond (ltb (j .at) (length bytes)) on (end (State j) w ss js)
 
 -- row 2: "empty job"; else its fields, one after the other
-unfoldable pub fillOf : List ℕ → List ℕ → List ℕ → List ℕ → End
+unfoldable pub fillOf : List ℕ → List ℕ → List ℕ → List ℕ → ReadEnd
 fillOf bytes w ss js = cond (eqb (length bytes) 0) (end (Refused Strange) w ss js) (run (suc (length bytes)) bytes fresh w ss js)

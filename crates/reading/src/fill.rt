@@ -12,7 +12,7 @@ ghost use Rattle.job.specs.Limits as limit;
 ghost use Rattle.job.specs.Job.{Within};
 ghost use Rattle.store.specs.Field.{LENGTH, size};
 ghost use Rattle.store.specs.Words as words;
-ghost use Rattle.store.specs.Column.{fieldOf};
+ghost use Rattle.store.specs.Column.{columnOf};
 ghost use Rattle.reading.specs.Fill.{end, putPoint, putRecord, putJoin, placed, turnOf, fillOf};
 ghost use Rattle.reading.specs.Needs.{Space, Placing};
 
@@ -24,8 +24,8 @@ pub enum Outcome {
 
 // Stores a word of a column.
 pub(crate) fn put(w: &mut [u32], c: Col, i: usize, v: u32)
-    requires { ⌜ (LENGTH ≤ length (now w)) × (i < size (fieldOf c)) ⌝ }
-    ensures { λ _. ⌜ now (w .exit) ≡ words.put (fieldOf c) (now (w .entry)) i v ⌝ }
+    requires { ⌜ (LENGTH ≤ length (now w)) × (i < size (columnOf c)) ⌝ }
+    ensures { λ _. ⌜ now (w .exit) ≡ words.put (columnOf c) (now (w .entry)) i v ⌝ }
 {
     store::set(w, c, i, v as usize);
 }

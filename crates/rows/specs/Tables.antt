@@ -35,20 +35,20 @@ pub record Followed (w : List ℕ) (i n : ℕ) : Type 0 where
   pub long : n ≤ RECORDS → Long w i n
 
 -- what record r resolves to, or none
-abbrev pub homeOf : List ℕ → ℕ → ℕ
-homeOf w r = findIn RECORDS (view w (rc FIRST)) (view w (rc OWNER)) r
+abbrev pub homeIn : List ℕ → ℕ → ℕ
+homeIn w r = findIn RECORDS (view w (rc FIRST)) (view w (rc OWNER)) r
 
 -- the table of homes: a record's number is what it resolves to
 pub record Homes (w hs : List ℕ) : Type 0 where
-  pub known : (r : ℕ) → entry hs r ≢ UNKNOWN → entry hs r ≡ homeOf w r
+  pub known : (r : ℕ) → entry hs r ≢ UNKNOWN → entry hs r ≡ homeIn w r
 
 -- after record r's home was written down along its chain: r has it, and what was known still is
 pub record Noted (w hs : List ℕ) (r : ℕ) (hs′ : List ℕ) : Type 0 where
   pub homes : Homes w hs′
-  pub kept : (x : ℕ) → entry hs x ≡ homeOf w x → entry hs′ x ≡ homeOf w x
-  pub here : r < length hs → entry hs′ r ≡ homeOf w r
+  pub kept : (x : ℕ) → entry hs x ≡ homeIn w x → entry hs′ x ≡ homeIn w x
+  pub here : r < length hs → entry hs′ r ≡ homeIn w r
 
 -- the home of every record below n is in the table
 pub record Found (w hs : List ℕ) (n : ℕ) : Type 0 where
   pub homes : Homes w hs
-  pub each : (r : ℕ) → r < n → entry hs r ≡ homeOf w r
+  pub each : (r : ℕ) → r < n → entry hs r ≡ homeIn w r

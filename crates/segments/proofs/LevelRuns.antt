@@ -12,7 +12,7 @@ use Rattle.store.specs.Named.{nextOf, firstOf}
 use Rattle.segments.specs.Level.{xOf, yOf, alongOf, until, atWall, atStop, atLimit, wallRun, stopRun, limitRun}
 use Rattle.segments.specs.Needs.{Together, Bounded, Home}
 use Rattle.segments.specs.Update.{hasFront, walledEnds, freeEnds, endsOf}
-use Rattle.segments.specs.LevelRun.{moved, AtWall, AtStop, AtLimit, Run, LevelRun}
+use Rattle.segments.specs.LevelRun.{moved, AtWall, AtStop, AtLimit, RunTo, LevelRun}
 use Rattle.segments.proofs.Running.{Due, due-at, due-before, along-lives, steps, wall-on, wall-back, stop-on}
 
 -- ---- a walk that a test ends
@@ -73,7 +73,7 @@ or-true false false e = inr refl
 
 module _ (w : List ℕ) (on : Bool) (y : ℕ) (Ends : ℕ → Type 0) (e t : ℕ → Bool) (is : (x : ℕ) → t x ≡ (e x || not (eqb (yOf w (alongOf w on x)) y)))
     (yes : (x : ℕ) → e x ≡ true → Ends x) (none : (x : ℕ) → e x ≡ false → Ends x → ⊥) where
-  run : (p d : ℕ) → Due t (alongOf w on) p d → d < limit.POINTS → Run w on y Ends p (until limit.POINTS t (alongOf w on) p)
+  run : (p d : ℕ) → Due t (alongOf w on) p d → d < limit.POINTS → RunTo w on y Ends p (until limit.POINTS t (alongOf w on) p)
   run p d u h =
       let c = came t (alongOf w on) limit.POINTS p d u h in
       record {
@@ -97,21 +97,21 @@ module _ (w : List ℕ) (on : Bool) (y : ℕ) (Ends : ℕ → Type 0) (e t : ℕ
 
 -- ---- the three walks
 
-pub wall-level : (w : List ℕ) (on : Bool) (wall y p : ℕ) → Together w p wall → Run w on y (AtWall wall) p (wallRun w on wall y p)
+pub wall-level : (w : List ℕ) (on : Bool) (wall y p : ℕ) → Together w p wall → RunTo w on y (AtWall wall) p (wallRun w on wall y p)
 unfolding wallRun atWall
 wall-level w on wall y p s =
     let z = steps w (s .ready) on (s .at) p wall (s .one) (s .two) in
     run w on y (AtWall wall) (λ x. eqb x wall) (atWall w on wall y) (λ x. refl) (λ x. eqb-true x wall) (λ x. eqb-false x wall) p (z .many)
     (due-at (atWall w on wall y) (alongOf w on) wall (rw (eq-eqb wall wall refl)) p (z .many) (z .first)) (z .few)
 
-pub stop-level : (w : List ℕ) (on : Bool) (stop y p : ℕ) → Together w p stop → Run w on y (AtStop w on stop) p (stopRun w on stop y p)
+pub stop-level : (w : List ℕ) (on : Bool) (stop y p : ℕ) → Together w p stop → RunTo w on y (AtStop w on stop) p (stopRun w on stop y p)
 unfolding stopRun atStop
 stop-level w on stop y p s =
     let z = steps w (s .ready) on (s .at) (alongOf w on p) stop (along-lives w (s .ready) on (s .at) p (s .one)) (s .two) in
     run w on y (AtStop w on stop) (λ x. eqb (alongOf w on x) stop) (atStop w on stop y) (λ x. refl) (λ x. eqb-true (alongOf w on x) stop) (λ x. eqb-false (alongOf w on x) stop) p (z .many)
     (due-before (atStop w on stop y) (alongOf w on) stop (λ x e. rw (eq-eqb (alongOf w on x) stop e)) p (z .many) (z .first)) (z .few)
 
-pub limit-level : (w : List ℕ) (on : Bool) (far y p : ℕ) → Bounded w p far → Run w on y (AtLimit w on far) p (limitRun w on far y p)
+pub limit-level : (w : List ℕ) (on : Bool) (far y p : ℕ) → Bounded w p far → RunTo w on y (AtLimit w on far) p (limitRun w on far y p)
 unfolding limitRun atLimit
 limit-level w on far y p b =
     let s = b .same in

@@ -55,15 +55,15 @@ module _ (w : List ℕ) (p i : ℕ) (h : Home w p i) where
       rw t (k ∙ ap (freeEnds w p) e)
 
   -- both are on the ring
-  pub record OnRing (e : Ends) : Type 0 where
+  pub record EndsOnRing (e : Ends) : Type 0 where
     pub back : Lives (view w) i (e .back)
     pub ahead : Lives (view w) i (e .ahead)
 
-  pub ends-on : OnRing (endsOf w p i)
+  pub ends-on : EndsOnRing (endsOf w p i)
   unfolding endsOf walledEnds freeEnds wallRun stopRun
   ends-on = go (hasFront w i)
     where
-      go : (b : Bool) → OnRing (cond b (walledEnds w p (yOf w p) i) (freeEnds w p (yOf w p)))
+      go : (b : Bool) → EndsOnRing (cond b (walledEnds w p (yOf w p) i) (freeEnds w p (yOf w p)))
       go true = record { back = until-lives w (h .ready) false _ i 2048 p (h .here); ahead = until-lives w (h .ready) true _ i 2048 p (h .here) }
       go false = record { back = until-lives w (h .ready) false _ i 2048 p (h .here); ahead = until-lives w (h .ready) true _ i 2048 p (h .here) }
 

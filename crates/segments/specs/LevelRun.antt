@@ -25,7 +25,7 @@ abbrev pub AtLimit : List ℕ → Bool → ℕ → ℕ → Type 0
 AtLimit w on far p = far < xOf w (alongOf w on p)
 
 -- the run from p to q
-pub record Run (w : List ℕ) (on : Bool) (y : ℕ) (Ends : ℕ → Type 0) (p q : ℕ) : Type 0 where
+pub record RunTo (w : List ℕ) (on : Bool) (y : ℕ) (Ends : ℕ → Type 0) (p q : ℕ) : Type 0 where
   pub many : ℕ
   pub few : many < limit.POINTS
   pub to : moved many (alongOf w on) p ≡ q
@@ -39,5 +39,5 @@ pub record Run (w : List ℕ) (on : Bool) (y : ℕ) (Ends : ℕ → Type 0) (p q
 -- both runs from a segment's point op, whose own height is theirs; op is on the ring of record i. With a front edge the walls are the first point ahead and its next behind; without one
 -- the run ends behind at op itself, all round, and ahead at that end
 pub record LevelRun (w : List ℕ) (op i : ℕ) : Type 0 where
-  pub walled : hasFront w i ≡ true → Run w false (yOf w op) (AtWall (nextOf w (firstOf w i))) op (endsOf w op i .back) × Run w true (yOf w op) (AtWall (firstOf w i)) op (endsOf w op i .ahead)
-  pub open-ended : hasFront w i ≡ false → Run w false (yOf w op) (AtStop w false op) op (endsOf w op i .back) × Run w true (yOf w op) (AtStop w true (endsOf w op i .back)) op (endsOf w op i .ahead)
+  pub walled : hasFront w i ≡ true → RunTo w false (yOf w op) (AtWall (nextOf w (firstOf w i))) op (endsOf w op i .back) × RunTo w true (yOf w op) (AtWall (firstOf w i)) op (endsOf w op i .ahead)
+  pub open-ended : hasFront w i ≡ false → RunTo w false (yOf w op) (AtStop w false op) op (endsOf w op i .back) × RunTo w true (yOf w op) (AtStop w true (endsOf w op i .back)) op (endsOf w op i .ahead)

@@ -5,19 +5,19 @@ use Rattle.store.specs.Field.{Field, pt, rc, ct}
 use Rattle.store.specs.Field as f
 
 -- the column that a value of the code's enum names
-abbrev pub fieldOf : Col → Field
-fieldOf X = pt f.X
-fieldOf Y = pt f.Y
-fieldOf Next = pt f.NEXT
-fieldOf Prev = pt f.PREV
-fieldOf Rec = pt f.REC
-fieldOf Flags = rc f.FLAGS
-fieldOf Owner = rc f.OWNER
-fieldOf First = rc f.FIRST
-fieldOf Mark = rc f.MARK
-fieldOf Present = rc f.PRESENT
-fieldOf Start = rc f.START
-fieldOf Cut = rc f.CUT
-fieldOf Settings = ct f.SETTINGS
-fieldOf Points = ct f.POINTS
-fieldOf Records = ct f.RECORDS
+abbrev pub columnOf : Col → Field
+columnOf X = pt f.X
+columnOf Y = pt f.Y
+columnOf Next = pt f.NEXT
+columnOf Prev = pt f.PREV
+columnOf Rec = pt f.REC
+columnOf Flags = rc f.FLAGS
+columnOf Owner = rc f.OWNER
+columnOf First = rc f.FIRST
+columnOf Mark = rc f.MARK
+columnOf Present = rc f.PRESENT
+columnOf Start = rc f.START
+columnOf Cut = rc f.CUT
+columnOf Settings = ct f.SETTINGS
+columnOf Points = ct f.POINTS
+columnOf Records = ct f.RECORDS

@@ -6,7 +6,7 @@ ghost use lib.ListN.{length, getD};
 ghost use Rattle.store.specs.Field.{size, base, LENGTH};
 ghost use Rattle.store.specs.Field as field;
 ghost use Rattle.store.specs.Words.{cell, put};
-ghost use Rattle.store.specs.Column.{fieldOf};
+ghost use Rattle.store.specs.Column.{columnOf};
 
 // No point, no record.
 pub const NONE: usize = Job::NONE;
@@ -40,7 +40,7 @@ pub const LENGTH: usize = AFTER + Job::RECORDS * 7;
 
 // Where a column begins.
 fn base_of(c: Col) -> usize
-    ensures { λ r. ⌜ r ≡ base (fieldOf c) ⌝ }
+    ensures { λ r. ⌜ r ≡ base (columnOf c) ⌝ }
 {
     match c {
         Col::X => HEAD + Job::POINTS * 0,
@@ -63,8 +63,8 @@ fn base_of(c: Col) -> usize
 
 // Which word is number i of a column.
 fn word_of(c: Col, i: usize) -> usize
-    requires { ⌜ i < size (fieldOf c) ⌝ }
-    ensures { λ r. ⌜ (r ≡ base (fieldOf c) + i) × (r < LENGTH) ⌝ }
+    requires { ⌜ i < size (columnOf c) ⌝ }
+    ensures { λ r. ⌜ (r ≡ base (columnOf c) + i) × (r < LENGTH) ⌝ }
 {
     let b = base_of(c);
     b + i
@@ -80,8 +80,8 @@ fn load(w: &[u32], k: usize) -> usize
 
 // Word i of a column.
 pub fn get(w: &[u32], c: Col, i: usize) -> usize
-    requires { ⌜ (LENGTH ≤ length (now w)) × (i < size (fieldOf c)) ⌝ }
-    ensures { λ r. ⌜ (r ≡ cell (fieldOf c) (now (w .entry)) i) × (r < 2 ^ 32) ⌝ }
+    requires { ⌜ (LENGTH ≤ length (now w)) × (i < size (columnOf c)) ⌝ }
+    ensures { λ r. ⌜ (r ≡ cell (columnOf c) (now (w .entry)) i) × (r < 2 ^ 32) ⌝ }
 {
     let k = word_of(c, i);
     load(w, k)
@@ -89,7 +89,7 @@ pub fn get(w: &[u32], c: Col, i: usize) -> usize
 
 // How many words a column has.
 fn size_of(c: Col) -> usize
-    ensures { λ r. ⌜ r ≡ size (fieldOf c) ⌝ }
+    ensures { λ r. ⌜ r ≡ size (columnOf c) ⌝ }
 {
     match c {
         Col::X => Job::POINTS,
@@ -113,7 +113,7 @@ fn size_of(c: Col) -> usize
 // Word i of a column, and 0 past its end: for words that were not tested yet.
 pub fn read(w: &[u32], c: Col, i: usize) -> usize
     requires { ⌜ LENGTH ≤ length (now w) ⌝ }
-    ensures { λ r. ⌜ (r ≡ cell (fieldOf c) (now (w .entry)) i) × (r < 2 ^ 32) ⌝ }
+    ensures { λ r. ⌜ (r ≡ cell (columnOf c) (now (w .entry)) i) × (r < 2 ^ 32) ⌝ }
 {
     let n = size_of(c);
     if i < n {
@@ -124,8 +124,8 @@ pub fn read(w: &[u32], c: Col, i: usize) -> usize
 
 // Stores word i of a column.
 pub fn set(w: &mut [u32], c: Col, i: usize, v: usize)
-    requires { ⌜ (LENGTH ≤ length (now w)) × (i < size (fieldOf c)) × (v < 2 ^ 32) ⌝ }
-    ensures { λ _. ⌜ now (w .exit) ≡ put (fieldOf c) (now (w .entry)) i v ⌝ }
+    requires { ⌜ (LENGTH ≤ length (now w)) × (i < size (columnOf c)) × (v < 2 ^ 32) ⌝ }
+    ensures { λ _. ⌜ now (w .exit) ≡ put (columnOf c) (now (w .entry)) i v ⌝ }
 {
     let k = word_of(c, i);
     w[k] = v as u32;

@@ -19,9 +19,9 @@ use Rattle.store.specs.Words.{view}
 use Rattle.store.specs.Sound.{recs, isOpen, loneAt}
 use Rattle.store.specs.Value.{preserveCollinear}
 use Rattle.acts.specs.Step.{Outcome, outcome, actAt, roomFor, answerS, stepByW, stepW}
-use Rattle.acts.specs.Run.{stepOf}
+use Rattle.acts.specs.Run.{stepWords}
 use Rattle.acts.specs.Finish.{RingsEnd, ringsDone, ringsFull, andThen, stepsByW, finishRecord, finishFromW, finishW}
-use Rattle.acts.specs.Finishable.{Finishes, wordsLeft}
+use Rattle.acts.specs.Finishable.{MayFinish, wordsLeft}
 use Rattle.acts.proofs.Stepping.{length-step}
 use Rattle.acts.proofs.Finishing.{settings-kept, finishes-step, words-fall, words-bound, finishes-record, settings-record, length-record}
 use Rattle.turns.specs.Form.{raised, geometryOf}
@@ -31,7 +31,7 @@ use Rattle.turns.proofs.Ready.{laws}
 
 -- finishing record i of the words w₀ stands at w
 pub record Running (w₀ : List ℕ) (i : ℕ) (w : List ℕ) : Type 0 where
-  pub finishes : Finishes (geometryOf (view w₀)) raised w
+  pub finishes : MayFinish (geometryOf (view w₀)) raised w
   pub same : view w (ct SETTINGS) 0 ≡ view w₀ (ct SETTINGS) 0
   pub size : length w ≡ length w₀
   pub fuel : ℕ
@@ -39,7 +39,7 @@ pub record Running (w₀ : List ℕ) (i : ℕ) (w : List ℕ) : Type 0 where
   pub more : answerS (geometryOf (view w₀)) raised (view w) i ≡ ok → wordsLeft (geometryOf (view w₀)) raised w i < fuel
   pub is : finishRecord (geometryOf (view w₀)) raised w₀ i ≡ stepsByW (geometryOf (view w₀)) raised fuel (answerS (geometryOf (view w₀)) raised (view w) i) w i
 
-pub begun : (w : List ℕ) (i : ℕ) → Finishes (geometryOf (view w)) raised w → Running w i w
+pub begun : (w : List ℕ) (i : ℕ) → MayFinish (geometryOf (view w)) raised w → Running w i w
 unfolding finishRecord
 begun w i v = record { finishes = v; same = refl; size = refl; fuel = enough 2048; some = omega arith; more = words-bound (geometryOf (view w)) raised (laws (preserveCollinear (view w))) w i v; is = refl }
 
@@ -47,9 +47,9 @@ module _ (w₀ : List ℕ) (i : ℕ) (w : List ℕ) (R : Running w₀ i w) where
   pub sound-words : SoundWords w
   sound-words = record { long = R .finishes .rep .long; sound = R .finishes .rep .rep .sound }
 
-  module _ (w′ : List ℕ) (a : Answer) (e : outcome a w′ ≡ stepOf (geometryOf (view w)) raised w i) where
+  module _ (w′ : List ℕ) (a : Answer) (e : outcome a w′ ≡ stepWords (geometryOf (view w)) raised w i) where
     stepped : outcome a w′ ≡ outcome (answerS (geometryOf (view w₀)) raised (view w) i) (stepW (geometryOf (view w₀)) raised w i)
-    unfolding stepOf
+    unfolding stepWords
     stepped = subst (λ (s : ℕ). outcome a w′ ≡ outcome (answerS (plane (eqb (s % 2) 1)) raised (view w) i) (stepW (plane (eqb (s % 2) 1)) raised w i)) (R .same) e
 
     says : answerS (geometryOf (view w₀)) raised (view w) i ≡ a
@@ -121,19 +121,19 @@ module _ (G : Geo Point) (w : List ℕ) where
 
 -- finishing all records of the words w₀ stands at record i, with w
 pub record Remaining (w₀ : List ℕ) (i : ℕ) (w : List ℕ) : Type 0 where
-  pub finishes : Finishes (geometryOf (view w₀)) raised w
+  pub finishes : MayFinish (geometryOf (view w₀)) raised w
   pub same : view w (ct SETTINGS) 0 ≡ view w₀ (ct SETTINGS) 0
   pub size : length w ≡ length w₀
   pub low : i ≤ 512
   pub is : finishW (geometryOf (view w₀)) raised w₀ ≡ finishFromW (geometryOf (view w₀)) raised (512 - i) w i
 
-pub begun-all : (w : List ℕ) → Finishes (geometryOf (view w)) raised w → Remaining w 0 w
+pub begun-all : (w : List ℕ) → MayFinish (geometryOf (view w)) raised w → Remaining w 0 w
 unfolding finishW
 begun-all w v = record { finishes = v; same = refl; size = refl; low = omega arith; is = refl }
 
 module _ (w₀ : List ℕ) (i : ℕ) (w : List ℕ) (R : Remaining w₀ i w) where
-  pub finishes-now : Finishes (geometryOf (view w)) raised w
-  finishes-now = subst (λ (s : ℕ). Finishes (plane (eqb (s % 2) 1)) raised w) (sym (R .same)) (R .finishes)
+  pub finishes-now : MayFinish (geometryOf (view w)) raised w
+  finishes-now = subst (λ (s : ℕ). MayFinish (plane (eqb (s % 2) 1)) raised w) (sym (R .same)) (R .finishes)
 
   module _ (l : i < 512) (w′ : List ℕ) (a : Answer) (e : outcome a w′ ≡ finishRecord (geometryOf (view w)) raised w i) where
     finished : outcome a w′ ≡ finishRecord (geometryOf (view w₀)) raised w i

@@ -17,7 +17,7 @@ use Rattle.store.specs.Sound.{pts, recs, dueOf, dueAt}
 use Rattle.store.specs.Value.{preserveCollinear}
 use Rattle.acts.specs.Apply.{takesRecord, afterW}
 use Rattle.acts.specs.Step.{outcome, fits, live, actAt, answerS, stepW}
-use Rattle.acts.specs.Run.{stepOf}
+use Rattle.acts.specs.Run.{stepWords}
 use Rattle.acts.proofs.Acting.{Ready, to-discard, to-move, to-go-first, to-drop, to-double, to-cut}
 use Rattle.acts.proofs.Readiness.{ready}
 use Rattle.acts.proofs.Stepping.{live-is, live-too, due-is}
@@ -80,18 +80,18 @@ module _ (w : List ℕ) (i : ℕ) (s : Steps w i) (act : Act Point) (e : act ≡
   is-live : live (view w) i ≡ true
   is-live = live-too (geometryOf (view w)) raised (view w) i (s .closed) (s .unfinished)
 
-  pub went : (w′ : List ℕ) → room ≡ true → w′ ≡ afterW raised w i act → outcome ok w′ ≡ stepOf (geometryOf (view w)) raised w i
-  unfolding stepOf stepW answerS
+  pub went : (w′ : List ℕ) → room ≡ true → w′ ≡ afterW raised w i act → outcome ok w′ ≡ stepWords (geometryOf (view w)) raised w i
+  unfolding stepWords stepW answerS
   went w′ h q = rw (is-live, ← e, sym er ∙ h) (ap (outcome ok) (q ∙ ap (afterW raised w i) e))
 
-  pub no-room : room ≡ false → outcome full w ≡ stepOf (geometryOf (view w)) raised w i
-  unfolding stepOf stepW answerS
+  pub no-room : room ≡ false → outcome full w ≡ stepWords (geometryOf (view w)) raised w i
+  unfolding stepWords stepW answerS
   no-room h = rw (is-live, ← e, sym er ∙ h)
 
 -- ---- a record number that may be any
 module _ (w : List ℕ) (i : ℕ) where
-  pub not-live : (b : Bool) → b ≡ live (view w) i → b ≡ false → outcome outOfTurn w ≡ stepOf (geometryOf (view w)) raised w i
-  unfolding stepOf stepW answerS
+  pub not-live : (b : Bool) → b ≡ live (view w) i → b ≡ false → outcome outOfTurn w ≡ stepWords (geometryOf (view w)) raised w i
+  unfolding stepWords stepW answerS
   not-live b e h = rw (sym e ∙ h)
 
   pub steps : (b : Bool) → SoundWords w → b ≡ live (view w) i → b ≡ true → Steps w i

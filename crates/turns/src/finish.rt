@@ -11,7 +11,7 @@ ghost use Rattle.lone.specs.Forest.{isOk};
 ghost use Rattle.store.specs.Words.{view};
 ghost use Rattle.acts.specs.Step.{outcome};
 ghost use Rattle.acts.specs.Finish.{finishRecord, finishW};
-ghost use Rattle.acts.specs.Finishable.{Finishes};
+ghost use Rattle.acts.specs.Finishable.{MayFinish};
 ghost use Rattle.turns.specs.Code.{answerIs, endIs};
 ghost use Rattle.turns.specs.Form.{raised, geometryOf};
 ghost use Rattle.turns.specs.Takes.{isFull};
@@ -38,7 +38,7 @@ fn is_full(a: Answer) -> bool
 
 // Record i stepped until a step is refused: out of turn, since it is done, or full.
 pub fn finish_record(w: &mut [u32], i: usize) -> Answer
-    requires { ⌜ Finishes (geometryOf (view (now w))) raised (now w) ⌝ }
+    requires { ⌜ MayFinish (geometryOf (view (now w))) raised (now w) ⌝ }
     ensures { λ r. ⌜ outcome (answerIs r) (now (w .exit)) ≡ finishRecord (geometryOf (view (now (w .entry)))) raised (now (w .entry)) i ⌝ }
 {
     loop {
@@ -52,7 +52,7 @@ pub fn finish_record(w: &mut [u32], i: usize) -> Answer
 
 // Every record in rising order, offcuts as they come: done, or full.
 pub fn finish_records(w: &mut [u32]) -> RingsEnd
-    requires { ⌜ Finishes (geometryOf (view (now w))) raised (now w) ⌝ }
+    requires { ⌜ MayFinish (geometryOf (view (now w))) raised (now w) ⌝ }
     ensures { λ r. ⌜ endIs r (now (w .exit)) ≡ finishW (geometryOf (view (now (w .entry)))) raised (now (w .entry)) ⌝ }
 {
     let mut i = 0;

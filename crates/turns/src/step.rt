@@ -15,7 +15,7 @@ ghost use Rattle.store.specs.Field.{LENGTH};
 ghost use Rattle.store.specs.Words.{view};
 ghost use Rattle.acts.specs.Apply.{takesRecord};
 ghost use Rattle.acts.specs.Step.{outcome, fits, live};
-ghost use Rattle.acts.specs.Run.{stepOf};
+ghost use Rattle.acts.specs.Run.{stepWords};
 ghost use Rattle.turns.specs.Code.{actIs, answerIs};
 ghost use Rattle.turns.specs.Form.{raised, geometryOf};
 ghost use Rattle.turns.specs.Reads.{Steps, SoundWords};
@@ -81,7 +81,7 @@ fn has_room(w: &[u32], act: Act) -> bool
 // A step on an unfinished closed ring.
 pub fn step_ring(w: &mut [u32], i: usize) -> Answer
     requires { ⌜ Steps (now w) i ⌝ }
-    ensures { λ r. ⌜ outcome (answerIs r) (now (w .exit)) ≡ stepOf (geometryOf (view (now (w .entry)))) raised (now (w .entry)) i ⌝ }
+    ensures { λ r. ⌜ outcome (answerIs r) (now (w .exit)) ≡ stepWords (geometryOf (view (now (w .entry)))) raised (now (w .entry)) i ⌝ }
 {
     let act = decide(w, i);
     let room = has_room(w, act);
@@ -116,7 +116,7 @@ pub fn is_live(w: &[u32], i: usize) -> bool
 // A step on any record number.
 pub fn step_record(w: &mut [u32], i: usize) -> Answer
     requires { ⌜ SoundWords (now w) ⌝ }
-    ensures { λ r. ⌜ outcome (answerIs r) (now (w .exit)) ≡ stepOf (geometryOf (view (now (w .entry)))) raised (now (w .entry)) i ⌝ }
+    ensures { λ r. ⌜ outcome (answerIs r) (now (w .exit)) ≡ stepWords (geometryOf (view (now (w .entry)))) raised (now (w .entry)) i ⌝ }
 {
     let live = is_live(w, i);
     if live {

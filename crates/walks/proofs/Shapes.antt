@@ -20,7 +20,7 @@ use Rattle.lone.specs.Plane.{plane}
 use Rattle.store.specs.Field.{NONE}
 use Rattle.store.specs.Named.{pointsOf, nextOf, prevOf, ringOf}
 use Rattle.store.specs.Value.{pointOf}
-use Rattle.walks.specs.Ring.{OnRing, MaybeOnRing, Three, valuesFrom, valuesOf, isVerySmall}
+use Rattle.walks.specs.Ring.{OnRing, MaybeOnRing, Neighbours, valuesFrom, valuesOf, isVerySmall}
 use Rattle.walks.proofs.Visiting.{split}
 
 -- a, b, and those after: each once
@@ -87,7 +87,7 @@ module _ (w : List ℕ) (op : ℕ) (r : OnRing w op) where
     prev-member : 0 < occ p (ringOf w op)
     prev-member = rw ep (prev-on (nextOf w) (prevOf w) (pointsOf w) (ringOf w op) (r .whole) op member)
 
-    pub three : Three w p op n
+    pub three : Neighbours w p op n
     three = record { long = r .long; few = r .few; one = r .points-in p prev-member; two = r .points-in op member; three = r .points-in n next-member }
 
     one-none : n ≡ op → op ≢ NONE → false ≡ isValidClosedPath (plane true) (valuesOf w op)

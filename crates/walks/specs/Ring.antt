@@ -36,7 +36,7 @@ pub record Edge (w : List ℕ) (op : ℕ) : Type 0 where
   pub before : PointIn (view w) (prevOf w op)
 
 -- three points that may be read
-pub record Three (w : List ℕ) (p op n : ℕ) : Type 0 where
+pub record Neighbours (w : List ℕ) (p op n : ℕ) : Type 0 where
   pub long : LENGTH ≤ length w
   pub few : pointsOf w ≤ limit.POINTS
   pub one : PointIn (view w) p

@@ -11,7 +11,7 @@ ghost use Rattle.lone.specs.Lone.{isValidClosedPath};
 ghost use Rattle.lone.specs.Plane.{plane};
 ghost use Rattle.store.specs.Named.{prevOf};
 ghost use Rattle.store.specs.Value.{pointOf};
-ghost use Rattle.walks.specs.Ring.{OnRing, MaybeOnRing, Edge, Three, valuesFrom, valuesOf, isVerySmall};
+ghost use Rattle.walks.specs.Ring.{OnRing, MaybeOnRing, Edge, Neighbours, valuesFrom, valuesOf, isVerySmall};
 
 // The part of the edge to op in the doubled area.
 fn edge_to(w: &[u32], op: usize) -> i64
@@ -43,7 +43,7 @@ pub fn area_outpt(w: &[u32], op_start: usize) -> i64
 
 // Whether two of the three points are really close.
 fn small_three(w: &[u32], p: usize, op: usize, n: usize) -> bool
-    requires { ⌜ Three (now w) p op n ⌝ }
+    requires { ⌜ Neighbours (now w) p op n ⌝ }
     ensures { λ r. ⌜ r ≡ isVerySmallTriangle (pointOf (now (w .entry)) p) (pointOf (now (w .entry)) op) (pointOf (now (w .entry)) n) ⌝ }
 {
     let a = point(w, p);
