@@ -1,4 +1,4 @@
--- Values that two words hold.
+-- Values that two words hold, and the store after an act.
 use Prim.Native.Nat.{ℕ, _*_, _≤_}
 use mathlib.Core.Path.{_≡_}
 use Rattle.job.specs.Limits as limit
@@ -23,4 +23,4 @@ module _ {P : Type 0} (f : Coding P) where
   after s i (moveOn d) = onStore s (moveWrites s i d)
   after s i (toFirst d) = onStore s (toFirstWrites s i d)
   after s i (double v d) = onStore s (doubleWrites s i (f .xw v) (f .yw v) d)
-  after s i (cut v put off d) = onStore (onStore s (ringWrites s i v put d)) (offWrites s (onStore s (ringWrites s i v put d)) i v off)
+  after s i (cut v put off d) = onStore (onStore s (ringWrites f s i v put d)) (offWrites f s (onStore s (ringWrites f s i v put d)) i v off)

@@ -10,12 +10,12 @@ use Rattle.acts.specs.Step.{Outcome, actAt, answerS, outcome, stepW}
 
 module _ {P : Type 0} (G : Geo P) (f : Coding P) where
   abbrev pub stepAnswered : Store → ℕ → Answer → Store
-  stepAnswered s i ok = after f s i (actAt s i)
+  stepAnswered s i ok = after f s i (actAt G f s i)
   stepAnswered s i full = s
   stepAnswered s i outOfTurn = s
 
   unfoldable pub stepS : Store → ℕ → Store
-  stepS s i = stepAnswered s i (answerS s i)
+  stepS s i = stepAnswered s i (answerS G f s i)
 
   abbrev pub runS : Store → List ℕ → Store
   runS s [] = s
@@ -23,8 +23,8 @@ module _ {P : Type 0} (G : Geo P) (f : Coding P) where
 
   abbrev pub runW : List ℕ → List ℕ → List ℕ
   runW w [] = w
-  runW w (i ∷ is) = runW (stepW w i) is
+  runW w (i ∷ is) = runW (stepW G f w i) is
 
   -- its answer and the words it leaves
   unfoldable pub stepWords : List ℕ → ℕ → Outcome
-  stepWords w i = outcome (answerS (view w) i) (stepW w i)
+  stepWords w i = outcome (answerS G f (view w) i) (stepW G f w i)

@@ -24,4 +24,4 @@ split-ring-spec =
     (λ c. search needs)
     (λ c.
     let t = c .before .before .before .before .before .before .before .before .before .before .before .before .before .before .before .before .before .before .before .pre in
-    split-ring-done _ _ _ _ _ _ _ _ (t .0) (t .1) (t .2) (c .before .before .before .before .before .before .before .before .before .before .before .before .before .before .before .before .get .ensures .0) (c .before .before .before .before .before .before .before .before .before .before .before .before .before .before .relink .ensures) (c .before .before .before .before .before .before .before .before .before .before .new-out-rec .ensures) _ _ (c .before .before .before .before .before .before .fix-outrec-pts .ensures) (c .before .before .move_first .ensures)))
+    split-ring-done _ _ _ _ _ _ _ _ (t .0) (t .1) (t .2) (c .before .before .before .before .before .before .before .before .before .before .before .before .before .before .before .before .get .ensures .0) (c .before .before .before .before .before .before .before .before .before .before .before .before .before .before .relink .ensures) (c .before .before .before .before .before .before .before .before .before .before .new-out-rec .ensures) _ _ (c .before .before .before .before .before .before .fix-outrec-pts .ensures) (c .before .before .move-first .ensures)))
