@@ -8,8 +8,7 @@ use Rattle.job.specs.Limits as limit
 use Rattle.store.specs.Field.{NONE}
 use Rattle.store.specs.Named.{pointsOf}
 use Rattle.joins.specs.Resolved.{Ready}
-use Rattle.segments.specs.Needs.{Span, Overlap, Meeting}
-use Rattle.segments.specs.Needs.{Listed}
+use Rattle.segments.specs.Needs.{Span, Overlap, Meeting, Listed}
 
 -- two points, and room for a join
 pub record Making (w js : List ℕ) (m a b : ℕ) : Type 0 where

@@ -6,8 +6,9 @@ use native.Mathlib.Omega.{arith}
 use lib.ListN.{length, replicate, length-replicate}
 use Rattle.listing.specs.declared.Listed.{Listed}
 use Rattle.listing.specs.declared.Listed.the-variants.{Bytes}
-use Rattle.listing.specs.Lines.{TEXT}
-use Rattle.listing.specs.Told.{told, Whole}
+use Rattle.listing.specs.Room.{TEXT}
+use Rattle.listing.specs.Told.{told}
+use Rattle.listing.specs.Needs.{Whole}
 use Rattle.job_listing.specs.Cutlist.{listedJob, listJobOf}
 use Rattle.job_listing.proofs.Fits.{listed-whole}
 

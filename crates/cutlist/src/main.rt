@@ -9,7 +9,7 @@ use paths::TRAY;
 use store::LENGTH;
 ghost use Prim.Native.Nat.{_≤_};
 ghost use lib.ListN.{length};
-ghost use Rattle.listing.specs.Told.{Whole};
+ghost use Rattle.listing.specs.Needs.{Whole};
 
 // The first m bytes.
 fn first(s: &[u8], m: usize) -> &[u8]

@@ -20,7 +20,7 @@ edge px py qx qy = (py :+ qy) :* (px :- qx)
 abbrev pub three : Term → Term → Term → Term → Term → Term → Term
 three ax ay bx by cx cy = edge cx cy ax ay :+ edge ax ay bx by :+ edge bx by cx cy
 
-minus-is : (z : ℤ) → pos 0 -ℤ z ≡ negℤ z
+pub minus-is : (z : ℤ) → pos 0 -ℤ z ≡ negℤ z
 minus-is z = +ℤ-idl (negℤ z)
 
 -- an edge the other way round

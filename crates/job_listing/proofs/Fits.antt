@@ -21,8 +21,9 @@ use Rattle.finishing.specs.InOneCall.{Finished, afterWriting, afterSteps, after
 use Rattle.finishing.proofs.InOneCall.{done-ready, opening-left}
 use Rattle.listing.specs.declared.Listed.{Listed}
 use Rattle.listing.specs.declared.Listed.the-variants.{Bytes}
-use Rattle.listing.specs.Lines.{TEXT}
-use Rattle.listing.specs.Told.{Told, told, answerAt, tell, Whole}
+use Rattle.listing.specs.Room.{TEXT}
+use Rattle.listing.specs.Told.{Told, told, answerAt, tell}
+use Rattle.listing.specs.Needs.{Whole}
 use Rattle.listing.proofs.Answers.{written-out}
 use Rattle.listing.proofs.Room.{listing-le, refusal-le}
 use Rattle.job_listing.specs.Cutlist.{listedAs, listedFrom, cutlistOf, ListedJob, listedJob, listJobOf}

@@ -18,7 +18,8 @@ use Rattle.finishing.specs.Opened.{OpeningLeft}
 use Rattle.finishing.specs.Finish.{finishRings}
 use Rattle.finishing.specs.InOneCall.{Finished, finished, afterWriting, afterSteps, afterOpening, finishOf}
 use Rattle.finishing.proofs.InOneCall.{done-ready, opening-left}
-use Rattle.listing.specs.Told.{Listable, Told, told, tell}
+use Rattle.listing.specs.Told.{Told, told, tell}
+use Rattle.listing.specs.Needs.{Listable}
 use Rattle.listing.specs.Lines.{listingOf, refusedLine}
 use Rattle.listing.specs.declared.Listed.{Listed}
 use Rattle.listing.proofs.Answers.{answer-listable}

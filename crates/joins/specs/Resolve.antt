@@ -1,4 +1,4 @@
--- Resolving (`get_real_outrec`): the first with points among a record and its owners. As a path of records, and as a function of the words.
+-- Resolving (`get_real_outrec`): the first with points among a record and its owners, as a function of the words. As a path of records it is beside it (Paths).
 use Prim.Native.Nat.{ℕ, zero, suc}
 use mathlib.Core.Bool.{cond}
 use mathlib.Core.List.{List}

@@ -13,7 +13,7 @@ use Rattle.paths.specs.declared.Written.the-variants.{Paths, Refused}
 use Rattle.paths.specs.Path.{closedPaths, openPaths}
 use Rattle.paths.specs.Tray.{fieldsOf, padded}
 use Rattle.paths.specs.Wrote.{Wrote, wrote, buildPaths64}
-use Rattle.listing.specs.Told.{Listable}
+use Rattle.listing.specs.Needs.{Listable}
 use Rattle.listing.proofs.Trays.{written-listable}
 
 -- the tray and the two counts, where writing out was not refused

@@ -18,7 +18,8 @@ use Rattle.geometry.specs.Table.{InTable, AllInTable}
 use Rattle.geometry.proofs.Coordinates.{edge-within}
 use Rattle.listing.specs.Pour.{poured, pour}
 use Rattle.listing.specs.Text.{SPACE, decimal, signedText, LINE}
-use Rattle.listing.specs.Fields.{pointsIn, Sized, valueLength, pathIn, FieldIn}
+use Rattle.listing.specs.Fields.{pointsIn, valueLength, pathIn}
+use Rattle.listing.specs.Needs.{Sized, FieldIn}
 use Rattle.listing.specs.Lines.{wordOf, pointsText, closedHead, headOf, lineOf}
 use Rattle.listing.proofs.Pouring.{pour-more}
 

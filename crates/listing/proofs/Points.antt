@@ -21,7 +21,8 @@ use Rattle.numbers.proofs.Raises.{off-means, raised-means}
 use Rattle.geometry.specs.declared.Point.{Point}
 use Rattle.listing.specs.Pour.{poured, pour}
 use Rattle.listing.specs.Text.{signedText}
-use Rattle.listing.specs.Fields.{pointIn, Held}
+use Rattle.listing.specs.Fields.{pointIn}
+use Rattle.listing.specs.Needs.{Held}
 use Rattle.listing.specs.Lines.{pointText}
 use Rattle.listing.proofs.Pouring.{pour-more}
 

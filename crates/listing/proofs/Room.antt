@@ -19,7 +19,8 @@ use Rattle.paths.specs.Tray.{fieldsOf, padded}
 use Rattle.paths.proofs.Counts.{size-le}
 use Rattle.paths.proofs.Bound.{rings-few}
 use Rattle.listing.specs.Text.{SPACE, COMMA, NEWLINE, digit, digits, decimal, signedText, CLOSED, OPEN, LINE, REFUSED}
-use Rattle.listing.specs.Lines.{wordOf, pointText, pointsText, headOf, lineOf, linesOf, firstLine, listingOf, TEXT, refusedLine}
+use Rattle.listing.specs.Lines.{wordOf, pointText, pointsText, headOf, lineOf, linesOf, firstLine, listingOf, refusedLine}
+use Rattle.listing.specs.Room.{TEXT}
 use Rattle.listing.proofs.Trays.{written-listing}
 
 -- ---- numbers

@@ -27,9 +27,10 @@ use Rattle.paths.specs.Tray.{lowBytes, i32Bytes, pointBytes, pathBytes, pathFie
 use Rattle.paths.proofs.Laying.{length-lowBytes, length-pointBytes, put-over}
 use Rattle.paths.proofs.Counts.{length-pathField}
 use Rattle.paths.proofs.Tables.{Fit, Each, paths-fit}
-use Rattle.listing.specs.Fields.{pointIn, pointsIn, valueLength, nextField, pathIn, pathsIn, fieldAfter, FieldIn, FieldsIn}
+use Rattle.listing.specs.Fields.{pointIn, pointsIn, valueLength, nextField, pathIn, pathsIn, fieldAfter}
+use Rattle.listing.specs.Needs.{FieldIn, FieldsIn}
 use Rattle.listing.specs.Lines.{firstLine, linesOf, listingOf}
-use Rattle.listing.specs.Told.{Listable}
+use Rattle.listing.specs.Needs.{Listable}
 
 -- ---- a number, a point, points
 

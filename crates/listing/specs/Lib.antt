@@ -2,5 +2,7 @@
 pub mod Pour
 pub mod Text
 pub mod Fields
+pub mod Needs
 pub mod Lines
+pub mod Room
 pub mod Told

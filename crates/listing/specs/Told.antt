@@ -1,12 +1,11 @@
 -- What listing answers and leaves, for every text and every lent slice; and the trays that can be listed.
-use Prim.Native.Nat.{ℕ, _≤_}
+use Prim.Native.Nat.{ℕ}
 use mathlib.Core.Bool.{cond}
 use mathlib.Core.List.{List, _++_}
 use lib.Dec.{leb}
 use lib.ListN.{length, take, drop}
 use Rattle.listing.specs.declared.Listed.{Listed}
 use Rattle.listing.specs.declared.Listed.the-variants.{Bytes, NoRoom}
-use Rattle.listing.specs.Fields.{FieldsIn, fieldAfter}
 
 -- the answer and the slice
 pub record Told : Type 0 where
@@ -22,13 +21,3 @@ answerAt at out = cond (leb at (length out)) (Bytes at) NoRoom
 -- the text, as far as there is room, and then what was there; how long the text is, or that there is no room for all of it
 unfoldable pub tell : List ℕ → List ℕ → Told
 tell text out = told (answerAt (length text) out) (take (length out) text ++ drop (length text) out)
-
--- there was room for all of the text, in a slice of n bytes
-abbrev pub Whole : Listed → ℕ → Type 0
-Whole (Bytes m) n = m ≤ n
-Whole NoRoom n = ⊥
-
--- a tray that begins with fields of so many closed and then so many open paths, their points within the limit
-pub record Listable (closed open′ : ℕ) (t : List ℕ) : Type 0 where
-  pub closed-in : FieldsIn t closed 0
-  pub open-in : FieldsIn t open′ (fieldAfter t closed 0)

@@ -11,10 +11,12 @@ ghost use Rattle.geometry.specs.Plane.{edgeArea, areaOutpt};
 ghost use Rattle.exact.specs.Num.{Within};
 ghost use Rattle.listing.specs.Pour.{poured, pour};
 ghost use Rattle.listing.specs.Text.{SPACE, decimal, signedText};
-ghost use Rattle.listing.specs.Fields.{pointIn, Held, pointsIn, Run, Sized, valueLength, pathIn, FieldIn, pathsIn, fieldAfter, FieldsIn};
+ghost use Rattle.listing.specs.Fields.{pointIn, pointsIn, valueLength, pathIn, pathsIn, fieldAfter};
+ghost use Rattle.listing.specs.Needs.{Held, Run, Sized, FieldIn, FieldsIn};
 ghost use Rattle.listing.specs.Lines.{wordOf, pointText, pointsText, closedHead, headOf, lineOf, linesOf, firstLine, listingOf, refusedLine};
-ghost use Rattle.listing.specs.Lines as lines;
-ghost use Rattle.listing.specs.Told.{told, answerAt, tell, Listable};
+ghost use Rattle.listing.specs.Room as lines;
+ghost use Rattle.listing.specs.Told.{told, answerAt, tell};
+ghost use Rattle.listing.specs.Needs.{Listable};
 
 // A slice of so many bytes has room for the listing of any job.
 pub const TEXT: usize = 54 + 49 * Job::RECORDS + 44 * Job::POINTS;

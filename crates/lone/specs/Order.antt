@@ -8,8 +8,7 @@ use Prim.Native.Nat.{ℕ, _+_, _≤_, _<_}
 use lib.ListN.{length, getElem?}
 use Rattle.rings.specs.Progress.{Ring}
 use Rattle.lone.specs.Lone.{Geo, isDone, stepRing, offcutRing, takesRing}
-use Rattle.lone.specs.Forest.{Machine, initial, toList, Entry, ringless, openRing, closedRing, Fed, ok, full, outOfTurn, Forest, naming}
-use Rattle.lone.specs.Forest.{enter, at, OfClosed, cutFrom, offcutsOf, rank, allTaken, allCut, stepsState, stepsEntry, answer, answerTo, runForest}
+use Rattle.lone.specs.Forest.{Machine, initial, toList, Entry, ringless, openRing, closedRing, Fed, ok, full, outOfTurn, Forest, naming, enter, at, OfClosed, cutFrom, offcutsOf, rank, allTaken, allCut, stepsState, stepsEntry, answer, answerTo, runForest}
 
 -- the lone ring as a machine of the forest
 unfoldable pub machine : {P : Type 0} → Geo P → Machine (Ring P)

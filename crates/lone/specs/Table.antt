@@ -4,11 +4,8 @@ use mathlib.Core.List.{List, [], _∷_, _++_, map}
 use mathlib.Core.Option.{Option, none, some}
 use Prim.Native.Nat.{ℕ, suc}
 use lib.ListN.{length, getElem?}
-use Rattle.lone.specs.Forest.{Machine, initial, Entry, ringless, closedRing, Fed, naming, enter, at, cutFrom, offcutsOf, stepsState, stepsEntry}
-use mathlib.Core.List.{List, [], _∷_}
-use mathlib.Core.Option.{Option}
+use Rattle.lone.specs.Forest.{Machine, initial, Entry, ringless, closedRing, Fed, naming, enter, at, cutFrom, offcutsOf, stepsState, stepsEntry, isNamed}
 use mathlib.Core.Bool.{cond}
-use Rattle.lone.specs.Forest.{isNamed}
 
 module _ {S X : Type 0} (M : Machine S) where
   -- the records that opening left, from number k on, each stepped g of its number times

@@ -1,4 +1,4 @@
--- Little-endian numbers in a list of bytes: one definition for every width, of reading and of writing.
+-- Little-endian numbers in a list of bytes, read: one definition for every width. Writing is beside it (Written).
 use mathlib.Core.List.{List}
 use Prim.Native.Nat.{ℕ, zero, suc, _+_, _*_, _^_}
 use lib.ListN.{getD}

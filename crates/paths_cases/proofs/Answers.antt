@@ -19,7 +19,8 @@ use Rattle.paths.specs.Wrote.{wrote, buildPaths64}
 use Rattle.paths.specs.Walking.{Ready}
 use Rattle.listing.specs.declared.Listed.{Listed}
 use Rattle.listing.specs.declared.Listed.the-variants.{Bytes, NoRoom}
-use Rattle.listing.specs.Told.{Told, told, tell, Listable}
+use Rattle.listing.specs.Told.{Told, told, tell}
+use Rattle.listing.specs.Needs.{Listable}
 use Rattle.listing.proofs.Answers.{answer-listable}
 
 pub ready : (w : List ℕ) (v : Verdict) → LENGTH ≤ length w → v ≡ testsOf w → v ≡ Passed → Ready w

@@ -1,4 +1,4 @@
--- The walk along next from a point until it again, and what a whole ring is. A ring has at most as many points as a job may.
+-- The walk along next from a point until it again. A ring has at most as many points as a job may.
 use Prim.Native.Nat.{ℕ, zero, suc}
 use mathlib.Core.Bool.{cond}
 use mathlib.Core.List.{List, [], _∷_}

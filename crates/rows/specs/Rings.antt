@@ -1,4 +1,4 @@
--- The rings of a job's records, walked along next, with a mark for each point.
+-- The rings of a job's records, walked along next.
 use Prim.Native.Nat.{ℕ}
 use mathlib.Core.Bool.{Bool, false, not, _||_}
 use mathlib.Core.List.{List, [], _∷_}

@@ -1,5 +1,5 @@
--- What the level walks ask.
-use Prim.Native.Nat.{ℕ, _<_}
+-- What the level walks, a pair's moves and the first loop ask.
+use Prim.Native.Nat.{ℕ, _<_, _≤_}
 use mathlib.Core.List.{List}
 use Rattle.store.specs.Words.{view}
 use Rattle.joins.specs.Paths.{Lives}
@@ -7,8 +7,6 @@ use Rattle.joins.specs.Resolved.{Ready}
 use Rattle.segments.specs.declared.level.Halt.{Halt}
 use Rattle.segments.specs.declared.level.Halt.the-variants.{Wall, Stop, Limit}
 use Rattle.segments.specs.Level.{xOf}
-use Rattle.segments.specs.Needs.{Together}
-use Prim.Native.Nat.{ℕ, _≤_, _<_}
 use lib.ListN.{getD, length}
 use Rattle.job.specs.Limits as limit
 use Rattle.store.specs.Named.{pointsOf}

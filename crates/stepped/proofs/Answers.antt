@@ -18,7 +18,7 @@ use Rattle.paths.specs.declared.Written.the-variants.{Paths, Refused}
 use Rattle.paths.specs.Wrote.{Wrote, wrote, buildPaths64}
 use Rattle.finishing.specs.Write.{anyLive, writeBy, writeOf}
 use Rattle.finishing.proofs.Entering.{long-write}
-use Rattle.listing.specs.Told.{Listable}
+use Rattle.listing.specs.Needs.{Listable}
 use Rattle.listing.proofs.Answers.{answer-listable}
 
 never : {A : Type 0} (c o : ℕ) (x : Refusal) (t u : List ℕ) → wrote (Paths c o) u ≡ wrote (Refused x) t → A

@@ -1,4 +1,4 @@
--- A sound store: what the tests of a handed work space decide. Stated once, for opening, steps and writing out; its rings are computed from the links.
+-- What a store holds of its rings: counts, the ring of each record computed from the links, its step due, and whether it is open. What makes a store sound is beside it (Good).
 use Prim.Native.Nat.{ℕ, zero, suc, _%_, _<_}
 use mathlib.Core.Path.{_≡_}
 use mathlib.Core.Bool.{Bool, false, cond}

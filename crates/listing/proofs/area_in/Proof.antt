@@ -3,7 +3,8 @@ use borrow.Author.Needs.{needs}
 use mir.Syntax.{w64}
 use mir.Val.{toZ}
 use Rattle.geometry.specs.Plane.{areaOutpt}
-use Rattle.listing.specs.Fields.{pointsIn, Adding}
+use Rattle.listing.specs.Fields.{pointsIn}
+use Rattle.listing.specs.Needs.{Adding}
 use Rattle.listing.proofs.Runs.{none-area, adding-begins, adding-here, adding-ends, adding-fits, adding-on}
 use Rattle.listing.proofs.area_in.Statement.{statement}
 use Rattle.listing.proofs.area_in.Tie as tie

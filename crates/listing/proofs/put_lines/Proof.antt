@@ -1,6 +1,6 @@
 -- `listing::put_lines` meets its contract: the lines of the fields passed are poured.
 use borrow.Author.Needs.{needs}
-use Rattle.listing.specs.Lines.{Going}
+use Rattle.listing.specs.Needs.{Going}
 use Rattle.listing.proofs.Telling.{going-begins, going-length, going-after, going-ends, going-field, going-on}
 use Rattle.listing.proofs.put_lines.Statement.{statement}
 use Rattle.listing.proofs.put_lines.Tie as tie

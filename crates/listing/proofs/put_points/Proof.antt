@@ -1,6 +1,6 @@
 -- `listing::put_points` meets its contract: the points passed are poured.
 use borrow.Author.Needs.{needs}
-use Rattle.listing.specs.Lines.{Showing}
+use Rattle.listing.specs.Needs.{Showing}
 use Rattle.listing.proofs.Runs.{run-head, showing-begins, showing-on, showing-length, showing-ends}
 use Rattle.listing.proofs.put_points.Statement.{statement}
 use Rattle.listing.proofs.put_points.Tie as tie
