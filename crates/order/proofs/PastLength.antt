@@ -1,4 +1,5 @@
--- A step and writing out on a work space that is longer than it must be: as without the words past the fixed length.
+-- A step and writing out on a work space that is longer than it must be: as without the words past the fixed length. What opening, and finishing in one call, leave there:
+-- Zeros, Leaving.
 use Prim.Native.Nat.{ℕ, zero, suc, _*_, _≤_}
 use mathlib.Core.Path.{_≡_, refl, ap, _∙_, sym, fun-ext}
 use mathlib.Core.Bool.{Bool, cond, not, _&&_, _||_}
@@ -27,6 +28,8 @@ use Rattle.finishing.specs.Step.{Left, left, steppedAs, stepBy, stepOf}
 use Rattle.finishing.specs.Write.{anyLive, writeBy, writeOf}
 use Rattle.finishing.proofs.Entering.{long-step, long-write}
 use Rattle.order.specs.PastLength.{PastLength}
+use Rattle.order.proofs.Zeros.{open-zeros}
+use Rattle.order.proofs.Leaving.{finish-zeros}
 
 -- ---- the tests read the store only
 
@@ -96,4 +99,4 @@ module _ (v m : List ℕ) (n : length v ≡ LENGTH) where
       by verdict.Passed = ap (λ (s : Store). cond (anyLive s) (wrote (written.Refused OutOfTurn) t) (buildPaths64 s t)) (view-more m v long)
 
 pub past-length : PastLength
-past-length = record { steps = steps; writings = writings }
+past-length = record { steps = steps; writings = writings; openings = open-zeros; finishings = finish-zeros }
