@@ -6,7 +6,7 @@
 
 #define NONE 65535
 
-static uint8_t job[2 * OUTLINE_JOB_BYTES], tray[OUTLINE_TRAY_BYTES];
+static uint8_t job[2 * OUTLINE_JOB_BYTES], tray[OUTLINE_TRAY_BYTES], text[OUTLINE_TEXT_BYTES];
 static uint32_t work[OUTLINE_WORK_WORDS];
 static size_t length;
 static int faults;
@@ -129,8 +129,33 @@ static void other_refusals(void) {
     is("writing out no path", outline_write(work, OUTLINE_WORK_WORDS, tray, 0), 0);
 }
 
+/* The refusal that a listing says; 0 where it says none. */
+static uint32_t listed(uint32_t rate) {
+    unsigned refused = 0;
+    memset(text, 0, sizeof text);
+    uint64_t bytes = outline_list(job, length, work, OUTLINE_WORK_WORDS, tray, sizeof tray, rate, text, sizeof text);
+    is("a text", bytes, strlen((char *)text));
+    sscanf((char *)text, "refused %u", &refused);
+    return refused;
+}
+
+static void listings(void) {
+    largest();
+    is("no rate", listed(0), 0);
+    is("the largest rate", listed(OUTLINE_RATE), 0);
+    is("a larger rate", listed(OUTLINE_RATE + 1), OUTLINE_BAD_RATE);
+    memset(work, 7, sizeof work);
+    memset(tray, 7, sizeof tray);
+    memset(text, 7, sizeof text);
+    is("a byte of the text less", outline_list(job, length, work, OUTLINE_WORK_WORDS, tray, sizeof tray, 0, text, sizeof text - 1), 0);
+    is("the words then", work[0], 0x07070707);
+    is("the tray then", tray[0], 7);
+    is("the text then", text[0], 7);
+}
+
 int main(void) {
     lengths();
+    listings();
     counts();
     coordinates();
     other_refusals();

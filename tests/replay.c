@@ -1,15 +1,13 @@
 /* replay FILE: runs the stored answers of FILE (tests/answers/README.md) through liboutline.a with no Rust at hand: each job in one
- * call and by steps, its listing and every byte of its tray against what is stored. */
+ * call, listed, and by steps; its listing, its answer and every byte of its tray against what is stored. */
 #define _POSIX_C_SOURCE 200809L
-#include "listing.h"
 #include "outline.h"
+#include <stdio.h>
 #include <stdlib.h>
 #include <string.h>
 
-#define RECORDS 512
-
 static uint32_t work[OUTLINE_WORK_WORDS];
-static uint8_t tray[OUTLINE_TRAY_BYTES], wanted[OUTLINE_TRAY_BYTES];
+static uint8_t tray[OUTLINE_TRAY_BYTES], wanted[OUTLINE_TRAY_BYTES], text[OUTLINE_TEXT_BYTES];
 
 static void stop(const char *name, const char *what) {
     fprintf(stderr, "replay: %s: %s\n", name, what);
@@ -24,44 +22,34 @@ static size_t from_hex(const char *digits, uint8_t *bytes, size_t most) {
     return count;
 }
 
-/* The listing that an answer has, as text. */
-static char *listing_of(uint32_t answer) {
-    char *text;
-    size_t length;
-    FILE *out = open_memstream(&text, &length);
-    if (answer != 0)
-        fprintf(out, "refused %u\n", (unsigned)answer);
-    else
-        print_listing(out, tray, sizeof tray);
-    fclose(out);
-    return text;
-}
-
 /* Opens a job, steps its rings in rising record order until each is done, and writes out. */
 static uint32_t by_steps(const uint8_t *job, size_t length) {
     uint32_t answer = outline_open(job, length, work, OUTLINE_WORK_WORDS);
-    for (uint32_t record = 0; answer == 0 && record < RECORDS; record++) {
+    for (uint32_t record = 0; answer == 0 && record < OUTLINE_RECORDS; record++) {
         uint32_t stepped;
         while ((stepped = outline_step(work, OUTLINE_WORK_WORDS, record)) == 0) {
         }
-        if (stepped != 12) answer = stepped;
+        if (stepped != OUTLINE_OUT_OF_TURN) answer = stepped;
     }
     return answer != 0 ? answer : outline_write(work, OUTLINE_WORK_WORDS, tray, sizeof tray);
 }
 
-static void check(const char *name, const char *how, uint32_t answer, const char *listing) {
-    char *ours = listing_of(answer);
-    if (strcmp(ours, listing) != 0) stop(name, how);
+static void check(const char *name, const char *how, uint32_t answer, uint32_t refused) {
+    if (answer != refused) stop(name, how);
     if (answer == 0 && memcmp(tray, wanted, sizeof tray) != 0) stop(name, how);
-    free(ours);
 }
 
 static void run(const char *name, const uint8_t *job, size_t length, const char *listing) {
+    unsigned refused = 0;
+    sscanf(listing, "refused %u", &refused);
     memset(tray, 7, sizeof tray);
-    uint32_t answer = outline_finish(job, length, work, OUTLINE_WORK_WORDS, tray, sizeof tray);
-    check(name, "finished in one call it answers otherwise", answer, listing);
+    check(name, "finished in one call it answers otherwise", outline_finish(job, length, work, OUTLINE_WORK_WORDS, tray, sizeof tray), refused);
     memset(tray, 7, sizeof tray);
-    check(name, "finished by steps it answers otherwise", by_steps(job, length), listing);
+    check(name, "finished by steps it answers otherwise", by_steps(job, length), refused);
+    memset(tray, 7, sizeof tray);
+    uint64_t bytes = outline_list(job, length, work, OUTLINE_WORK_WORDS, tray, sizeof tray, 0, text, sizeof text);
+    if (bytes != strlen(listing) || memcmp(text, listing, bytes) != 0) stop(name, "it is listed otherwise");
+    check(name, "listed, its tray is another", refused, refused);
 }
 
 int main(int count, char **words) {
@@ -91,6 +79,6 @@ int main(int count, char **words) {
         }
     }
     if (cases == 0) stop(words[1], "no stored answers in it");
-    printf("replay: %zu stored answers, in one call and by steps, the same\n", cases);
+    printf("replay: %zu stored answers, in one call, by steps and listed, the same\n", cases);
     return 0;
 }

@@ -3,7 +3,7 @@
  *
  * Slices are a pointer and a count of elements, words of 32 bits and bytes. Any count will do, and so will any content: nothing outside a
  * slice is read or written, and every call ends. A pointer must point to as many elements as its count says, and be aligned for
- * them; with a count of 0 it may point anywhere but must not be null. The job, the work space and the tray must not overlap.
+ * them; with a count of 0 it may point anywhere but must not be null. The job, the work space, the tray and the text must not overlap.
  *
  * Nothing is kept between calls but the words of the work space, so two threads may use two work spaces at once. */
 #ifndef OUTLINE_H
@@ -57,6 +57,17 @@ extern "C" {
 #error "OUTLINE_TRAY_BYTES is not what the limits make it"
 #endif
 
+/* ---- the listing: two counts, then a line for each path, then, with a rate, the charge; or `refused` and the number */
+
+/* A text of so many bytes has room for the listing of any job; with a shorter one outline_list does nothing. */
+#define OUTLINE_TEXT_BYTES 115303
+#if OUTLINE_TEXT_BYTES != 54 + 49 * OUTLINE_RECORDS + 44 * OUTLINE_POINTS + 49
+#error "OUTLINE_TEXT_BYTES is not what the limits make it"
+#endif
+
+/* The largest rate, in cents for a square decimetre; 0 is none. */
+#define OUTLINE_RATE 1000
+
 /* ---- the answers: 0, or the refusal's number, the first that applies */
 
 enum outline_refusal {
@@ -71,7 +82,8 @@ enum outline_refusal {
     OUTLINE_KNOT = 9,          /* a join's second point is already the next of its first */
     OUTLINE_FULL = 10,         /* finishing needs more than 2,048 points or 512 records, or the work space is too short */
     OUTLINE_SMALL_TRAY = 11,   /* the paths need more bytes than the tray has */
-    OUTLINE_OUT_OF_TURN = 12   /* a step on a record that has none to take, or writing out before every closed ring is done */
+    OUTLINE_OUT_OF_TURN = 12,  /* a step on a record that has none to take, or writing out before every closed ring is done */
+    OUTLINE_BAD_RATE = 13      /* more than one rate is given, or one that is not a whole number from 1 to 1,000 */
 };
 
 /* ---- the calls */
@@ -82,6 +94,12 @@ uint64_t outline_work_words(void);
 /* Finishes a job in one call: opens it, steps every ring until it is done, and writes out. Refused: every word of the work space and every
  * byte of the tray is 0. Else the tray holds the paths, and past them every byte is 0; the work space holds the finished rings. */
 uint32_t outline_finish(const uint8_t *job, size_t job_bytes, uint32_t *work, size_t work_words, uint8_t *tray, size_t tray_bytes);
+
+/* Finishes a job as outline_finish does and writes its listing, ASCII with a line feed after each line, into the text; bytes past it stay. The
+ * answer is how many bytes the listing has, a refused job's too. A rate above OUTLINE_RATE is refused with 13 before the job is read, and
+ * words and tray then stay as found. 0: the text has fewer than OUTLINE_TEXT_BYTES bytes; then every word and every byte is as found. */
+uint64_t outline_list(const uint8_t *job, size_t job_bytes, uint32_t *work, size_t work_words, uint8_t *tray, size_t tray_bytes, uint32_t rate,
+                      uint8_t *text, size_t text_bytes);
 
 /* Opens a job: reads it and joins its rings. Refused: every word of the work space is 0. Else it holds the rings, each closed one at its start. */
 uint32_t outline_open(const uint8_t *job, size_t job_bytes, uint32_t *work, size_t work_words);

@@ -1,4 +1,5 @@
-// The listing of the job on standard input, on standard output: `list_job` does the work, and `main` only reads, calls and writes.
+// The listing of the job on standard input, on standard output, with the charge at the rate that is the program's argument, if there is one: `list_job` does the
+// work, and `main` only reads, calls and writes.
 use deciding::DECIDES;
 use job_listing::list_job;
 use libc::STDIN_FILENO;
@@ -6,10 +7,14 @@ use libc::STDOUT_FILENO;
 use listing::Listed;
 use listing::TEXT;
 use paths::TRAY;
+use rates::Rate;
+use rates::rate_of;
 use store::LENGTH;
 ghost use Prim.Native.Nat.{_≤_};
 ghost use lib.ListN.{length};
+ghost use Rattle.io.specs.Counts.{Counts};
 ghost use Rattle.listing.specs.Needs.{Whole};
+ghost use Rattle.cutlist.specs.Taking.{Untaken};
 
 // The first m bytes.
 fn first(s: &[u8], m: usize) -> &[u8]
@@ -30,13 +35,44 @@ fn say(text: &[u8], a: Listed)
     }
 }
 
+// How many arguments there are, the program's name left out.
+fn given(count: usize) -> usize {
+    if count == 0 {
+        return 0;
+    }
+    count - 1
+}
+
+// No argument that the system passes is as long; one that did not fit would be bad.
+const ARGUMENT: usize = 131072;
+
+// The rate that the arguments say.
+fn rate_given() -> Rate {
+    let mut arg = [0u8; ARGUMENT];
+    let count = os::arg_count();
+    let n = os::arg(1, &mut arg);
+    rate_of(given(count), &arg[..n])
+}
+
+// Reads the job, unless the rate is bad: then no byte is taken, and the buffer stays as it was.
+fn read_job(rate: Rate, job: &mut [u8]) -> usize
+    ensures { λ r. ⌜ Counts r (now (job .exit)) × Untaken rate (now (job .entry)) (now (job .exit)) ⌝ }
+{
+    match rate {
+        Rate::NoRate => io::read_full(STDIN_FILENO, job),
+        Rate::Cents(n) => io::read_full(STDIN_FILENO, job),
+        Rate::Bad => 0,
+    }
+}
+
 // Reads as many bytes as decide any job: what follows them changes nothing of the listing (`cutlist-decided`, crate job_listing).
 fn main() {
     let mut job = [0u8; DECIDES];
     let mut work = [0u32; LENGTH];
     let mut tray = [0u8; TRAY];
     let mut text = [0u8; TEXT];
-    let n = io::read_full(STDIN_FILENO, &mut job);
-    let a = list_job(&job[..n], &mut work, &mut tray, &mut text);
+    let rate = rate_given();
+    let n = read_job(rate, &mut job);
+    let a = list_job(&job[..n], rate, &mut work, &mut tray, &mut text);
     say(&text, a);
 }

@@ -1,7 +1,7 @@
--- Document 01's table of refusals: the number of each.
+-- The table of refusals: document 01's twelve, and document 02's 13 "bad rate".
 use Prim.Native.Nat.{ℕ}
 use Rattle.job.specs.declared.refusal.Refusal.{Refusal}
-use Rattle.job.specs.declared.refusal.Refusal.the-variants.{Torn, Strange, Crowded, OffTheTable, NoSuch, Loose, Muddled, OpenEdge, Knot, Full, SmallTray, OutOfTurn}
+use Rattle.job.specs.declared.refusal.Refusal.the-variants.{Torn, Strange, Crowded, OffTheTable, NoSuch, Loose, Muddled, OpenEdge, Knot, Full, SmallTray, OutOfTurn, BadRate}
 
 abbrev pub numberOf : Refusal → ℕ
 numberOf Torn = 1
@@ -16,3 +16,4 @@ numberOf Knot = 9
 numberOf Full = 10
 numberOf SmallTray = 11
 numberOf OutOfTurn = 12
+numberOf BadRate = 13

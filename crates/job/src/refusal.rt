@@ -1,4 +1,4 @@
-// The refusals of document 01's table.
+// The refusals of document 01's table, and 13 of document 02.
 ghost use mathlib.Core.Path.{_≡_};
 ghost use Rattle.job.specs.Refusal.{numberOf};
 
@@ -15,6 +15,7 @@ pub enum Refusal {
     Full,
     SmallTray,
     OutOfTurn,
+    BadRate,
 }
 
 impl Refusal {
@@ -35,6 +36,7 @@ impl Refusal {
             Refusal::Full => 10,
             Refusal::SmallTray => 11,
             Refusal::OutOfTurn => 12,
+            Refusal::BadRate => 13,
         }
     }
 }

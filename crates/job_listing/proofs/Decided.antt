@@ -3,10 +3,11 @@ use mathlib.Core.Path.{_≡_, ap}
 use mathlib.Core.List.{List}
 use Prim.Native.Nat.{ℕ}
 use lib.ListN.{take}
+use Rattle.rates.specs.declared.Rate.{Rate}
 use Rattle.deciding.specs.Decides.{DECIDES}
 use Rattle.deciding.proofs.Decided.{finish-decided}
 use Rattle.job_listing.specs.Cutlist.{listedFrom, cutlistOf}
 
-pub cutlist-decided : (bytes : List ℕ) (n : ℕ) (t : List ℕ) → cutlistOf (take DECIDES bytes) n t ≡ cutlistOf bytes n t
+pub cutlist-decided : (rate : Rate) (bytes : List ℕ) (n : ℕ) (t : List ℕ) → cutlistOf rate (take DECIDES bytes) n t ≡ cutlistOf rate bytes n t
 unfolding cutlistOf
-cutlist-decided bytes n t = ap listedFrom (finish-decided bytes n t)
+cutlist-decided rate bytes n t = ap (listedFrom rate) (finish-decided bytes n t)

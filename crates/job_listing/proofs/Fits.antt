@@ -6,6 +6,10 @@ use native.Mathlib.Omega.{arith}
 use lib.ListN.{length, take, drop, length-append, length-take, length-drop}
 use borrow.Author.Tests.{le-leb}
 use Rattle.job.specs.Refusal.{numberOf}
+use Rattle.job.specs.declared.refusal.Refusal.the-variants.{BadRate}
+use Rattle.rates.specs.declared.Rate.{Rate}
+use Rattle.rates.specs.declared.Rate.the-variants.{NoRate, Cents, Bad}
+use Rattle.rates.specs.Rate.{asked}
 use Rattle.store.specs.Words.{view}
 use Rattle.store.specs.Good.{Sound}
 use Rattle.acts.specs.Finish.{RingsEnd, ringsDone, ringsFull}
@@ -21,27 +25,33 @@ use Rattle.finishing.specs.InOneCall.{Finished, afterWriting, afterSteps, after
 use Rattle.finishing.proofs.InOneCall.{done-ready, opening-left}
 use Rattle.listing.specs.declared.Listed.{Listed}
 use Rattle.listing.specs.declared.Listed.the-variants.{Bytes}
+use Rattle.listing.specs.Lines.{refusedLine}
 use Rattle.listing.specs.Room.{TEXT}
 use Rattle.listing.specs.Told.{Told, told, answerAt, tell}
 use Rattle.listing.specs.Needs.{Whole}
 use Rattle.listing.proofs.Answers.{written-out}
-use Rattle.listing.proofs.Room.{listing-le, refusal-le}
-use Rattle.job_listing.specs.Cutlist.{listedAs, listedFrom, cutlistOf, ListedJob, listedJob, listJobOf}
+use Rattle.listing.proofs.Room.{listing-le, charged-le, refusal-le}
+use Rattle.job_listing.specs.Cutlist.{pathsAt, listedFrom, cutlistOf, ListedJob, listedJob, listedBy, listJobOf}
 
-module _ (t : List ℕ) where
-  after-writing : (w : List ℕ) → Sound (view w) → (r : Written) (u : List ℕ) → wrote r u ≡ buildPaths64 (view w) t → length (listedFrom (afterWriting w r u)) ≤ TEXT
-  after-writing w s (Paths c o) u e = let p = written-out (view w) c o t u e in rw (p .closed, p .opened, p .tray) (listing-le (view w) s (length t))
+module _ (rate : Rate) (t : List ℕ) where
+  at-rate : (q : Rate) (c o : ℕ) (w u : List ℕ) → Sound (view w) → wrote (Paths c o) u ≡ buildPaths64 (view w) t → length (pathsAt q c o u) ≤ TEXT
+  at-rate NoRate c o w u s e = let p = written-out (view w) c o t u e in rw (p .closed, p .opened, p .tray) (listing-le (view w) s (length t))
+  at-rate (Cents n) c o w u s e = let p = written-out (view w) c o t u e in rw (p .closed, p .opened, p .tray) (charged-le (view w) s (length t) n)
+  at-rate Bad c o w u s e = refusal-le (numberOf BadRate)
+
+  after-writing : (w : List ℕ) → Sound (view w) → (r : Written) (u : List ℕ) → wrote r u ≡ buildPaths64 (view w) t → length (listedFrom rate (afterWriting w r u)) ≤ TEXT
+  after-writing w s (Paths c o) u e = at-rate rate c o w u s e
   after-writing w s (Refused x) u e = refusal-le (numberOf x)
 
-  after-steps : (w : List ℕ) → OpeningLeft w → (r : RingsEnd) → finishRings w ≡ r → length (listedFrom (afterSteps r t)) ≤ TEXT
+  after-steps : (w : List ℕ) → OpeningLeft w → (r : RingsEnd) → finishRings w ≡ r → length (listedFrom rate (afterSteps r t)) ≤ TEXT
   after-steps w l (ringsDone w₁) e = after-writing w₁ (done-ready w w₁ l e .sound) (buildPaths64 (view w₁) t .answer) (buildPaths64 (view w₁) t .tray) refl
   after-steps w l (ringsFull w₁) e = refusal-le 10
 
-  pub cutlist-fits : (bytes : List ℕ) (n : ℕ) → length (cutlistOf bytes n t) ≤ TEXT
+  pub cutlist-fits : (bytes : List ℕ) (n : ℕ) → length (cutlistOf rate bytes n t) ≤ TEXT
   unfolding cutlistOf finishOf
   cutlist-fits bytes n = go (openOf bytes n) refl
     where
-      go : (r : End) → openOf bytes n ≡ r → length (listedFrom (afterOpening r t)) ≤ TEXT
+      go : (r : End) → openOf bytes n ≡ r → length (listedFrom rate (afterOpening r t)) ≤ TEXT
       go (end Accepted w) h = after-steps w (opening-left bytes n w h) (finishRings w) refl
       go (end (opened.Refused x) w) h = refusal-le (numberOf x)
 
@@ -52,10 +62,14 @@ tell-whole text out h =
     rw (le-leb (length text) (length out) h)
     (omega (arith, length-append (take (length out) text) (drop (length text) out), length-take (length out) text, length-drop (length text) out))
 
+by-whole : (q : Rate) (bytes w t out : List ℕ) → TEXT ≤ length out → Whole (listedBy q bytes w t out .text .answer) (length (listedBy q bytes w t out .text .out))
+unfolding cutlistOf
+by-whole NoRate bytes w t out h = tell-whole (listedFrom NoRate (finishOf bytes (length w) t)) out (omega (arith, h, cutlist-fits NoRate t bytes (length w)))
+by-whole (Cents n) bytes w t out h = tell-whole (listedFrom (Cents n) (finishOf bytes (length w) t)) out (omega (arith, h, cutlist-fits (Cents n) t bytes (length w)))
+by-whole Bad bytes w t out h = tell-whole (refusedLine (numberOf BadRate)) out (omega (arith, h, refusal-le (numberOf BadRate)))
+
 -- so `list_job` never answers that there is no room
-pub listed-whole : (bytes : List ℕ) (n : ℕ) (t w′ t′ out out′ : List ℕ) (a : Listed) → TEXT ≤ length out → listedJob (told a out′) w′ t′ ≡ listJobOf bytes n t out → Whole a (length out′)
-unfolding listJobOf cutlistOf
-listed-whole bytes n t w′ t′ out out′ a h e =
-    let f : Finished = finishOf bytes n t in
-    subst (λ (x : Told). Whole (x .answer) (length (x .out))) (sym (ap (λ (x : ListedJob). x .text) e))
-    (tell-whole (listedFrom f) out (omega (arith, h, cutlist-fits t bytes n)))
+pub listed-whole : (rate : Rate) (bytes w t w′ t′ out out′ : List ℕ) (a : Listed) → TEXT ≤ length out → listedJob (told a out′) w′ t′ ≡ listJobOf rate bytes w t out → Whole a (length out′)
+unfolding listJobOf
+listed-whole rate bytes w t w′ t′ out out′ a h e =
+    subst (λ (x : Told). Whole (x .answer) (length (x .out))) (sym (ap (λ (x : ListedJob). x .text) e)) (by-whole (asked rate) bytes w t out h)

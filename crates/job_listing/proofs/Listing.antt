@@ -1,10 +1,16 @@
 -- What finishing in one call answers can be listed, and the listing is the job's.
-use Prim.Native.Nat.{ℕ}
+use Prim.Native.Nat.{ℕ, _≤_}
 use mathlib.Core.Path.{_≡_, refl, sym, ap, _∙_, subst}
 use mathlib.Core.List.{List}
 use native.Mathlib.Omega.{arith}
+use lib.ListN.{length}
 use Rattle.job.specs.Refusal.{numberOf}
 use Rattle.job.specs.declared.refusal.Refusal.{Refusal}
+use Rattle.job.specs.declared.refusal.Refusal.the-variants.{BadRate}
+use Rattle.rates.specs.declared.Rate.{Rate}
+use Rattle.rates.specs.declared.Rate.the-variants.{NoRate, Cents, Bad}
+use Rattle.rates.specs.Rate.{LARGEST, asked}
+use Rattle.rates.proofs.Digits.{cents-low}
 use Rattle.store.specs.Words.{view}
 use Rattle.store.specs.Good.{Sound}
 use Rattle.acts.specs.Finish.{RingsEnd, ringsDone, ringsFull}
@@ -19,11 +25,12 @@ use Rattle.finishing.specs.Finish.{finishRings}
 use Rattle.finishing.specs.InOneCall.{Finished, finished, afterWriting, afterSteps, afterOpening, finishOf}
 use Rattle.finishing.proofs.InOneCall.{done-ready, opening-left}
 use Rattle.listing.specs.Told.{Told, told, tell}
-use Rattle.listing.specs.Needs.{Listable}
+use Rattle.listing.specs.Needs.{Listable, Summable}
 use Rattle.listing.specs.Lines.{listingOf, refusedLine}
 use Rattle.listing.specs.declared.Listed.{Listed}
-use Rattle.listing.proofs.Answers.{answer-listable}
-use Rattle.job_listing.specs.Cutlist.{listedAs, listedJob, listedOut, listJobOf}
+use Rattle.listing.specs.Charge.{chargedOf}
+use Rattle.listing.proofs.Answers.{answer-listable, answer-summable}
+use Rattle.job_listing.specs.Cutlist.{pathsAt, listedAs, listedJob, listedOut, listedBy, listJobOf}
 
 never : {A : Type 0} (c o : ℕ) (x : Refusal) (w t w′ t′ : List ℕ) → finished (Paths c o) w t ≡ finished (Refused x) w′ t′ → A
 never c o x w t w′ t′ e =
@@ -31,45 +38,84 @@ never c o x w t w′ t′ e =
     let z : _≡_ {A = ℕ} 0 1 = cc in
     absurd (omega arith)
 
+-- the tray that writing out left, from a sound store
+record From (c o : ℕ) (t′ : List ℕ) : Type 0 where
+  words : List ℕ
+  sound : Sound (view words)
+  before : List ℕ
+  is : wrote (Paths c o) t′ ≡ buildPaths64 (view words) before
+
 module _ (c o : ℕ) (w′ t′ t : List ℕ) where
-  after-writing : (w : List ℕ) → Sound (view w) → (b : Wrote) → buildPaths64 (view w) t ≡ b → finished (Paths c o) w′ t′ ≡ afterWriting w (b .answer) (b .tray) → Listable c o t′
+  after-writing : (w : List ℕ) → Sound (view w) → (b : Wrote) → buildPaths64 (view w) t ≡ b → finished (Paths c o) w′ t′ ≡ afterWriting w (b .answer) (b .tray) → From c o t′
   after-writing w s b h e = go (b .answer) refl e
     where
-      go : (r : Written) → b .answer ≡ r → finished (Paths c o) w′ t′ ≡ afterWriting w r (b .tray) → Listable c o t′
+      go : (r : Written) → b .answer ≡ r → finished (Paths c o) w′ t′ ≡ afterWriting w r (b .tray) → From c o t′
       go (Paths c₁ o₁) f g =
           let p : Paths c o ≡ Paths c₁ o₁ = ap (λ (z : Finished). z .answer) g in
           let q : t′ ≡ b .tray = ap (λ (z : Finished). z .tray) g in
           let y : wrote (Paths c o) t′ ≡ wrote (b .answer) (b .tray) = cc (p, q, f) in
-          answer-listable (view w) c o t t′ s (y ∙ sym h)
+          record { words = w; sound = s; before = t; is = y ∙ sym h }
       go (Refused x) f g = never c o x _ _ _ _ g
 
-  after-steps : (w : List ℕ) → OpeningLeft w → (r : RingsEnd) → finishRings w ≡ r → finished (Paths c o) w′ t′ ≡ afterSteps r t → Listable c o t′
+  after-steps : (w : List ℕ) → OpeningLeft w → (r : RingsEnd) → finishRings w ≡ r → finished (Paths c o) w′ t′ ≡ afterSteps r t → From c o t′
   after-steps w l (ringsDone w₁) h e = after-writing w₁ (done-ready w w₁ l h .sound) (buildPaths64 (view w₁) t) refl e
   after-steps w l (ringsFull w₁) h e = never c o _ _ _ _ _ e
 
-  -- what finishing leaves in the tray can be listed
-  pub finish-listable : (bytes : List ℕ) (n : ℕ) → finished (Paths c o) w′ t′ ≡ finishOf bytes n t → Listable c o t′
+  finish-from : (bytes : List ℕ) (n : ℕ) → finished (Paths c o) w′ t′ ≡ finishOf bytes n t → From c o t′
   unfolding finishOf
-  finish-listable bytes n e = go (openOf bytes n) refl e
+  finish-from bytes n e = go (openOf bytes n) refl e
     where
-      go : (r : End) → openOf bytes n ≡ r → finished (Paths c o) w′ t′ ≡ afterOpening r t → Listable c o t′
+      go : (r : End) → openOf bytes n ≡ r → finished (Paths c o) w′ t′ ≡ afterOpening r t → From c o t′
       go (end Accepted w) h g = after-steps w (opening-left bytes n w h) (finishRings w) refl g
       go (end (opened.Refused x) w) h g = never c o x _ _ _ _ g
 
 module _ (bytes : List ℕ) (n : ℕ) (t w′ t′ : List ℕ) (r : Written) (e : finished r w′ t′ ≡ finishOf bytes n t) where
-  is-listed : (out : List ℕ) → listedJob (tell (listedAs r t′) out) w′ t′ ≡ listJobOf bytes n t out
+  module _ (c o : ℕ) (h : r ≡ Paths c o) where
+    from : From c o t′
+    from = finish-from c o w′ t′ t bytes n (subst (λ (z : Written). finished z w′ t′ ≡ finishOf bytes n t) h e)
+
+    -- what finishing leaves in the tray can be listed, and charged
+    pub may-list : Listable c o t′
+    may-list = let f = from in answer-listable (view (f .words)) c o (f .before) t′ (f .sound) (f .is)
+
+    pub may-charge : Summable t′ c
+    may-charge = let f = from in answer-summable (view (f .words)) c o (f .before) t′ (f .sound) (f .is)
+
+  module _ (rate : Rate) (out out′ : List ℕ) (a : Listed) where
+    as-listed : (text : List ℕ) → listedAs rate r t′ ≡ text → told a out′ ≡ tell text out → listedJob (told a out′) w′ t′ ≡ listedOut rate (finishOf bytes n t) out
+    as-listed text h g = ap (λ (x : Told). listedJob x w′ t′) (g ∙ ap (λ (s : List ℕ). tell s out) (sym h)) ∙ ap (λ (f : Finished). listedOut rate f out) e
+
+    paths-listed : (c o : ℕ) → r ≡ Paths c o → told a out′ ≡ tell (pathsAt rate c o t′) out → listedJob (told a out′) w′ t′ ≡ listedOut rate (finishOf bytes n t) out
+    paths-listed c o h g = as-listed (pathsAt rate c o t′) (ap (λ (z : Written). listedAs rate z t′) h) g
+
+    pub refusal-listed : (x : Refusal) → r ≡ Refused x → told a out′ ≡ tell (refusedLine (numberOf x)) out → listedJob (told a out′) w′ t′ ≡ listedOut rate (finishOf bytes n t) out
+    refusal-listed x h g = as-listed (refusedLine (numberOf x)) (ap (λ (z : Written). listedAs rate z t′) h) g
+
+  module _ (out out′ : List ℕ) (a : Listed) (c o : ℕ) (h : r ≡ Paths c o) where
+    pub plain-listed : told a out′ ≡ tell (listingOf c o t′) out → listedJob (told a out′) w′ t′ ≡ listedOut NoRate (finishOf bytes n t) out
+    plain-listed g = paths-listed NoRate out out′ a c o h g
+
+    pub charged-listed : (rate : ℕ) → told a out′ ≡ tell (chargedOf rate c o t′) out → listedJob (told a out′) w′ t′ ≡ listedOut (Cents rate) (finishOf bytes n t) out
+    charged-listed rate g = paths-listed (Cents rate) out out′ a c o h g
+
+-- the line of a refusal, by its number
+pub line-is : (x : Refusal) (k : ℕ) (out out′ : List ℕ) (a : Listed) → k ≡ numberOf x → told a out′ ≡ tell (refusedLine k) out → told a out′ ≡ tell (refusedLine (numberOf x)) out
+line-is x k out out′ a e g = g ∙ ap (λ (m : ℕ). tell (refusedLine m) out) e
+
+-- ---- by the rate
+
+module _ (rate q : Rate) (e : q ≡ asked rate) (bytes w t out out′ w′ t′ : List ℕ) (a : Listed) where
+  pub by-none : q ≡ NoRate → listedJob (told a out′) w′ t′ ≡ listedOut NoRate (finishOf bytes (length w) t) out → listedJob (told a out′) w′ t′ ≡ listJobOf rate bytes w t out
   unfolding listJobOf
-  is-listed out = ap (λ (f : Finished). listedOut f out) e
+  by-none h g = g ∙ ap (λ (p : Rate). listedBy p bytes w t out) (sym h ∙ e)
 
-  pub may-list : (c o : ℕ) → r ≡ Paths c o → Listable c o t′
-  may-list c o h = finish-listable c o w′ t′ t bytes n (subst (λ (z : Written). finished z w′ t′ ≡ finishOf bytes n t) h e)
+  pub by-cents : (n : ℕ) → q ≡ Cents n → listedJob (told a out′) w′ t′ ≡ listedOut (Cents n) (finishOf bytes (length w) t) out → listedJob (told a out′) w′ t′ ≡ listJobOf rate bytes w t out
+  unfolding listJobOf
+  by-cents n h g = g ∙ ap (λ (p : Rate). listedBy p bytes w t out) (sym h ∙ e)
 
-  module _ (out out′ : List ℕ) (a : Listed) where
-    as-listed : (text : List ℕ) → listedAs r t′ ≡ text → told a out′ ≡ tell text out → listedJob (told a out′) w′ t′ ≡ listJobOf bytes n t out
-    as-listed text h g = ap (λ (x : Told). listedJob x w′ t′) (g ∙ ap (λ (s : List ℕ). tell s out) (sym h)) ∙ is-listed out
+pub by-bad : (rate q : Rate) (bytes w t out out′ : List ℕ) (a : Listed) → q ≡ asked rate → q ≡ Bad → told a out′ ≡ tell (refusedLine (numberOf BadRate)) out → listedJob (told a out′) w t ≡ listJobOf rate bytes w t out
+unfolding listJobOf
+by-bad rate q bytes w t out out′ a e h g = ap (λ (x : Told). listedJob x w t) g ∙ ap (λ (p : Rate). listedBy p bytes w t out) (sym h ∙ e)
 
-    pub all-listed : (c o : ℕ) → r ≡ Paths c o → told a out′ ≡ tell (listingOf c o t′) out → listedJob (told a out′) w′ t′ ≡ listJobOf bytes n t out
-    all-listed c o h g = as-listed (listingOf c o t′) (ap (λ (z : Written). listedAs z t′) h) g
-
-    pub refusal-listed : (x : Refusal) (k : ℕ) → r ≡ Refused x → k ≡ numberOf x → told a out′ ≡ tell (refusedLine k) out → listedJob (told a out′) w′ t′ ≡ listJobOf bytes n t out
-    refusal-listed x k h i g = as-listed (refusedLine k) (ap (λ (z : Written). listedAs z t′) h ∙ ap refusedLine (sym i)) g
+pub given-low : (rate q : Rate) (n : ℕ) → q ≡ asked rate → q ≡ Cents n → n ≤ LARGEST
+given-low rate q n e h = cents-low rate n (sym h ∙ e)

@@ -4,6 +4,7 @@ use mathlib.Core.Path.{_≡_, refl}
 use mathlib.Core.List.{List, [], _∷_, _++_}
 use lib.Ieee.{toSigned, add, ofInt, mul}
 use lib.ListN.{replicate}
+use Rattle.rates.specs.declared.Rate.the-variants.{NoRate}
 use Rattle.geometry.specs.Plane.{samePoint, isCollinear, dotProductThreePoints, areaTriangle, areaOutpt, ptsReallyClose, isVerySmallTriangle, removable, strictlyWithin, segmentsIntersect}
 use Rattle.geometry.specs.Crossing.{fractionOf, crossing, coordinateAt, getSegmentIntersectPt}
 use Rattle.job.specs.Field.{bodyOf, fieldOf}
@@ -58,6 +59,6 @@ text =
     ++ (104 ∷ 111 ∷ 108 ∷ 101 ∷ 32 ∷ 51 ∷ 32 ∷ 45 ∷ 53 ∷ 48 ∷ 32 ∷ 49 ∷ 48 ∷ 44 ∷ 49 ∷ 48 ∷ 32 ∷ 49 ∷ 48 ∷ 44 ∷ 48 ∷ 32 ∷ 53 ∷ 44 ∷ 53 ∷ 10 ∷ [])
 
 -- in a tray that holds sevens
-pub paper : cutlistOf job LENGTH (replicate 64 7) ≡ text
+pub paper : cutlistOf NoRate job LENGTH (replicate 64 7) ≡ text
 unfolding cutlistOf finishOf openOf stagesOf acceptOf readOf fillOf run turnOf fieldOf bodyOf rowsOf endsIn findIn anyIn walk.run anyBelow cell put convertHorzSegsToJoins pairsOf sortedSegments segmentsOf updateFrom sorted outerFrom joinsFrom startRings startTo startRing finishRings finishW finishRecord answerS stepW wordOf samePoint isCollinear dotProductThreePoints areaTriangle areaOutpt ptsReallyClose isVerySmallTriangle removable strictlyWithin segmentsIntersect fractionOf crossing coordinateAt getSegmentIntersectPt removalTurn doSplitOp splitTurn decide actOf buildPath64FromOutpt pointAt pathAt pathIf pointBytes pathField fieldsOf buildPaths64 toSigned add ofInt mul listingOf digits pointIn
 paper = refl

@@ -1,24 +1,36 @@
--- The listing of a job: document 01, "The listing", of what finishing it in one call answers and writes.
+-- The listing of a job: document 01, "The listing", of what finishing it in one call answers and writes; with document 02's charge, at a rate.
 use Prim.Native.Nat.{ℕ}
 use mathlib.Core.List.{List}
+use lib.ListN.{length}
 use Rattle.job.specs.Refusal.{numberOf}
+use Rattle.job.specs.declared.refusal.Refusal.the-variants.{BadRate}
+use Rattle.rates.specs.declared.Rate.{Rate}
+use Rattle.rates.specs.declared.Rate.the-variants.{NoRate, Cents, Bad}
+use Rattle.rates.specs.Rate.{asked}
 use Rattle.paths.specs.declared.Written.{Written}
 use Rattle.paths.specs.declared.Written.the-variants.{Paths, Refused}
 use Rattle.listing.specs.Lines.{listingOf, refusedLine}
+use Rattle.listing.specs.Charge.{chargedOf}
 use Rattle.listing.specs.Told.{Told, tell}
 use Rattle.finishing.specs.InOneCall.{Finished, finishOf}
 
+-- of an accepted job's paths: "Without an argument the listing has no such line"
+abbrev pub pathsAt : Rate → ℕ → ℕ → List ℕ → List ℕ
+pathsAt NoRate closed open′ t = listingOf closed open′ t
+pathsAt (Cents n) closed open′ t = chargedOf n closed open′ t
+pathsAt Bad closed open′ t = refusedLine (numberOf BadRate)
+
 -- of the answer and the tray: "A refusal prints `refused` and its number only"
-abbrev pub listedAs : Written → List ℕ → List ℕ
-listedAs (Paths closed open′) t = listingOf closed open′ t
-listedAs (Refused x) t = refusedLine (numberOf x)
+abbrev pub listedAs : Rate → Written → List ℕ → List ℕ
+listedAs rate (Paths closed open′) t = pathsAt rate closed open′ t
+listedAs rate (Refused x) t = refusedLine (numberOf x)
 
-abbrev pub listedFrom : Finished → List ℕ
-listedFrom f = listedAs (f .answer) (f .tray)
+abbrev pub listedFrom : Rate → Finished → List ℕ
+listedFrom rate f = listedAs rate (f .answer) (f .tray)
 
--- of the job's bytes, in a work space of n words and a tray t
-unfoldable pub cutlistOf : List ℕ → ℕ → List ℕ → List ℕ
-cutlistOf bytes n t = listedFrom (finishOf bytes n t)
+-- of the job's bytes, in a work space of n words and a tray t, at a rate that is not bad
+unfoldable pub cutlistOf : Rate → List ℕ → ℕ → List ℕ → List ℕ
+cutlistOf rate bytes n t = listedFrom rate (finishOf bytes n t)
 
 -- ---- `list_job`
 
@@ -32,8 +44,18 @@ abbrev pub listedJob : Told → List ℕ → List ℕ → ListedJob
 listedJob x w t = record { text = x; words = w; tray = t }
 
 -- words and tray are those of finishing in one call, and the text is their listing, as far as `out` has room for it
-abbrev pub listedOut : Finished → List ℕ → ListedJob
-listedOut f out = listedJob (tell (listedFrom f) out) (f .words) (f .tray)
+abbrev pub listedOut : Rate → Finished → List ℕ → ListedJob
+listedOut rate f out = listedJob (tell (listedFrom rate f) out) (f .words) (f .tray)
 
-unfoldable pub listJobOf : List ℕ → ℕ → List ℕ → List ℕ → ListedJob
-listJobOf bytes n t out = listedOut (finishOf bytes n t) out
+-- 13, "tested before the job is read": nothing else is touched
+abbrev pub badOut : List ℕ → List ℕ → List ℕ → ListedJob
+badOut w t out = listedJob (tell (refusedLine (numberOf BadRate)) out) w t
+
+abbrev pub listedBy : Rate → List ℕ → List ℕ → List ℕ → List ℕ → ListedJob
+listedBy NoRate bytes w t out = listedOut NoRate (finishOf bytes (length w) t) out
+listedBy (Cents n) bytes w t out = listedOut (Cents n) (finishOf bytes (length w) t) out
+listedBy Bad bytes w t out = badOut w t out
+
+-- by the rate, the job's bytes, the work space, the tray and the slice that are handed over
+unfoldable pub listJobOf : Rate → List ℕ → List ℕ → List ℕ → List ℕ → ListedJob
+listJobOf rate bytes w t out = listedBy (asked rate) bytes w t out

@@ -13,8 +13,9 @@ use Rattle.paths.specs.declared.Written.the-variants.{Paths, Refused}
 use Rattle.paths.specs.Path.{closedPaths, openPaths}
 use Rattle.paths.specs.Tray.{fieldsOf, padded}
 use Rattle.paths.specs.Wrote.{Wrote, wrote, buildPaths64}
-use Rattle.listing.specs.Needs.{Listable}
+use Rattle.listing.specs.Needs.{Listable, Summable}
 use Rattle.listing.proofs.Trays.{written-listable}
+use Rattle.listing.proofs.Room.{written-summable}
 
 -- the tray and the two counts, where writing out was not refused
 pub record Out (s : Store) (c o : ℕ) (t u : List ℕ) : Type 0 where
@@ -37,3 +38,6 @@ written-out s c o t u e = go (leb (length (fieldsOf s)) (length t)) e
 
 pub answer-listable : (s : Store) (c o : ℕ) (t u : List ℕ) → Sound s → wrote (Paths c o) u ≡ buildPaths64 s t → Listable c o u
 answer-listable s c o t u d e = let w = written-out s c o t u e in rw (w .closed, w .opened, w .tray) (written-listable s d (length t))
+
+pub answer-summable : (s : Store) (c o : ℕ) (t u : List ℕ) → Sound s → wrote (Paths c o) u ≡ buildPaths64 s t → Summable u c
+answer-summable s c o t u d e = let w = written-out s c o t u e in rw (w .closed, w .tray) (written-summable s d (length t))

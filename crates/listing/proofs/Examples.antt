@@ -1,11 +1,13 @@
--- Document 01's listing, whole, from the tray's bytes; and a refusal's line. By evaluation.
+-- Document 01's listing, whole, from the tray's bytes; the same with the charge; and a refusal's line. By evaluation.
 use Prim.Native.Nat.{ℕ}
 use mathlib.Core.Path.{_≡_, refl}
 use mathlib.Core.List.{List, [], _∷_, _++_}
+use Rattle.rates.specs.Charge.{chargeOf}
 use Rattle.geometry.specs.Plane.{areaOutpt}
 use Rattle.listing.specs.Text.{digits}
 use Rattle.listing.specs.Fields.{pointIn}
 use Rattle.listing.specs.Lines.{listingOf, refusedLine}
+use Rattle.listing.specs.Charge.{chargedOf}
 
 -- closed 5,5 0,12 0,0, then closed 10,10 10,0 5,5
 tray : List ℕ
@@ -25,6 +27,11 @@ text =
 paper : listingOf 2 0 tray ≡ text
 unfolding listingOf digits pointIn areaOutpt tray text
 paper = refl
+
+-- charge 0 10000: 60 less 50, times 1,000
+charged : chargedOf 1000 2 0 tray ≡ text ++ (99 ∷ 104 ∷ 97 ∷ 114 ∷ 103 ∷ 101 ∷ 32 ∷ 48 ∷ 32 ∷ 49 ∷ 48 ∷ 48 ∷ 48 ∷ 48 ∷ 10 ∷ [])
+unfolding chargedOf chargeOf listingOf digits pointIn areaOutpt tray text
+charged = refl
 
 -- refused 12
 refused : refusedLine 12 ≡ 114 ∷ 101 ∷ 102 ∷ 117 ∷ 115 ∷ 101 ∷ 100 ∷ 32 ∷ 49 ∷ 50 ∷ 10 ∷ []

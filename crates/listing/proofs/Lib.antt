@@ -5,6 +5,7 @@ pub mod Signs
 pub mod Points
 pub mod Runs
 pub mod Heads
+pub mod Charging
 pub mod Telling
 pub mod Examples
 pub mod Trays

@@ -6,7 +6,7 @@ use mathlib.Core.List.{List, [], _∷_, _++_}
 use mathlib.Core.Option.{Option, none, some}
 use native.Mathlib.Omega.{arith}
 use lib.Dec.{ltb}
-use lib.IntN.{ℤ, pos, negsuc}
+use lib.IntN.{ℤ, pos, negsuc, natAbs}
 use lib.ListN.{length, length-append}
 use Rattle.rings.specs.Count.{sumTo}
 use Rattle.geometry.specs.declared.Point.{Point}
@@ -18,10 +18,15 @@ use Rattle.paths.specs.Path.{pathIf, listed, pathsBelow, closedPaths, openPaths
 use Rattle.paths.specs.Tray.{fieldsOf, padded}
 use Rattle.paths.proofs.Counts.{size-le}
 use Rattle.paths.proofs.Bound.{rings-few}
-use Rattle.listing.specs.Text.{SPACE, COMMA, NEWLINE, digit, digits, decimal, signedText, CLOSED, OPEN, LINE, REFUSED}
+use Rattle.rates.specs.declared.Charge.{Charge}
+use Rattle.rates.specs.Charge.{chargeOf}
+use Rattle.listing.specs.Text.{SPACE, COMMA, NEWLINE, digit, digits, decimal, signedText, CLOSED, OPEN, LINE, REFUSED, CHARGE}
+use Rattle.listing.specs.Fields.{pathsIn}
 use Rattle.listing.specs.Lines.{wordOf, pointText, pointsText, headOf, lineOf, linesOf, firstLine, listingOf, refusedLine}
+use Rattle.listing.specs.Charge.{netArea, chargeText, chargedOf, pointCount}
+use Rattle.listing.specs.Needs.{Summable}
 use Rattle.listing.specs.Room.{TEXT}
-use Rattle.listing.proofs.Trays.{written-listing}
+use Rattle.listing.proofs.Trays.{written-closed, written-listable, written-listing}
 
 -- ---- numbers
 
@@ -93,6 +98,28 @@ first-le c o =
       digits-le 20 o,
     )
 
+charge-le : (c : Charge) → length (chargeText c) ≤ 49
+charge-le c =
+    let q = decimal (c .quotient) in
+    let r = decimal (c .remainder) in
+    omega (
+      arith,
+      length-append (CHARGE ++ (SPACE ∷ []) ++ q ++ (SPACE ∷ []) ++ r) (NEWLINE ∷ []),
+      length-append (CHARGE ++ (SPACE ∷ []) ++ q ++ (SPACE ∷ [])) r,
+      length-append (CHARGE ++ (SPACE ∷ []) ++ q) (SPACE ∷ []),
+      length-append (CHARGE ++ (SPACE ∷ [])) q,
+      digits-le 20 (c .quotient),
+      digits-le 20 (c .remainder),
+    )
+
+count-append : (a b : List (List Point)) → pointCount (a ++ b) ≡ pointCount a + pointCount b
+count-append [] b = omega arith
+count-append (p ∷ a) b = omega (arith, count-append a b)
+
+count-listed : (x : Option (List Point)) → pointCount (listed x) ≡ sizeOf x
+count-listed none = refl
+count-listed (some p) = omega arith
+
 -- ---- the paths of a store: a record has one line at most
 
 line-of : (o : Bool) (x : Option (List Point)) → length (linesOf o (listed x)) ≤ 49 + 44 * sizeOf x
@@ -123,8 +150,8 @@ module _ (s : Store) where
       )
 
   module _ (o : Sound s) (n : ℕ) where
-    pub listing-le : length (listingOf (length (closedPaths s)) (length (openPaths s)) (padded n (fieldsOf s))) ≤ TEXT
-    listing-le =
+    short : length (listingOf (length (closedPaths s)) (length (openPaths s)) (padded n (fieldsOf s))) + 49 ≤ TEXT
+    short =
         let c = closedPaths s in
         let p = openPaths s in
         let a = firstLine (length c) (length p) in
@@ -139,6 +166,28 @@ module _ (s : Store) where
           o .few-records,
           o .few-points,
         )
+
+    pub listing-le : length (listingOf (length (closedPaths s)) (length (openPaths s)) (padded n (fieldsOf s))) ≤ TEXT
+    listing-le = omega (arith, short)
+
+    pub charged-le : (rate : ℕ) → length (chargedOf rate (length (closedPaths s)) (length (openPaths s)) (padded n (fieldsOf s))) ≤ TEXT
+    unfolding chargedOf
+    charged-le rate =
+        let c = chargeOf (natAbs (netArea (pathsIn (padded n (fieldsOf s)) (length (closedPaths s)) 0))) rate in
+        omega (arith, short, length-append (listingOf (length (closedPaths s)) (length (openPaths s)) (padded n (fieldsOf s))) (chargeText c), charge-le c)
+
+  -- ---- the points of the closed paths are no more than a job has
+
+  points-below : (o : Bool) (n : ℕ) → pointCount (pathsBelow n o s) ≤ sumTo n (λ i. length (ringAt s i))
+  points-below o zero = omega arith
+  points-below o (suc n) = omega (arith, points-below o n, count-append (pathsBelow n o s) (listed (pathIf s o n)), count-listed (pathIf s o n), size-le s o n)
+
+  pub written-summable : Sound s → (n : ℕ) → Summable (padded n (fieldsOf s)) (length (closedPaths s))
+  written-summable o n =
+      record {
+        fields = written-listable s o n .closed-in;
+        few = rw (written-closed s o n) (omega (arith, points-below false (recs s), rings-few s o, o .few-points));
+      }
 
 pub refusal-le : (n : ℕ) → length (refusedLine n) ≤ TEXT
 refusal-le n =

@@ -4,5 +4,6 @@ pub mod Text
 pub mod Fields
 pub mod Needs
 pub mod Lines
+pub mod Charge
 pub mod Room
 pub mod Told

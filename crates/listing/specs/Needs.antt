@@ -4,12 +4,14 @@ use mathlib.Core.Path.{_≡_}
 use mathlib.Core.List.{List, _++_}
 use lib.IntN.{ℤ, natAbs, _+ℤ_}
 use lib.ListN.{length}
+use Rattle.job.specs.Limits.{POINTS}
 use Rattle.geometry.specs.Plane.{areaFrom}
 use Rattle.geometry.specs.Table.{InTable, AllInTable}
 use Rattle.listing.specs.Fields.{nextField, pathIn, pointIn, pointsIn, pathsIn, fieldAfter}
 use mathlib.Core.Bool.{Bool}
 use Rattle.listing.specs.Pour.{poured, pour}
 use Rattle.listing.specs.Lines.{linesOf, pointsText}
+use Rattle.listing.specs.Charge.{netArea, pointCount}
 use Rattle.listing.specs.declared.Listed.{Listed}
 use Rattle.listing.specs.declared.Listed.the-variants.{Bytes, NoRoom}
 
@@ -70,3 +72,16 @@ Whole NoRoom n = ⊥
 pub record Listable (closed open′ : ℕ) (t : List ℕ) : Type 0 where
   pub closed-in : FieldsIn t closed 0
   pub open-in : FieldsIn t open′ (fieldAfter t closed 0)
+
+-- ---- the charge
+
+-- n closed paths, of no more points than a job has
+pub record Summable (t : List ℕ) (n : ℕ) : Type 0 where
+  pub fields : FieldsIn t n 0
+  pub few : pointCount (pathsIn t n 0) ≤ POINTS
+
+-- the sum in the making: a is the sum so far, `left` fields are left, the first of them at f
+pub record Netting (t : List ℕ) (n f left : ℕ) (a : ℤ) : Type 0 where
+  pub rest : FieldsIn t left f
+  pub sum : a +ℤ netArea (pathsIn t left f) ≡ netArea (pathsIn t n 0)
+  pub low : natAbs a + pointCount (pathsIn t left f) * 2 ^ 42 ≤ 2 ^ 53

@@ -35,7 +35,7 @@ abbrev pub signedText : ℤ → List ℕ
 signedText (pos n) = decimal n
 signedText (negsuc n) = (MINUS ∷ []) ++ decimal (suc n)
 
--- "closed", "open", "piece", "hole", "flat", "line", "refused"
+-- "closed", "open", "piece", "hole", "flat", "line", "refused", "charge"
 abbrev pub CLOSED : List ℕ
 CLOSED = 99 ∷ 108 ∷ 111 ∷ 115 ∷ 101 ∷ 100 ∷ []
 
@@ -56,3 +56,6 @@ LINE = 108 ∷ 105 ∷ 110 ∷ 101 ∷ []
 
 abbrev pub REFUSED : List ℕ
 REFUSED = 114 ∷ 101 ∷ 102 ∷ 117 ∷ 115 ∷ 101 ∷ 100 ∷ []
+
+abbrev pub CHARGE : List ℕ
+CHARGE = 99 ∷ 104 ∷ 97 ∷ 114 ∷ 103 ∷ 101 ∷ []

@@ -1,4 +1,6 @@
 // The listing of a tray, as text in a lent slice.
+pub mod charge;
+
 use geometry::Point;
 use job::Job;
 use store::points::lower;
@@ -19,7 +21,7 @@ ghost use Rattle.listing.specs.Told.{told, answerAt, tell};
 ghost use Rattle.listing.specs.Needs.{Listable};
 
 // A slice of so many bytes has room for the listing of any job.
-pub const TEXT: usize = 54 + 49 * Job::RECORDS + 44 * Job::POINTS;
+pub const TEXT: usize = 54 + 49 * Job::RECORDS + 44 * Job::POINTS + 49;
 
 // The number that definitions cite is the code's.
 fn text_agrees()
@@ -277,18 +279,26 @@ fn answer(at: usize, out: &[u8]) -> Listed
     Listed::NoRoom
 }
 
-// The listing of a tray that begins with the fields of so many closed and then so many open paths.
-pub fn listing(t: &[u8], closed: usize, opened: usize, out: &mut [u8]) -> Listed
+// The lines of a tray that begins with the fields of so many closed and then so many open paths.
+fn put_listing(t: &[u8], closed: usize, opened: usize, out: &mut [u8]) -> usize
     requires { ⌜ Listable closed opened (now t) ⌝ }
-    ensures { λ r. ⌜ told r (now (out .exit)) ≡ tell (listingOf closed opened (now (t .entry))) (now (out .entry)) ⌝ }
+    ensures { λ r. ⌜ poured r (now (out .exit)) ≡ pour (listingOf closed opened (now (t .entry))) 0 (now (out .entry)) ⌝ }
 {
     let a = put_counts(closed, opened, out);
     let b = put_lines(t, 0, closed, false, out, a);
     let from = b.from;
     let place = b.at;
     let c = put_lines(t, from, opened, true, out, place);
-    let end = c.at;
-    answer(end, out)
+    c.at
+}
+
+// The listing of such a tray.
+pub fn listing(t: &[u8], closed: usize, opened: usize, out: &mut [u8]) -> Listed
+    requires { ⌜ Listable closed opened (now t) ⌝ }
+    ensures { λ r. ⌜ told r (now (out .exit)) ≡ tell (listingOf closed opened (now (t .entry))) (now (out .entry)) ⌝ }
+{
+    let a = put_listing(t, closed, opened, out);
+    answer(a, out)
 }
 
 // The line of a refusal.

@@ -1,7 +1,12 @@
 -- The number of what an entry point answered, with what it left, is the exported call's.
-use Prim.Native.Nat.{ℕ}
-use mathlib.Core.Path.{_≡_, ap, _∙_}
+use Prim.Native.Nat.{ℕ, zero, suc, _<_, _≤_}
+use mathlib.Core.Path.{_≡_, refl, ap, _∙_}
+use mathlib.Core.Logic.{_≢_}
 use mathlib.Core.List.{List}
+use lib.ListN.{length}
+use borrow.Author.Tests.{le-leb, lt-leb}
+use Rattle.rates.specs.declared.Rate.{Rate}
+use Rattle.rates.specs.declared.Rate.the-variants.{NoRate, Cents}
 use Rattle.paths.specs.declared.Written.{Written}
 use Rattle.paths.specs.Wrote as paths
 use Rattle.opening.specs.declared.open.Opened.{Opened}
@@ -12,7 +17,11 @@ use Rattle.finishing.specs.Step.{stepOf}
 use Rattle.finishing.specs.Write.{writeOf}
 use Rattle.finishing.specs.InOneCall as call
 use Rattle.finishing.specs.InOneCall.{finishOf}
-use Rattle.outline.specs.Calls.{openedNumber, steppedNumber, writtenNumber, worked, wrote, finished, asOpened, asStepped, asWritten, asFinished, openC, stepC, writeC, finishC}
+use Rattle.listing.specs.declared.Listed.{Listed}
+use Rattle.listing.specs.Room.{TEXT}
+use Rattle.listing.specs.Told.{told}
+use Rattle.job_listing.specs.Cutlist.{listedJob, listJobOf}
+use Rattle.outline.specs.Calls.{openedNumber, steppedNumber, writtenNumber, listedBytes, rateFrom, worked, wrote, finished, listing, asOpened, asStepped, asWritten, asFinished, asListed, openC, stepC, writeC, finishC, listC}
 
 pub as-opened : (bytes : List ℕ) (n k : ℕ) (a : Opened) (w : List ℕ) → end a w ≡ openOf bytes n → k ≡ openedNumber a → worked k w ≡ openC bytes n
 unfolding openC
@@ -29,3 +38,23 @@ as-written w u k a t e h = ap (λ (z : ℕ). wrote z t) h ∙ ap asWritten e
 pub as-finished : (bytes : List ℕ) (n k : ℕ) (u : List ℕ) (a : Written) (w t : List ℕ) → call.finished a w t ≡ finishOf bytes n u → k ≡ writtenNumber a → finished k w t ≡ finishC bytes n u
 unfolding finishC
 as-finished bytes n k u a w t e h = ap (λ (z : ℕ). finished z w t) h ∙ ap asFinished e
+
+-- ---- the listing
+
+pub no-rate : (n : ℕ) → n ≡ 0 → NoRate ≡ rateFrom n
+no-rate n e = rw e
+
+pub some-rate : (n m : ℕ) → n ≢ 0 → m ≡ n → Cents m ≡ rateFrom n
+some-rate zero m h e = absurd (h refl)
+some-rate (suc n) m h e = ap (λ (k : ℕ). Cents k) e
+
+module _ (bytes w t : List ℕ) (rate : ℕ) (s : List ℕ) where
+  pub too-short : length s < TEXT → listing 0 w t s ≡ listC bytes w t rate s
+  unfolding listC
+  too-short h = rw (lt-leb TEXT (length s) h)
+
+  pub as-listed : (k : ℕ) (q : Rate) (a : Listed) (w′ t′ s′ : List ℕ) → TEXT ≤ length s → q ≡ rateFrom rate → listedJob (told a s′) w′ t′ ≡ listJobOf q bytes w t s → k ≡ listedBytes a
+      → listing k w′ t′ s′ ≡ listC bytes w t rate s
+  unfolding listC
+  as-listed k q a w′ t′ s′ h i e g =
+      rw (le-leb TEXT (length s) h) (ap (λ (z : ℕ). listing z w′ t′ s′) g ∙ ap asListed (e ∙ ap (λ (p : Rate). listJobOf p bytes w t s) i))

@@ -1,6 +1,11 @@
 -- The calls for C and Rust: 0 or the table's number, and the words and bytes that the entry point of the same name leaves, on every input.
-use Prim.Native.Nat.{ℕ}
+use Prim.Native.Nat.{ℕ, zero, suc}
+use mathlib.Core.Bool.{cond}
 use mathlib.Core.List.{List}
+use lib.Dec.{leb}
+use lib.ListN.{length}
+use Rattle.rates.specs.declared.Rate.{Rate}
+use Rattle.rates.specs.declared.Rate.the-variants.{NoRate, Cents}
 use Rattle.job.specs.Refusal.{numberOf}
 use Rattle.paths.specs.declared.Written.{Written}
 use Rattle.paths.specs.declared.Written.the-variants as written
@@ -15,6 +20,10 @@ use Rattle.finishing.specs.Step.{stepOf}
 use Rattle.finishing.specs.Write.{writeOf}
 use Rattle.finishing.specs.InOneCall as call
 use Rattle.finishing.specs.InOneCall.{finishOf}
+use Rattle.listing.specs.declared.Listed.{Listed}
+use Rattle.listing.specs.declared.Listed.the-variants.{Bytes, NoRoom}
+use Rattle.listing.specs.Room.{TEXT}
+use Rattle.job_listing.specs.Cutlist.{ListedJob, listJobOf}
 
 -- ---- numbers of answers: no refusal is 0
 
@@ -29,6 +38,17 @@ steppedNumber (stepped.Refused x) = numberOf x
 abbrev pub writtenNumber : Written → ℕ
 writtenNumber (written.Paths closed open′) = 0
 writtenNumber (written.Refused x) = numberOf x
+
+-- how many bytes a listing has; 0 if there was no room
+abbrev pub listedBytes : Listed → ℕ
+listedBytes (Bytes n) = n
+listedBytes NoRoom = 0
+
+-- ---- a number handed over as a rate: 0 for none
+
+abbrev pub rateFrom : ℕ → Rate
+rateFrom zero = NoRate
+rateFrom (suc n) = Cents (suc n)
 
 -- ---- a number with what is left
 
@@ -57,6 +77,16 @@ pub record Finished : Type 0 where
 abbrev pub finished : ℕ → List ℕ → List ℕ → Finished
 finished n w t = record { number = n; words = w; tray = t }
 
+-- a call that changes these and the text
+pub record Listing : Type 0 where
+  pub bytes : ℕ
+  pub words : List ℕ
+  pub tray : List ℕ
+  pub text : List ℕ
+
+abbrev pub listing : ℕ → List ℕ → List ℕ → List ℕ → Listing
+listing n w t s = record { bytes = n; words = w; tray = t; text = s }
+
 -- ---- the calls
 
 abbrev pub asOpened : End → Worked
@@ -70,6 +100,9 @@ asWritten l = wrote (writtenNumber (l .answer)) (l .tray)
 
 abbrev pub asFinished : call.Finished → Finished
 asFinished l = finished (writtenNumber (l .answer)) (l .words) (l .tray)
+
+abbrev pub asListed : ListedJob → Listing
+asListed l = listing (listedBytes (l .text .answer)) (l .words) (l .tray) (l .text .out)
 
 -- `outline_open`, by the job's bytes and the length n of the work space
 unfoldable pub openC : List ℕ → ℕ → Worked
@@ -86,3 +119,7 @@ writeC w t = asWritten (writeOf w t)
 -- `outline_finish`
 unfoldable pub finishC : List ℕ → ℕ → List ℕ → Finished
 finishC bytes n t = asFinished (finishOf bytes n t)
+
+-- `outline_list`, of the job's bytes, the words, the tray, the rate and the text: a text too short for some job's listing is left as found, and so is all else
+unfoldable pub listC : List ℕ → List ℕ → List ℕ → ℕ → List ℕ → Listing
+listC bytes w t rate s = cond (leb TEXT (length s)) (asListed (listJobOf (rateFrom rate) bytes w t s)) (listing 0 w t s)

@@ -1,16 +1,20 @@
-// The entry points for C and Rust: the same calls, answering 0 or the refusal's number of document 01's table.
+// The entry points for C and Rust: the same calls, answering 0 or the refusal's number; and the listing.
 use finishing::Stepped;
 use finishing::finish::finish;
 use finishing::open;
 use finishing::step;
 use finishing::write_out;
+use job_listing::list_job;
+use listing::Listed;
+use listing::TEXT;
 use opening::open::Opened;
 use paths::Written;
+use rates::Rate;
 use store::LENGTH;
 ghost use mathlib.Core.Path.{_≡_};
 ghost use lib.ListN.{length};
 ghost use Rattle.store.specs.Field.{LENGTH};
-ghost use Rattle.outline.specs.Calls.{openedNumber, steppedNumber, writtenNumber, worked, wrote, finished, openC, stepC, writeC, finishC};
+ghost use Rattle.outline.specs.Calls.{openedNumber, steppedNumber, writtenNumber, listedBytes, rateFrom, worked, wrote, finished, listing, openC, stepC, writeC, finishC, listC};
 
 // ---- the numbers of answers
 
@@ -39,6 +43,33 @@ fn written_number(a: Written) -> u32
         Written::Paths { .. } => 0,
         Written::Refused(x) => x.number(),
     }
+}
+
+fn listed_bytes(a: Listed) -> u64
+    ensures { λ r. ⌜ r ≡ listedBytes a ⌝ }
+{
+    match a {
+        Listed::Bytes(n) => n as u64,
+        Listed::NoRoom => 0,
+    }
+}
+
+// ---- a rate handed over
+
+fn wide(n: u32) -> u64
+    ensures { λ r. ⌜ r ≡ n ⌝ }
+{
+    n as u64
+}
+
+// 0 is none; whether another is in the range the listing asks.
+fn rate_from(n: u32) -> Rate
+    ensures { λ r. ⌜ r ≡ rateFrom n ⌝ }
+{
+    if n == 0 {
+        return Rate::NoRate;
+    }
+    Rate::Cents(wide(n))
 }
 
 // ---- the calls
@@ -85,4 +116,23 @@ pub extern "C" fn outline_finish(job: &[u8], work: &mut [u32], tray: &mut [u8]) 
 {
     let a = finish(job, work, tray);
     written_number(a)
+}
+
+// Finishes a job and lists it, with the charge unless the rate is 0; a text shorter than `TEXT` is left as found, and so is all else.
+#[no_mangle]
+pub extern "C" fn outline_list(
+    job: &[u8],
+    work: &mut [u32],
+    tray: &mut [u8],
+    rate: u32,
+    text: &mut [u8],
+) -> u64
+    ensures { λ r. ⌜ listing r (now (work .exit)) (now (tray .exit)) (now (text .exit)) ≡ listC (now (job .entry)) (now (work .entry)) (now (tray .entry)) rate (now (text .entry)) ⌝ }
+{
+    if text.len() < TEXT {
+        return 0;
+    }
+    let given = rate_from(rate);
+    let a = list_job(job, given, work, tray, text);
+    listed_bytes(a)
 }

@@ -1,6 +1,6 @@
 // Replays the stored jobs on standard input through `list_job`, with no Rust at hand, and prints each case's name, listing and tray: first document 01's bench
-// examples, then the other stored answers, then the jobs at the limits. A case is two lines, `case NAME` and `job HEX`; in the job a space begins a field, and
-// `+N` after it is N more of it (see `again`). `tests/replay ORACLE crates/replay` makes both files from what the real Rust answers.
+// examples, then the other stored answers, then the jobs at the limits, then those with a rate. A case is two lines, `case NAME` and `job HEX`; in the job a space
+// begins a field, and `+N` after it is N more of it (see `again`). Between the two a line `at "ARGUMENT"` may say the rate. `tests/replay ORACLE crates/replay` makes both files from what the real Rust answers.
 use deciding::DECIDES;
 use job::Job;
 use job_listing::list_job;
@@ -9,6 +9,8 @@ use libc::STDOUT_FILENO;
 use listing::Listed;
 use listing::TEXT;
 use paths::TRAY;
+use rates::Rate;
+use rates::rate_in;
 use store::LENGTH;
 use test_text::byte;
 use test_text::first;
@@ -247,13 +249,34 @@ fn say_tray(tray: &[u8], line: &mut [u8]) {
 }
 
 // One job: its listing, then its tray.
-fn replay(job: &[u8], work: &mut [u32], tray: &mut [u8], text: &mut [u8]) {
-    let r = list_job(job, work, tray, text);
+fn replay(job: &[u8], rate: Rate, work: &mut [u32], tray: &mut [u8], text: &mut [u8]) {
+    let r = list_job(job, rate, work, tray, text);
     match r {
         Listed::Bytes(m) => say(text, m),
         Listed::NoRoom => {}
     }
     say_tray(tray, text);
+}
+
+// The job at a place, at a rate, and the place after it.
+fn replay_at(
+    s: &[u8],
+    at: usize,
+    rate: Rate,
+    job: &mut [u8],
+    work: &mut [u32],
+    tray: &mut [u8],
+    text: &mut [u8],
+) -> usize {
+    let n = decode(s, at, job);
+    replay(first(job, n), rate, work, tray, text);
+    further(end_of(s, at, b'\n'), 1)
+}
+
+// The rate that a line `at "ARGUMENT"` says, which stands at a place and ends at another.
+fn rate_at(s: &[u8], at: usize, end: usize) -> Rate {
+    let begin = further(at, 4);
+    rate_in(first(from(s, begin), back(end, further(begin, 1))))
 }
 
 // The case at a place, and the place after it.
@@ -267,10 +290,14 @@ fn one(
 ) -> usize {
     let end = end_of(s, at, b'\n');
     say_line(s, at, end);
-    let begin = further(end, 5);
-    let n = decode(s, begin, job);
-    replay(first(job, n), work, tray, text);
-    further(end_of(s, begin, b'\n'), 1)
+    let second = further(end, 1);
+    if byte(s, second) == b'a' {
+        let stop = end_of(s, second, b'\n');
+        say_line(s, second, stop);
+        let rate = rate_at(s, second, stop);
+        return replay_at(s, further(stop, 5), rate, job, work, tray, text);
+    }
+    replay_at(s, further(second, 4), Rate::NoRate, job, work, tray, text)
 }
 
 // Every case.

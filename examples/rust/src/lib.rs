@@ -42,6 +42,11 @@ pub const TRAY_BYTES: usize = 3 * RECORDS + 8 * POINTS;
 /// The first so many bytes of a job decide what becomes of it: the longest job that is accepted, and one point more.
 pub const JOB_BYTES: usize = 4 + 17 * (POINTS + 1) + 8 * RECORDS + 5 * SEGMENTS + 7 * JOINS;
 
+/// A text of so many bytes has room for the listing of any job.
+pub const TEXT_BYTES: usize = 54 + 49 * RECORDS + 44 * POINTS + 49;
+/// The largest rate, in cents for a square decimetre; 0 is none.
+pub const RATE: u32 = 1_000;
+
 /// A slice is passed as a pointer and a length.
 mod c {
     extern "C" {
@@ -57,6 +62,17 @@ mod c {
             tray: *mut u8,
             tray_bytes: usize,
         ) -> u32;
+        pub fn outline_list(
+            job: *const u8,
+            job_bytes: usize,
+            work: *mut u32,
+            words: usize,
+            tray: *mut u8,
+            tray_bytes: usize,
+            rate: u32,
+            text: *mut u8,
+            text_bytes: usize,
+        ) -> u64;
     }
 }
 
@@ -136,4 +152,26 @@ pub fn write(work: &[u32], tray: &mut [u8]) -> Result<(), Refused> {
 pub fn finish(job: &[u8], work: &mut [u32], tray: &mut [u8]) -> Result<(), Refused> {
     let (words, bytes) = (work.len(), tray.len());
     answer(unsafe { c::outline_finish(job.as_ptr(), job.len(), work.as_mut_ptr(), words, tray.as_mut_ptr(), bytes) })
+}
+
+/// Finishes a job as [`finish`] does and gives its listing, ASCII, which `./cutlist` prints: two counts, a line for each path and, unless the rate is 0,
+/// the charge; or `refused` and the number. None, and everything as found, if the text has fewer than [`TEXT_BYTES`] bytes.
+///
+/// ```
+/// # use outline::*;
+/// let (mut work, mut tray, mut text) = (vec![0; WORK_WORDS], vec![0; TRAY_BYTES], vec![0; TEXT_BYTES]);
+/// let job = include_bytes!("../../../samples/crossed.job");
+/// let listing = list(job, &mut work, &mut tray, 0, &mut text).unwrap();
+/// assert_eq!(listing, b"closed 2 open 0\npiece 3 60 5,5 0,12 0,0\nhole 3 -50 10,10 10,0 5,5\n");
+/// assert!(list(job, &mut work, &mut tray, 1000, &mut text).unwrap().ends_with(b"\ncharge 0 10000\n"));
+/// assert_eq!(list(job, &mut work, &mut tray, RATE + 1, &mut text), Some(&b"refused 13\n"[..]));
+/// assert_eq!(list(job, &mut work, &mut tray, 0, &mut text[1..]), None);
+/// ```
+pub fn list<'a>(job: &[u8], work: &mut [u32], tray: &mut [u8], rate: u32, text: &'a mut [u8]) -> Option<&'a [u8]> {
+    let (words, bytes, room) = (work.len(), tray.len(), text.len());
+    let (work, tray, start) = (work.as_mut_ptr(), tray.as_mut_ptr(), text.as_mut_ptr());
+    match unsafe { c::outline_list(job.as_ptr(), job.len(), work, words, tray, bytes, rate, start, room) } {
+        0 => None,
+        length => text.get(..length as usize),
+    }
 }

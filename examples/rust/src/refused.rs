@@ -4,7 +4,7 @@ use std::fmt;
 /// A number, a word and what it means in each line, with a tab between them.
 const TABLE: &str = include_str!("../../../tools/refusals");
 
-/// The number of a refusal, 1 to 12.
+/// The number of a refusal, 1 to 13.
 ///
 /// ```
 /// use outline::Refused;
@@ -40,6 +40,8 @@ impl Refused {
     pub const SMALL_TRAY: Refused = Refused(11);
     /// A step on a record that has none to take, or writing out before every closed ring is done.
     pub const OUT_OF_TURN: Refused = Refused(12);
+    /// More than one rate is given, or one that is not a whole number from 1 to [`RATE`](crate::RATE).
+    pub const BAD_RATE: Refused = Refused(13);
 
     /// The word and the meaning; none of a number that is no refusal's.
     fn said(self) -> Option<(&'static str, &'static str)> {

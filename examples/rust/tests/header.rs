@@ -26,6 +26,8 @@ fn constants() {
         ("WORK_WORDS", WORK_WORDS as u64),
         ("TRAY_BYTES", TRAY_BYTES as u64),
         ("JOB_BYTES", JOB_BYTES as u64),
+        ("TEXT_BYTES", TEXT_BYTES as u64),
+        ("RATE", u64::from(RATE)),
     ];
     let refusals = [
         ("TORN", Refused::TORN),
@@ -40,6 +42,7 @@ fn constants() {
         ("FULL", Refused::FULL),
         ("SMALL_TRAY", Refused::SMALL_TRAY),
         ("OUT_OF_TURN", Refused::OUT_OF_TURN),
+        ("BAD_RATE", Refused::BAD_RATE),
     ];
     for (name, refused) in refusals {
         assert_eq!(refused.word().replace(' ', "_").to_uppercase(), name);

@@ -24,9 +24,9 @@ fn out_of_turn() {
 
 #[test]
 fn every_refusal_has_its_word() {
-    assert!((1..=12).all(|number| !Refused(number).word().is_empty() && !Refused(number).meaning().is_empty()));
+    assert!((1..=13).all(|number| !Refused(number).word().is_empty() && !Refused(number).meaning().is_empty()));
     assert_eq!(Refused(7).word(), "muddled");
     assert_eq!(Refused(12).to_string(), format!("refused 12, out of turn: {}", Refused::OUT_OF_TURN.meaning()));
-    assert_eq!((Refused(0).word(), Refused(13).meaning()), ("", ""));
+    assert_eq!((Refused(0).word(), Refused(14).meaning()), ("", ""));
     assert_eq!(Refused(99).to_string(), "refused 99");
 }

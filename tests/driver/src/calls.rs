@@ -15,6 +15,17 @@ extern "C" {
         tray: *mut u8,
         tray_length: usize,
     ) -> u32;
+    fn outline_list(
+        job: *const u8,
+        job_length: usize,
+        work: *mut u32,
+        words: usize,
+        tray: *mut u8,
+        tray_length: usize,
+        rate: u32,
+        text: *mut u8,
+        text_length: usize,
+    ) -> u64;
 }
 
 /// What a deliberate fault does; each must be found (command `faults`).
@@ -63,9 +74,13 @@ pub enum Fault {
     WriteFound,
     /// Writing out while a ring isn't done is carried out: answer 0.
     WriteEarly,
+    /// The last digit of a listing at a rate is another.
+    ListDigit,
+    /// A bad rate clears the tray's first byte.
+    ListFound,
 }
 
-pub const FAULTS: [Fault; 21] = [
+pub const FAULTS: [Fault; 23] = [
     Fault::FinishAnswer,
     Fault::TrayByte,
     Fault::PastPaths,
@@ -87,6 +102,8 @@ pub const FAULTS: [Fault; 21] = [
     Fault::TestsLeft,
     Fault::WriteFound,
     Fault::WriteEarly,
+    Fault::ListDigit,
+    Fault::ListFound,
 ];
 
 pub fn work_words() -> u64 {
@@ -156,6 +173,17 @@ impl Calls {
             (Fault::RefusedTray, 1..) if bytes > 0 => tray[bytes - 1] = 1,
             (Fault::FinishStart, 0) if records(work) > 0 => work[START] ^= 1,
             (Fault::FinishOwner, 0) if records(work) > 1 => work[OWNER + 1] = 0,
+            _ => {}
+        }
+        answer
+    }
+    pub fn list(self, job: &[u8], work: &mut [u32], tray: &mut [u8], rate: u32, text: &mut [u8]) -> u64 {
+        let (n, bytes, room) = (work.len(), tray.len(), text.len());
+        let (words, fields, start) = (work.as_mut_ptr(), tray.as_mut_ptr(), text.as_mut_ptr());
+        let answer = unsafe { outline_list(job.as_ptr(), job.len(), words, n, fields, bytes, rate, start, room) };
+        match self.0 {
+            Fault::ListDigit if answer > 11 && rate > 0 => text[answer as usize - 2] ^= 1,
+            Fault::ListFound if rate > 1000 && bytes > 0 => tray[0] = 0,
             _ => {}
         }
         answer

@@ -1,5 +1,6 @@
 // Kind `finish`: outline_finish against the real Rust: the answer, every byte of the tray, the listing, every word on a refusal,
 // every ring, owner and count on an accepted job.
+use crate::listed;
 use crate::plain;
 use crate::room::{all_zero, expect, Room, Same, TRAY};
 use crate::words::{self, *};
@@ -39,7 +40,7 @@ pub fn expected(room: &mut Room) -> Expected {
 }
 
 /// A length for the work space: mostly the fixed one, else longer or too short.
-fn work_length(rng: &mut Rng) -> usize {
+pub fn work_length(rng: &mut Rng) -> usize {
     match rng.below(32) {
         0 => rng.below(WORDS),
         1 => rng.pick(&[0, 1, 2, 3, 16, 10_256, WORDS - 2, WORDS - 1]),
@@ -61,10 +62,19 @@ pub fn tray_length(rng: &mut Rng, need: usize) -> usize {
     }
 }
 
-/// One call of outline_finish on the room's job, with lent slices of any length and content.
+/// The room's job finished in one call, and one in four listed.
 pub fn case(room: &mut Room, rng: &mut Rng) -> Same {
     let expected = expected(room);
-    let bytes = match &expected {
+    one_call(room, rng, &expected)?;
+    match rng.below(4) {
+        0 => listed::case(room, rng, &expected),
+        _ => Ok(()),
+    }
+}
+
+/// One call of outline_finish on the room's job, with lent slices of any length and content.
+fn one_call(room: &mut Room, rng: &mut Rng, expected: &Expected) -> Same {
+    let bytes = match expected {
         Expected::Refused(_) => Vec::new(),
         Expected::Finished { answer, .. } => answer.tray(),
     };
@@ -74,7 +84,7 @@ pub fn case(room: &mut Room, rng: &mut Rng) -> Same {
     let answer = room.calls.finish(&room.paper[room.at..], room.work.get_mut(), room.tray.get_mut());
     room.trace.push(format!("finish with {words} words and a tray of {length} bytes: {answer}"));
     room.tally.answer("finish", answer);
-    let number = match &expected {
+    let number = match expected {
         _ if words < WORDS => 10,
         Expected::Refused(number) => *number as u32,
         Expected::Finished { .. } if bytes.len() > length => 11,
@@ -90,7 +100,7 @@ pub fn case(room: &mut Room, rng: &mut Rng) -> Same {
     expect(paths == bytes, || "the paths' bytes".into())?;
     expect(all_zero(rest), || "a byte past the paths".into())?;
     match expected {
-        Expected::Finished { settings, state, answer } => finished(room, settings, &state, &answer),
+        Expected::Finished { settings, state, answer } => finished(room, *settings, state, answer),
         Expected::Refused(_) => Ok(()),
     }
 }

@@ -7,6 +7,7 @@ mod damage;
 mod finish;
 mod large;
 mod lent;
+mod listed;
 mod model;
 mod open;
 mod plain;

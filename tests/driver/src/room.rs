@@ -2,6 +2,7 @@
 use crate::altered::Base;
 use crate::calls::{Calls, Fault};
 use crate::lent::Lent;
+use crate::listed::TEXT;
 use crate::tally::Tally;
 use crate::tidied::Passes;
 use crate::words::WORDS;
@@ -25,6 +26,7 @@ pub struct Room {
     pub calls: Calls,
     pub work: Lent<u32>,
     pub tray: Lent<u8>,
+    pub text: Lent<u8>,
     pub tally: Tally,
     /// Kinds `large` and `steps`: the rings as they were at their start.
     pub passes: Passes,
@@ -43,6 +45,7 @@ impl Room {
             calls: Calls(fault),
             work: Lent::new(WORDS + 64, 0x5a5a_5a5a),
             tray: Lent::new(TRAY + 64, 0x5a),
+            text: Lent::new(TEXT + 64, 0x5a),
             tally: Tally::default(),
             passes: Passes::default(),
             base: Base::default(),
@@ -82,7 +85,8 @@ impl Room {
     /// Nothing beside the lent slices was written.
     pub fn margins(&self) -> Same {
         expect(self.work.kept(), || "a word beside the work space is written".into())?;
-        expect(self.tray.kept(), || "a byte beside the tray is written".into())
+        expect(self.tray.kept(), || "a byte beside the tray is written".into())?;
+        expect(self.text.kept(), || "a byte beside the text is written".into())
     }
 }
 

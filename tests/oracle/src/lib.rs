@@ -4,6 +4,7 @@ include!(concat!(env!("OUT_DIR"), "/clipper/modules.rs"));
 pub mod answer;
 pub mod batch;
 pub mod cases;
+pub mod charge;
 pub mod check;
 pub mod compare;
 pub mod fraction;

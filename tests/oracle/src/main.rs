@@ -1,7 +1,9 @@
 // The oracle's commands. Each reads a job on standard input unless README.md says otherwise.
 use ::oracle::oracle::Oracle;
 use ::oracle::text::number;
-use ::oracle::{answer, batch, cases, gen, guard, output, raw, runs, search, show, stepped, stored, text, vectors};
+use ::oracle::{
+    answer, batch, cases, charge, gen, guard, output, raw, runs, search, show, stepped, stored, text, vectors,
+};
 use std::io::Read;
 
 const USAGE: &str = "no such command, or not its arguments; tests/oracle/README.md lists the commands";
@@ -23,6 +25,11 @@ fn run(words: &[&str]) -> Result<(), String> {
             let length = number(length)?;
             output(Oracle::default().answer(&input()?).within(length).listing().as_bytes())
         }
+        ["charge", arguments @ ..] => {
+            let rate = charge::rate_of(arguments);
+            output(charge::listing(rate, || Ok(Oracle::default().answer(&input()?)))?.as_bytes())
+        }
+        ["charges", file] => charge::make(file),
         ["tray"] => match Oracle::default().answer(&input()?) {
             answer::Answer::Refused(number) => Err(format!("the job is refused with {number}, so it has no tray")),
             answer => output(&answer.tray()),

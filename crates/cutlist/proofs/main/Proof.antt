@@ -8,6 +8,7 @@ pub main-spec : {M : Type 1} → statement M
 main-spec =
     tie.close
     (tie.spec
+    (λ c κs. search needs)
     (λ c. search needs)
     (λ c κs. search needs)
     (λ c. search needs)
@@ -17,5 +18,5 @@ main-spec =
     (λ c. search needs)
     (λ c κs. search needs)
     (λ c. search needs)
-    (λ c κs. room _ _ _ _ _ _ _ (c .before .before .before .before .list-job .ensures))
+    (λ c κs. room _ _ _ _ _ _ _ _ (c .before .before .before .before .list-job .ensures))
     (λ c. search needs))

@@ -1,6 +1,6 @@
--- `list_job` meets its contract.
+-- `list_job` meets its contract: by the rate that is asked.
 use borrow.Author.Needs.{needs}
-use Rattle.job_listing.proofs.Listing.{may-list, all-listed, refusal-listed}
+use Rattle.job_listing.proofs.Listing.{given-low, by-none, by-cents, by-bad}
 use Rattle.job_listing.proofs.list_job.Statement.{statement}
 use Rattle.job_listing.proofs.list_job.Tie as tie
 
@@ -10,15 +10,18 @@ list-job-spec =
     (tie.spec
     (λ c κs. search needs)
     (λ c. search needs)
-    (λ c κs. search (needs, may-list))
-    (λ c. search needs)
-    (λ c κs. search needs)
     (λ c κs. search needs)
     (λ c. search needs)
+    (λ c κs. search (needs, given-low))
+    (λ c. search needs)
+    (λ c κs. search needs)
     (λ c. search needs)
     (λ c. search needs)
-    (λ c. search (needs, all-listed))
+    (λ c. search needs)
+    (λ c. search (needs, by-none))
     (λ c. search needs)
     (λ c. search needs)
     (λ c. search needs)
-    (λ c. search (needs, refusal-listed)))
+    (λ c. search (needs, by-cents))
+    (λ c. search needs)
+    (λ c. search (needs, by-bad)))

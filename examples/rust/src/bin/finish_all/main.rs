@@ -1,9 +1,8 @@
 //! finish_all DIR: finishes every job below a folder on all cores, one work space a thread, and writes a listing beside each job.
 mod folder;
-mod listing;
 mod tally;
 
-use outline::{finish, paths, Refused, JOB_BYTES, TRAY_BYTES, WORK_WORDS};
+use outline::{list, Refused, JOB_BYTES, TEXT_BYTES, TRAY_BYTES, WORK_WORDS};
 use std::io::{IsTerminal, Read, Write};
 use std::path::{Path, PathBuf};
 use std::process::exit;
@@ -47,29 +46,34 @@ fn asked() -> (PathBuf, usize) {
     }
 }
 
+/// The answer that a listing says.
+fn answer(listing: &[u8]) -> Result<(), Refused> {
+    match listing.strip_prefix(b"refused ") {
+        None => Ok(()),
+        Some(rest) => Err(Refused(String::from_utf8_lossy(rest).trim().parse().expect("a refusal's number"))),
+    }
+}
+
 /// What a thread keeps from job to job: nothing but room.
 struct Room {
     job: Vec<u8>,
     work: Vec<u32>,
     tray: Vec<u8>,
+    text: Vec<u8>,
 }
 
 impl Room {
     fn new() -> Room {
-        Room { job: Vec::new(), work: vec![0; WORK_WORDS], tray: vec![0; TRAY_BYTES] }
+        Room { job: Vec::new(), work: vec![0; WORK_WORDS], tray: vec![0; TRAY_BYTES], text: vec![0; TEXT_BYTES] }
     }
 
     /// Finishes the job in a file and writes its listing.
     fn finish(&mut self, file: &Path) -> std::io::Result<Result<(), Refused>> {
         self.job.clear();
         std::fs::File::open(file)?.take(JOB_BYTES as u64).read_to_end(&mut self.job)?;
-        let answer = finish(&self.job, &mut self.work, &mut self.tray);
-        let text = match answer {
-            Ok(()) => listing::listing(&paths(&self.tray)),
-            Err(Refused(number)) => format!("refused {number}\n"),
-        };
-        std::fs::write(file.with_extension("list"), text)?;
-        Ok(answer)
+        let listing = list(&self.job, &mut self.work, &mut self.tray, 0, &mut self.text).expect("room for the listing");
+        std::fs::write(file.with_extension("list"), listing)?;
+        Ok(answer(listing))
     }
 }
 

@@ -1,0 +1,2 @@
+-- What is read at a rate.
+pub mod Taking

@@ -1,0 +1,34 @@
+-- The charge line: document 02, Ask 1, "A last line has `charge`, quotient, remainder".
+use Prim.Native.Nat.{ℕ}
+use mathlib.Core.List.{List, [], _∷_, _++_}
+use lib.IntN.{ℤ, pos, natAbs, _+ℤ_}
+use lib.ListN.{length}
+use Rattle.rings.specs.Count.{sumBy}
+use Rattle.rates.specs.declared.Charge.{Charge}
+use Rattle.rates.specs.Charge.{chargeOf}
+use Rattle.geometry.specs.declared.Point.{Point}
+use Rattle.geometry.specs.Plane.{areaOutpt}
+use Rattle.listing.specs.Text.{SPACE, NEWLINE, decimal, CHARGE}
+use Rattle.listing.specs.Fields.{pathsIn}
+use Rattle.listing.specs.Lines.{listingOf}
+
+-- "The net doubled area is the sum over all closed paths"
+abbrev pub netArea : List (List Point) → ℤ
+netArea [] = pos 0
+netArea (p ∷ ps) = areaOutpt p +ℤ netArea ps
+
+-- "`charge`, quotient, remainder"
+abbrev pub chargeText : Charge → List ℕ
+chargeText c = CHARGE ++ (SPACE ∷ []) ++ decimal (c .quotient) ++ (SPACE ∷ []) ++ decimal (c .remainder) ++ (NEWLINE ∷ [])
+
+-- "and its magnitude counts"
+abbrev pub chargeLine : ℕ → List (List Point) → List ℕ
+chargeLine rate ps = chargeText (chargeOf (natAbs (netArea ps)) rate)
+
+-- the listing of a tray, and the charge of its closed paths at a rate
+unfoldable pub chargedOf : ℕ → ℕ → ℕ → List ℕ → List ℕ
+chargedOf rate closed open′ t = listingOf closed open′ t ++ chargeLine rate (pathsIn t closed 0)
+
+-- how many points the paths have
+abbrev pub pointCount : List (List Point) → ℕ
+pointCount ps = sumBy length ps

@@ -1,0 +1,4 @@
+-- Laws of rates and charges.
+pub mod Charging
+pub mod Digits
+pub mod Examples

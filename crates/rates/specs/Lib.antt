@@ -1,0 +1,3 @@
+-- The rate by the program's arguments, and the charge of an area at a rate.
+pub mod Rate
+pub mod Charge
