@@ -21,11 +21,12 @@ use Rattle.store.specs.Sound.{pts, ringAt, Closed, dueAt, loneAt}
 use Rattle.store.specs.Good.{PointIn, Sound}
 use Rattle.store.specs.Words.{Store}
 use Rattle.acts.proofs.Acting.{Ready, to-discard, to-move, to-go-first, to-drop, to-double, to-cut}
-use Rattle.acts.proofs.Positions.{Loop, loop, inLoop}
+use Rattle.acts.proofs.Positions.{Loop, loop}
 use Rattle.acts.proofs.Progressing.{rested}
 use Rattle.acts.specs.Apply.{Coding}
 use Rattle.acts.specs.Codes.{Codes}
 use Rattle.acts.specs.Laws.{Laws}
+use Rattle.acts.specs.Rep.{inLoop}
 use Rattle.acts.specs.Value.{value}
 
 module _ {P : Type 0} (G : Geo P) (f : Coding P) (Λ : Laws G f) (s : Store) (o : Sound s) (i : ℕ) (c : Closed s i) where

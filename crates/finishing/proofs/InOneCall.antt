@@ -50,7 +50,7 @@ pub done-ready : (w w₁ : List ℕ) → OpeningLeft w → finishRings w ≡ rin
 unfolding finishRings
 done-ready w w₁ o e =
     let r = finish-done (geometryOf (view w)) raised (laws (preserveCollinear (view w))) w _ w₁ (start-rep w o) e in
-    record { long = r .long; sound = r .rep .sound }
+    record { long = r .long; sound = r .rep .in-step .sound }
 
 module _ (w w₁ t : List ℕ) (a : code.RingsEnd) (e : endIs a w₁ ≡ finishW (geometryOf (view w)) raised w) where
   stepped-as : afterSteps (endIs a w₁) t ≡ afterSteps (finishRings w) t

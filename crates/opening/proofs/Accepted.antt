@@ -53,10 +53,13 @@ started w r =
       sound = start-sound w r;
       tests = sound-passed (startRings w) (start-sound w r);
       fresh = start-fresh w r;
-      present = λ i h.
-          let b = begun-all w r in
-          b .presents i (omega (arith, recs-same (view w) (view (startRings w)) b)) ∙ sym (first-same (view w) (view (startRings w)) b i);
+      marks = λ i h. b .marks i (omega (arith, recs-same (view w) (view (startRings w)) b));
+      present = λ i h. b .presents i (omega (arith, recs-same (view w) (view (startRings w)) b)) ∙ sym (first-same (view w) (view (startRings w)) b i);
+      starts = λ i h. b .starts i (omega (arith, recs-same (view w) (view (startRings w)) b)) ∙ sym (first-same (view w) (view (startRings w)) b i);
     }
+  where
+    b : Begun (view w) (view (startRings w)) (recs (view w))
+    b = begun-all w r
 
 given-started : (s t u : Store) → OpenKept s t → Begun t u (recs t) → OpenAsGiven s u
 given-started s t u o b =

@@ -20,7 +20,7 @@ use Rattle.store.specs.Field.{pt, rc, NEXT, PREV, FIRST}
 use Rattle.store.specs.Sound.{pts, ringAt, Closed, dueAt, loneAt}
 use Rattle.store.specs.Good.{Sound}
 use Rattle.store.specs.Words.{Store}
-use Rattle.acts.proofs.Positions.{inLoop}
+use Rattle.acts.specs.Rep.{inLoop}
 use Rattle.acts.proofs.Progressing.{rested}
 use Rattle.acts.specs.Value.{value}
 use Rattle.turns.proofs.Removing.{removal-is}

@@ -45,7 +45,7 @@ begun w i v = record { finishes = v; same = refl; size = refl; fuel = enough 204
 
 module _ (w₀ : List ℕ) (i : ℕ) (w : List ℕ) (R : Running w₀ i w) where
   pub sound-words : SoundWords w
-  sound-words = record { long = R .finishes .rep .long; sound = R .finishes .rep .rep .sound }
+  sound-words = record { long = R .finishes .rep .long; sound = R .finishes .rep .rep .in-step .sound }
 
   module _ (w′ : List ℕ) (a : Answer) (e : outcome a w′ ≡ stepWords (geometryOf (view w)) raised w i) where
     stepped : outcome a w′ ≡ outcome (answerS (geometryOf (view w₀)) raised (view w) i) (stepW (geometryOf (view w₀)) raised w i)
