@@ -58,9 +58,9 @@ module _ {P : Type 0} (G : Geo P) (f : Coding P) (Λ : Laws G f) (s : Store) (o 
 
     splits : (xs : List ℕ) → b .others ≡ xs → (fi : ℕ) (st : Option ℕ) → Ready f s i (splitTurn G (value (f .of) s (s (rc PRESENT) i) ∷ map (value (f .of) s) xs) fi st)
     unfolding splitTurn doSplitOp
-    splits [] e fi st = rw (Λ .flat-2 (value (f .of) s (s (rc PRESENT) i)) (value (f .of) s (s (rc PRESENT) i))) (to-move split _ m refl)
-    splits (y ∷ []) e fi st = rw (Λ .flat-2 (value (f .of) s y) (value (f .of) s (s (rc PRESENT) i))) (to-move split _ m refl)
-    splits (y ∷ z ∷ []) e fi st = rw (Λ .flat-3 (value (f .of) s z) (value (f .of) s (s (rc PRESENT) i)) (value (f .of) s y)) (to-move split _ m refl)
+    splits [] e fi st = rw (Λ .flat .same-edge (value (f .of) s (s (rc PRESENT) i)) (value (f .of) s (s (rc PRESENT) i))) (to-move split _ m refl)
+    splits (y ∷ []) e fi st = rw (Λ .flat .same-edge (value (f .of) s y) (value (f .of) s (s (rc PRESENT) i))) (to-move split _ m refl)
+    splits (y ∷ z ∷ []) e fi st = rw (Λ .flat .back-to-start (value (f .of) s z) (value (f .of) s (s (rc PRESENT) i)) (value (f .of) s y)) (to-move split _ m refl)
     splits (y ∷ z ∷ u ∷ r) e fi st =
         let x : P = value (f .of) s (s (rc PRESENT) i) in
         let p : P = lastOf (value (f .of) s u) (map (value (f .of) s) r) in

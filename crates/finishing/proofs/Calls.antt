@@ -18,10 +18,10 @@ use Rattle.audit.proofs.Agreeing.{passed-sound}
 use Rattle.acts.specs.Run as acts
 use Rattle.acts.specs.Step.{outcome, live, answerS, stepW}
 use Rattle.turns.specs.Form.{raised, geometryOf}
-use Rattle.turns.specs.Reads.{SoundWords}
-use Rattle.turns.specs.declared.Answer as code
-use Rattle.turns.specs.declared.Answer.the-variants as answers
-use Rattle.turns.specs.Code.{answerIs}
+use Rattle.steps.specs.Applies.{SoundWords}
+use Rattle.steps.specs.declared.Answer as code
+use Rattle.steps.specs.declared.Answer.the-variants as answers
+use Rattle.steps.specs.Code.{answerIs}
 use Rattle.paths.specs.declared.Written.{Written}
 use Rattle.paths.specs.declared.Written.the-variants as written
 use Rattle.paths.specs.Wrote.{wrote, buildPaths64}

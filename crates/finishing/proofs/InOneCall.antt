@@ -9,9 +9,9 @@ use Rattle.store.specs.Words.{view}
 use Rattle.store.specs.Value.{preserveCollinear}
 use Rattle.acts.proofs.Finished.{finish-done}
 use Rattle.turns.specs.Form.{raised, geometryOf}
-use Rattle.turns.specs.declared.RingsEnd as code
-use Rattle.turns.specs.declared.RingsEnd.the-variants.{Done, Full}
-use Rattle.turns.specs.Code.{endIs}
+use Rattle.steps.specs.declared.RingsEnd as code
+use Rattle.steps.specs.declared.RingsEnd.the-variants.{Done, Full}
+use Rattle.steps.specs.Code.{endIs}
 use Rattle.turns.proofs.Ready.{laws}
 use Rattle.acts.specs.Finish.{RingsEnd, ringsDone, finishW}
 use Rattle.paths.specs.declared.Written.{Written}

@@ -55,7 +55,7 @@ fn list_charged(
 }
 
 // The listing of a job, in a lent slice: the answer, every word and every byte left. `listing::TEXT` bytes are always room enough (`cutlist-fits`), and the first
-// `deciding::DECIDES` bytes of an input are enough (`cutlist-decided`). A bad rate is refused before the job is looked at.
+// `prefix::DECIDES` bytes of an input are enough (`cutlist-decided`). A bad rate is refused before the job is looked at.
 pub fn list_job(
     bytes: &[u8],
     rate: Rate,

@@ -1,7 +1,6 @@
 // Replays the stored jobs on standard input through `list_job`, with no Rust at hand, and prints each case's name, listing and tray: first document 01's bench
 // examples, then the other stored answers, then the jobs at the limits, then those with a rate. A case is two lines, `case NAME` and `job HEX`; in the job a space
 // begins a field, and `+N` after it is N more of it (see `again`). Between the two a line `at "ARGUMENT"` may say the rate. `tests/replay ORACLE crates/replay` makes both files from what the real Rust answers.
-use deciding::DECIDES;
 use job::Job;
 use job_listing::list_job;
 use libc::STDIN_FILENO;
@@ -9,6 +8,7 @@ use libc::STDOUT_FILENO;
 use listing::Listed;
 use listing::TEXT;
 use paths::TRAY;
+use prefix::DECIDES;
 use rates::Rate;
 use rates::rate_in;
 use store::LENGTH;

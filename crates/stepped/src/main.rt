@@ -25,6 +25,7 @@ use opening::open::Opened;
 use opening::open::open;
 use paths::TRAY;
 use paths::Written;
+use steps::step::is_live;
 use store::Col;
 use store::LENGTH;
 use store::read;
@@ -34,11 +35,10 @@ use test_text::further;
 use test_text::number_at;
 use turns::Act;
 use turns::decide::decide;
-use turns::step::is_live;
 ghost use Prim.Native.Nat.{_≤_};
 ghost use lib.ListN.{length};
 ghost use Rattle.store.specs.Field.{LENGTH};
-ghost use Rattle.turns.specs.Reads.{SoundWords};
+ghost use Rattle.steps.specs.Applies.{SoundWords};
 
 // ---- a step
 

@@ -1,6 +1,6 @@
 -- `stepped::act_on`: a live record of a sound work space can be decided.
 use borrow.Author.Needs.{needs}
-use Rattle.turns.proofs.Steps.{steps}
+use Rattle.steps.proofs.Steps.{steps}
 use Rattle.stepped.proofs.act_on.Statement.{statement}
 use Rattle.stepped.proofs.act_on.Tie as tie
 

@@ -1,0 +1,89 @@
+-- How far reading is, by what it has counted: so it is never past the longest job.
+use mathlib.Core.Path.{_≡_, refl, ap}
+use mathlib.Core.Bool.{Bool, true, false, cond, not, _&&_, _||_}
+use mathlib.Core.List.{List}
+use Prim.Native.Nat.{ℕ, zero, suc, _+_, _*_, _≤_}
+use native.Mathlib.Omega.{arith}
+use lib.Dec.{ltb, eqb}
+use borrow.Author.Tests.{ltb-false}
+use Rattle.job.specs.declared.Job.{Job}
+use Rattle.job.specs.declared.refusal.Refusal.the-variants.{Torn, Strange, Crowded}
+use Rattle.job.specs.declared.field.Kind.{Kind}
+use Rattle.job.specs.declared.field.Kind.the-variants as kind
+use Rattle.job.specs.declared.field.Field.{Field}
+use Rattle.job.specs.declared.field.Field.the-variants.{Settings}
+use Rattle.job.specs.declared.field.Reading.the-variants.{Read, Refused}
+use Rattle.job.specs.Field.{tagOf, valueOf, kindOf, sizeOf, fieldIn, tornHeader, strangeTag, tornValue, strangeBits, crowded, bodyOf, fieldOf}
+use Rattle.job.specs.Job.{fresh, past, Within}
+use Rattle.job.proofs.Fields.{or-right}
+use Rattle.job.proofs.Accepted.{passed}
+use Rattle.prefix.specs.Decides.{wholeOf, LONGEST}
+
+-- the settings' bytes, once a tag was seen
+abbrev first : ℕ → ℕ
+first zero = 0
+first (suc n) = wholeOf kind.Settings
+
+pub record Spent (j : Job) : Type 0 where
+  pub at : j .at ≤ first (j .last) + j .points * wholeOf kind.Point + j .records * wholeOf kind.Record + j .segments * wholeOf kind.Segment + j .joins * wholeOf kind.Join
+
+pub spent-fresh : Spent fresh
+spent-fresh = record { at = omega arith }
+
+first-le : (n : ℕ) → first n ≤ 4
+first-le zero = omega arith
+first-le (suc n) = omega arith
+
+-- never past the longest job
+pub not-past : (j : Job) → Spent j → Within j → j .at ≤ LONGEST
+not-past j s w = let a = first-le (j .last) in omega (arith, s .at, w .points, w .records, w .segments, w .joins)
+
+-- only tag 1 is settings
+tag-one : (q d e f : Bool) → cond q kind.Settings (cond d kind.Point (cond e kind.Record (cond f kind.Segment kind.Join))) ≡ kind.Settings → q ≡ true
+tag-one true d e f h = refl
+tag-one false true e f h = absurd (let z : _≡_ {A = ℕ} 0 1 = cc in omega arith)
+tag-one false false true f h = absurd (let z : _≡_ {A = ℕ} 0 1 = cc in omega arith)
+tag-one false false false true h = absurd (let z : _≡_ {A = ℕ} 0 1 = cc in omega arith)
+tag-one false false false false h = absurd (let z : _≡_ {A = ℕ} 0 1 = cc in omega arith)
+
+both : (p q : Bool) → (p && q) ≡ false → q ≡ true → p ≡ false
+both true q h e = absurd (let z : _≡_ {A = ℕ} 0 1 = cc in omega arith)
+both false q h e = refl
+
+-- settings are read before any other tag
+settings-first : (last tag : ℕ) → strangeTag last tag ≡ false → kindOf tag ≡ kind.Settings → last ≡ 0
+settings-first last tag h k =
+    let c = or-right (eqb tag 0 || ltb 5 tag || ltb tag last || (eqb last 0 && not (eqb tag 1))) (ltb 0 last && eqb tag 1) h in
+    let d = ltb-false 0 last (both (ltb 0 last) (eqb tag 1) c (tag-one (eqb tag 1) (eqb tag 2) (eqb tag 3) (eqb tag 4) k)) in
+    omega arith
+
+-- a field of its kind's size
+body-read : (k : Kind) (j : Job) (s : List ℕ) (f : Field) (n : ℕ) → bodyOf k j s ≡ Read f n → Read (fieldIn k (valueOf s)) (wholeOf k) ≡ Read f n
+unfolding bodyOf
+body-read k j s f n e =
+    let g = fieldIn k (valueOf s) in
+    let full = cond (crowded k j) (Refused Crowded) (Read g (3 + sizeOf k)) in
+    let a = passed (tornValue k s) Torn (cond (strangeBits g) (Refused Strange) full) f n e in
+    let b = passed (strangeBits g) Strange full f n (a .1) in
+    passed (crowded k j) Crowded (Read g (3 + sizeOf k)) f n (b .1) .1
+
+module _ (j : Job) (v : List ℕ) (i : Spent j) where
+  counted : (k : Kind) → (k ≡ kind.Settings → j .last ≡ 0) → Spent (past (fieldIn k v) (wholeOf k) j)
+  counted kind.Settings h = record { at = (let a : first (j .last) ≡ 0 = ap first (h refl) in omega (arith, i .at)) }
+  counted kind.Point h = record { at = (let a = first-le (j .last) in omega (arith, i .at)) }
+  counted kind.Record h = record { at = (let a = first-le (j .last) in omega (arith, i .at)) }
+  counted kind.Segment h = record { at = (let a = first-le (j .last) in omega (arith, i .at)) }
+  counted kind.Join h = record { at = (let a = first-le (j .last) in omega (arith, i .at)) }
+
+-- a field that is read is counted with its bytes
+pub spent-past : (j : Job) (s : List ℕ) (f : Field) (n : ℕ) → Spent j → fieldOf j s ≡ Read f n → Spent (past f n j)
+unfolding fieldOf
+spent-past j s f n i e =
+    let a = passed (tornHeader s) Torn _ f n e in
+    let b = passed (strangeTag (j .last) (tagOf s)) Strange _ f n (a .1) in
+    let k = kindOf (tagOf s) in
+    let c = body-read k j s f n (b .1) in
+    let d : fieldIn k (valueOf s) ≡ f = cc (c) in
+    let m : wholeOf k ≡ n = cc (c) in
+    let g = counted j (valueOf s) i k (λ h. settings-first (j .last) (tagOf s) (b .0) h) in
+    rw (← d, ← m) g

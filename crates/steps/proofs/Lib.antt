@@ -1,0 +1,4 @@
+-- Laws of the code of a step.
+pub mod Applying
+pub mod Steps
+pub mod Looping

@@ -1,0 +1,3 @@
+-- What the code of a step is about: its answers by the names of the definitions, and what its functions require.
+pub mod Code
+pub mod Applies
