@@ -24,7 +24,7 @@ use Rattle.lone.specs.Ring.{Act, apply, offcut, takesPoints, ringsNew, offcutsN
 use Rattle.store.proofs.Keeping.{Kept, ring-other, lone-other}
 use Rattle.store.proofs.Soundness.{from-first, present-on}
 use Rattle.store.specs.Field.{pt, rc, NEXT, PREV, FLAGS, FIRST, MARK, PRESENT, START, CUT}
-use Rattle.store.specs.Sound.{pts, recs, ringless, ringAt, isOpen, dueAt, loneDue, loneAt, Closed}
+use Rattle.store.specs.Sound.{pts, recs, ringless, ringAt, isOpen, dueAt, loneDue, loneAt}
 use Rattle.store.specs.Good.{Sound}
 use Rattle.store.specs.Words.{Store}
 use Rattle.acts.specs.InStep.{orNone, Holds, no-ring, an-open, a-closed, InStep}

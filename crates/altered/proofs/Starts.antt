@@ -1,16 +1,15 @@
 -- Starts that are points in use, or numbers that no point will have, stay so under every step; so the store stays in step with the forest under every list.
-use Prim.Native.Nat.{ℕ, _+_, _≤_, _<_}
+use Prim.Native.Nat.{ℕ, _≤_, _<_}
 use mathlib.Core.Path.{_≡_, refl, ap}
 use mathlib.Core.Logic.{_⊎_, inl, inr}
 use mathlib.Core.List.{List, [], _∷_}
-use mathlib.Core.Option.{some}
 use native.Mathlib.Omega.{arith}
 use Rattle.rings.specs.Progress.{Ring}
 use Rattle.lone.proofs.Acting.{count, takes-is}
 use Rattle.lone.specs.Forest.{Answer, ok, full, outOfTurn, Forest, runForest, stepForest}
 use Rattle.lone.specs.Lone.{Geo}
 use Rattle.lone.specs.Order.{machine}
-use Rattle.lone.specs.Ring.{ringsNew, takesPoints}
+use Rattle.lone.specs.Ring.{takesPoints}
 use Rattle.store.specs.Field.{rc, START}
 use Rattle.store.specs.Sound.{pts}
 use Rattle.store.specs.Good.{Sound}

@@ -9,7 +9,7 @@ use native.Mathlib.Nat.{add-zero, zero-add, add-assoc, not-suc-le-zero, le-of-lt
 use native.Mathlib.Numerals.{add-one}
 use native.Mathlib.Omega.{arith}
 use native.Mathlib.Decide.{decLt, ℕ-discrete}
-use lib.ListN.{length, set, getElem?, length-append, length-set, length-map}
+use lib.ListN.{length, set, getElem?, length-append, length-map}
 use lib.Seq.{take-all, getD-set-other, map-set-same, take-append-le}
 use lib.Dec.{eqb}
 use borrow.Author.Tests.{eq-eqb, ne-eqb}
