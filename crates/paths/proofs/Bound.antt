@@ -13,13 +13,12 @@ use Rattle.rings.proofs.Counting.{pigeon}
 use Rattle.rings.proofs.Members.{occ-append}
 use Rattle.store.specs.Words.{Store, view}
 use Rattle.store.specs.Sound.{pts, recs, ringAt, isOpen}
-use Rattle.store.specs.Good.{Sound}
+use Rattle.store.specs.Good.{Sound, SoundWords}
 use Rattle.store.specs.Value.{reverseSolution}
 use Rattle.paths.specs.declared.Need.{Need}
 use Rattle.paths.specs.declared.Written.the-variants.{Paths, Refused}
 use Rattle.paths.specs.Path.{pathIf, closedPaths, openPaths, sizeOf}
 use Rattle.paths.specs.Tray.{tagOf, fields, fieldsOf, padded, TRAY}
-use Rattle.paths.specs.Walking.{Ready}
 use Rattle.paths.specs.Count.{needOf}
 use Rattle.paths.specs.Filling.{fieldAt, fieldsBelow, AllFit}
 use Rattle.paths.specs.Wrote.{wrote, buildPaths64}
@@ -107,7 +106,7 @@ module _ (s : Store) where
 
 -- ---- the two counts against the tray
 
-module _ (w : List ℕ) (r : Ready w) (c d : Need) (e : c ≡ needOf (view w) false) (f : d ≡ needOf (view w) true) where
+module _ (w : List ℕ) (r : SoundWords w) (c d : Need) (e : c ≡ needOf (view w) false) (f : d ≡ needOf (view w) true) where
   pub bytes-are : c .bytes + d .bytes ≡ length (fieldsOf (view w))
   unfolding needOf fieldsBelow
   bytes-are = rw (e, f) (sym (length-fieldsOf (view w)))

@@ -21,6 +21,7 @@ ghost use Rattle.lone.specs.Path.{isSmallRing};
 ghost use Rattle.store.specs.Field.{LENGTH};
 ghost use Rattle.store.specs.Words.{view};
 ghost use Rattle.store.specs.Sound.{recs, isOpen};
+ghost use Rattle.store.specs.Good.{SoundWords};
 ghost use Rattle.store.specs.Value.{preserveCollinear, reverseSolution};
 ghost use Rattle.paths.specs.Path.{pointAt, pathBy, pathIf, sizeOf};
 ghost use Rattle.paths.specs.Count.{pathCount, fieldSize, needOf};
@@ -28,7 +29,7 @@ ghost use Rattle.paths.specs.Tray.{pathBytes, tagOf, fieldsOf, padded, o
 ghost use Rattle.paths.specs.Tray as trays;
 ghost use Rattle.paths.specs.Filling.{pathPoints, fieldAt, fieldsBelow, layOver, PointsFit, FieldFits, FieldsFit, AllFit};
 ghost use Rattle.paths.specs.Wrote.{wrote, buildPaths64};
-ghost use Rattle.paths.specs.Walking.{startFrom, roundFrom, Ready, Known, Directed, Asked, ThreeOrMore, Sized, Round, laid};
+ghost use Rattle.paths.specs.Walking.{startFrom, roundFrom, Known, Directed, Asked, ThreeOrMore, Sized, Round, laid};
 
 // A tray of so many bytes is never too small.
 pub const TRAY: usize = 3 * Job::RECORDS + 8 * Job::POINTS;
@@ -300,7 +301,7 @@ fn fill(w: &[u32], rev: bool, t: &mut [u8])
 
 // `build_paths64`: all paths into the tray, or a refusal, found before anything is written.
 pub fn build_paths64(w: &[u32], tray: &mut [u8]) -> Written
-    requires { ⌜ Ready (now w) ⌝ }
+    requires { ⌜ SoundWords (now w) ⌝ }
     ensures { λ r. ⌜ wrote r (now (tray .exit)) ≡ buildPaths64 (view (now (w .entry))) (now (tray .entry)) ⌝ }
 {
     let rev = reverse_solution(w);

@@ -38,7 +38,7 @@ use turns::step::is_live;
 ghost use Prim.Native.Nat.{_≤_};
 ghost use lib.ListN.{length};
 ghost use Rattle.store.specs.Field.{LENGTH};
-ghost use Rattle.turns.specs.Reads.{SoundWords};
+ghost use Rattle.store.specs.Good.{SoundWords};
 
 // ---- a step
 

@@ -17,6 +17,7 @@ use Rattle.lone.specs.Rounds.{enough}
 use Rattle.store.specs.Field.{ct, SETTINGS, LENGTH}
 use Rattle.store.specs.Words.{view}
 use Rattle.store.specs.Sound.{recs, isOpen, loneAt}
+use Rattle.store.specs.Good.{SoundWords}
 use Rattle.store.specs.Value.{preserveCollinear}
 use Rattle.acts.specs.Step.{Outcome, outcome, actAt, roomFor, answerS, stepByW, stepW}
 use Rattle.acts.specs.Run.{stepWords}
@@ -25,7 +26,6 @@ use Rattle.acts.specs.Finishable.{MayFinish, wordsLeft}
 use Rattle.acts.proofs.Stepping.{length-step}
 use Rattle.acts.proofs.Finishing.{settings-kept, finishes-step, words-fall, words-bound, finishes-record, settings-record, length-record}
 use Rattle.turns.specs.Form.{raised, geometryOf}
-use Rattle.turns.specs.Reads.{SoundWords}
 use Rattle.turns.specs.Takes.{isFull}
 use Rattle.turns.proofs.Ready.{laws}
 

@@ -14,6 +14,7 @@ use Rattle.lone.specs.Forest.{ok, full, outOfTurn}
 use Rattle.store.specs.Field.{rc, ct, FLAGS, FIRST, MARK, POINTS, RECORDS}
 use Rattle.store.specs.Words.{Store, view, cell}
 use Rattle.store.specs.Sound.{pts, recs, dueOf, dueAt}
+use Rattle.store.specs.Good.{SoundWords}
 use Rattle.store.specs.Value.{preserveCollinear}
 use Rattle.acts.specs.Apply.{takesRecord, afterW}
 use Rattle.acts.specs.Step.{outcome, fits, live, actAt, answerS, stepW}
@@ -26,7 +27,7 @@ use Rattle.turns.specs.declared.Act.the-variants.{Cut}
 use Rattle.turns.specs.declared.Due as due
 use Rattle.turns.specs.Code.{dueIs, actIs}
 use Rattle.turns.specs.Form.{raised, geometryOf}
-use Rattle.turns.specs.Reads.{Steps, SoundWords}
+use Rattle.turns.specs.Reads.{Steps}
 use Rattle.turns.specs.Applies.{NewIn, Applies}
 use Rattle.turns.proofs.Ready.{laws, in-codes, reach}
 

@@ -18,7 +18,8 @@ ghost use Rattle.acts.specs.Step.{outcome, fits, live};
 ghost use Rattle.acts.specs.Run.{stepWords};
 ghost use Rattle.turns.specs.Code.{actIs, answerIs};
 ghost use Rattle.turns.specs.Form.{raised, geometryOf};
-ghost use Rattle.turns.specs.Reads.{Steps, SoundWords};
+ghost use Rattle.store.specs.Good.{SoundWords};
+ghost use Rattle.turns.specs.Reads.{Steps};
 
 // How many points an act takes.
 fn takes_points(act: Act) -> usize
