@@ -12,7 +12,8 @@ use Rattle.audit.specs.Tests.{anyBelow}
 use Rattle.reading.specs.declared.fill.Outcome.the-variants.{State, Refused}
 use Rattle.reading.specs.Fill.{ReadEnd, end, turnOf, run, fillOf}
 use Rattle.reading.specs.Read.{readOf}
-use Rattle.rows.specs.Owners.{endsIn, findIn}
+use Rattle.joins.specs.Resolve.{findIn}
+use Rattle.rows.specs.Owners.{endsIn}
 use Rattle.rings.specs.Walk as walk
 use Rattle.rows.specs.Rings.{anyIn}
 use Rattle.rows.specs.Rows.{rowsOf}
