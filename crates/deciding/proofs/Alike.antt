@@ -16,7 +16,7 @@ use Rattle.job.specs.declared.field.Reading.the-variants as reading
 use Rattle.job.specs.Field.{fieldOf}
 use Rattle.job.specs.Job.{fresh, past, Within}
 use Rattle.job.proofs.Accepted.{within-fresh}
-use Rattle.reading.specs.declared.fill.Outcome.the-variants.{State, Refused}
+use Rattle.reading.specs.declared.fill.Outcome.the-variants.{Ok, Refused}
 use Rattle.reading.specs.Fill.{ReadEnd, end, placed, taken, turnOf, follow, run, fillOf}
 use Rattle.reading.proofs.Going.{After, moves}
 use Rattle.deciding.specs.Decides.{LONGEST, DECIDES}
@@ -26,7 +26,7 @@ use Rattle.deciding.proofs.Spent.{Spent, spent-fresh, spent-past, not-p
 
 -- what a turn leaves, if it is no refusal, is counted with its bytes
 abbrev Counted : ReadEnd → Type 0
-Counted (end (State n) w ss js) = Spent n
+Counted (end (Ok n) w ss js) = Spent n
 Counted (end (Refused x) w ss js) = Unit {0}
 
 module _ (j : Job) (w ss js : List ℕ) (i : Spent j) where
@@ -68,8 +68,8 @@ module _ (a b : List ℕ) (e : take DECIDES a ≡ take DECIDES b) where
   run-same (suc k) (suc m) j w ss js i l p q f g =
       rw (turn-same j i l w ss js, end-same j i l) (by (ltb (j .at) (length b)) refl (turnOf b j w ss js) (moves b j w ss js) (turn-counted j w ss js i b) (λ n u us ls. run-same k m n u us ls))
     where
-      by : (t : Bool) → ltb (j .at) (length b) ≡ t → (T : ReadEnd) → After j T → Counted T → ((n : Job) (u us ls : List ℕ) → Spent n → Within n → 0 < k → 0 < m → length a < n .at + k → length b < n .at + m → run k a n u us ls ≡ run m b n u us ls) → cond t (follow (run k a) T) (end (State j) w ss js) ≡ cond t (follow (run m b) T) (end (State j) w ss js)
-      by true h (end (State n) u us ls) d c again =
+      by : (t : Bool) → ltb (j .at) (length b) ≡ t → (T : ReadEnd) → After j T → Counted T → ((n : Job) (u us ls : List ℕ) → Spent n → Within n → 0 < k → 0 < m → length a < n .at + k → length b < n .at + m → run k a n u us ls ≡ run m b n u us ls) → cond t (follow (run k a) T) (end (Ok j) w ss js) ≡ cond t (follow (run m b) T) (end (Ok j) w ss js)
+      by true h (end (Ok n) u us ls) d c again =
           let x = ltb-true (j .at) (length b) h in
           let y = ltb-true (j .at) (length a) (end-same j i l ∙ h) in
           let z = d .at in
@@ -83,21 +83,21 @@ module _ (a b : List ℕ) (e : take DECIDES a ≡ take DECIDES b) where
 
 -- no longer job is read to its end
 module _ (bytes : List ℕ) (n : Job) (v ts ks : List ℕ) where
-  run-longest : (k : ℕ) (j : Job) (w ss js : List ℕ) → Spent j → Within j → run k bytes j w ss js ≡ end (State n) v ts ks → length bytes ≤ LONGEST
+  run-longest : (k : ℕ) (j : Job) (w ss js : List ℕ) → Spent j → Within j → run k bytes j w ss js ≡ end (Ok n) v ts ks → length bytes ≤ LONGEST
   unfolding run
   run-longest zero j w ss js i l e = absurd (let z : _≡_ {A = ℕ} 0 1 = cc in omega arith)
   run-longest (suc k) j w ss js i l e =
       by (ltb (j .at) (length bytes)) refl (turnOf bytes j w ss js) (moves bytes j w ss js) (turn-counted j w ss js i bytes) e (λ m u us ls. run-longest k m u us ls)
     where
-      by : (t : Bool) → ltb (j .at) (length bytes) ≡ t → (T : ReadEnd) → After j T → Counted T → cond t (follow (run k bytes) T) (end (State j) w ss js) ≡ end (State n) v ts ks → ((m : Job) (u us ls : List ℕ) → Spent m → Within m → run k bytes m u us ls ≡ end (State n) v ts ks → length bytes ≤ LONGEST) → length bytes ≤ LONGEST
-      by true h (end (State m) u us ls) d c f again = again m u us ls c (d .within l) f
+      by : (t : Bool) → ltb (j .at) (length bytes) ≡ t → (T : ReadEnd) → After j T → Counted T → cond t (follow (run k bytes) T) (end (Ok j) w ss js) ≡ end (Ok n) v ts ks → ((m : Job) (u us ls : List ℕ) → Spent m → Within m → run k bytes m u us ls ≡ end (Ok n) v ts ks → length bytes ≤ LONGEST) → length bytes ≤ LONGEST
+      by true h (end (Ok m) u us ls) d c f again = again m u us ls c (d .within l) f
       by true h (end (Refused x) u us ls) d c f again = absurd (let z : _≡_ {A = ℕ} 0 1 = cc in omega arith)
       by false h T d c f again = let x = ltb-false (j .at) (length bytes) h in let y = not-past j i l in omega arith
 
-  pub fill-longest : (w ss js : List ℕ) → fillOf bytes w ss js ≡ end (State n) v ts ks → length bytes ≤ LONGEST
+  pub fill-longest : (w ss js : List ℕ) → fillOf bytes w ss js ≡ end (Ok n) v ts ks → length bytes ≤ LONGEST
   unfolding fillOf
   fill-longest w ss js e = by (eqb (length bytes) 0) e
     where
-      by : (t : Bool) → cond t (end (Refused Strange) w ss js) (run (suc (length bytes)) bytes fresh w ss js) ≡ end (State n) v ts ks → length bytes ≤ LONGEST
+      by : (t : Bool) → cond t (end (Refused Strange) w ss js) (run (suc (length bytes)) bytes fresh w ss js) ≡ end (Ok n) v ts ks → length bytes ≤ LONGEST
       by true d = absurd (let z : _≡_ {A = ℕ} 0 1 = cc in omega arith)
       by false d = run-longest (suc (length bytes)) fresh w ss js spent-fresh within-fresh d

@@ -9,7 +9,7 @@ use lib.ListN.{length, take, replicate}
 use lib.Seq.{take-take}
 use Rattle.job.specs.declared.refusal.Refusal.the-variants as refusal
 use Rattle.store.specs.Field.{LENGTH}
-use Rattle.reading.specs.declared.fill.Outcome.the-variants.{State}
+use Rattle.reading.specs.declared.fill.Outcome.the-variants.{Ok}
 use Rattle.reading.specs.declared.fill.Outcome.the-variants as outcome
 use Rattle.reading.specs.Fill as fill
 use Rattle.reading.specs.Fill.{fillOf}
@@ -54,7 +54,7 @@ pub longest : (bytes : List ℕ) (n : ℕ) (w : List ℕ) → openOf bytes n ≡
 longest bytes n w e = by (readIn bytes n) refl (ltb n LENGTH) (rw (open-reads bytes n) at e)
   where
     by : (T : fill.ReadEnd) → readIn bytes n ≡ T → (t : Bool) → cond t (end (Refused refusal.Full) (replicate n 0)) (settled n (afterRows (judged (withCounts T)))) ≡ end Accepted w → length bytes ≤ LONGEST
-    by (fill.end (State j) v ts ks) f t d = fill-longest bytes j v ts ks (replicate n 0) (replicate 256 0) (replicate 2560 0) f
+    by (fill.end (Ok j) v ts ks) f t d = fill-longest bytes j v ts ks (replicate n 0) (replicate 256 0) (replicate 2560 0) f
     by (fill.end (outcome.Refused x) v ts ks) f true d = absurd (let z : _≡_ {A = ℕ} 0 1 = cc in omega arith)
     by (fill.end (outcome.Refused x) v ts ks) f false d = absurd (let z : _≡_ {A = ℕ} 0 1 = cc in omega arith)
 

@@ -44,7 +44,7 @@ module _ (w ss : List ℕ) (m : ℕ) (js : List ℕ) (n : ℕ) (c : Converted) (
   segments-full f = rw (← e, f)
 
 module _ (bytes w v ts ks : List ℕ) (o : Outcome) (e : fill.end o v ts ks ≡ acceptOf bytes w (replicate limit.SEGMENTS 0) (replicate JOIN-POINTS 0)) where
-  pub rows-passed : (j : Job) (r : Opened) (y : List ℕ) → o ≡ outcome.State j → end r y ≡ afterSegments (convertHorzSegsToJoins v (j .segments) ts ks (j .joins)) → end r y ≡ stagesOf bytes w
+  pub rows-passed : (j : Job) (r : Opened) (y : List ℕ) → o ≡ outcome.Ok j → end r y ≡ afterSegments (convertHorzSegsToJoins v (j .segments) ts ks (j .joins)) → end r y ≡ stagesOf bytes w
   unfolding stagesOf
   rows-passed j r y f d = d ∙ rw (← e, f)
 

@@ -63,7 +63,7 @@ fn stages(bytes: &[u8], work: &mut [u32]) -> Opened
     let mut joins = [0u32; 2 * Job::JOINS + Job::POINTS];
     let o = accept(bytes, work, &mut segments, &mut joins);
     match o {
-        Outcome::State(j) => convert(work, &segments, j.segments, &mut joins, j.joins),
+        Outcome::Ok(j) => convert(work, &segments, j.segments, &mut joins, j.joins),
         Outcome::Refused(x) => Opened::Refused(x),
     }
 }

@@ -16,9 +16,9 @@ ghost use Rattle.store.specs.Column.{columnOf};
 ghost use Rattle.reading.specs.Fill.{end, putPoint, putRecord, putJoin, placed, turnOf, fillOf};
 ghost use Rattle.reading.specs.Needs.{Space, Placing};
 
-// The state after a field, or after all; or a refusal.
+// What was counted up to here, of a field, of all fields or of an accepted job; or the refusal.
 pub enum Outcome {
-    State(Job),
+    Ok(Job),
     Refused(Refusal),
 }
 
@@ -79,7 +79,7 @@ fn place(
     ensures { λ r. ⌜ end r (now (w .exit)) (now (segments .exit)) (now (joins .exit)) ≡ placed f n j (now (w .entry)) (now (segments .entry)) (now (joins .entry)) ⌝ }
 {
     match f {
-        Field::Settings { bits: _ } => Outcome::State(j.past(f, n)),
+        Field::Settings { bits: _ } => Outcome::Ok(j.past(f, n)),
         Field::Point {
             x,
             y,
@@ -88,7 +88,7 @@ fn place(
             record,
         } => {
             put_point(w, j.points, x, y, next, prev, record);
-            Outcome::State(j.past(f, n))
+            Outcome::Ok(j.past(f, n))
         }
         Field::Record {
             flags,
@@ -96,15 +96,15 @@ fn place(
             first,
         } => {
             put_record(w, j.records, flags, owner, first);
-            Outcome::State(j.past(f, n))
+            Outcome::Ok(j.past(f, n))
         }
         Field::Segment { point } => {
             list(segments, j.segments, point);
-            Outcome::State(j.past(f, n))
+            Outcome::Ok(j.past(f, n))
         }
         Field::Join { first, second } => {
             put_join(joins, j.joins, first, second);
-            Outcome::State(j.past(f, n))
+            Outcome::Ok(j.past(f, n))
         }
     }
 }
@@ -133,7 +133,7 @@ pub(crate) fn fill(bytes: &[u8], w: &mut [u32], segments: &mut [u32], joins: &mu
     while j.at < bytes.len() {
         let t = turn(bytes, j, w, segments, joins);
         match t {
-            Outcome::State(n) => {
+            Outcome::Ok(n) => {
                 j = n;
             }
             Outcome::Refused(x) => {
@@ -141,5 +141,5 @@ pub(crate) fn fill(bytes: &[u8], w: &mut [u32], segments: &mut [u32], joins: &mu
             }
         }
     }
-    Outcome::State(j)
+    Outcome::Ok(j)
 }
