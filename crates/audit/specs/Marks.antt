@@ -44,7 +44,7 @@ meets w i = isMarked (marksBy w i) (firstOf w i)
 -- what `mark_all` leaves: the marks of every reached point, and whether two records share a ring
 pub record AllMarked (w ms : List ℕ) (r : Bool) : Type 0 where
   pub marks : ms ≡ marksBy w (recordsOf w)
-  pub shares : r ≡ anyBelow (recordsOf w) (meets w)
+  pub shares : r ≡ anyBelow (recordsOf w) (λ i. meets w i)
 
 abbrev pub fails : PointTest → List ℕ → ℕ → Bool
 fails Table w k = offTable w k
@@ -62,11 +62,11 @@ anyMarked w ms t = anyBelow (pointsOf w) (λ k. isMarked ms k && fails t w k)
 -- the tests by the marks; whether records share a ring is known by then
 unfoldable pub linksOf : List ℕ → List ℕ → Bool → Verdict
 linksOf w ms shares =
-    cond (anyMarked w ms Numbers || anyRecord w (noSuchOf w)) (Refused NoSuch)
+    cond (anyMarked w ms Numbers || anyRecord w (λ i. noSuchOf w i)) (Refused NoSuch)
     (cond (anyMarked w ms Links) (Refused Loose)
-    (cond (shares || anyRecord w (misplaced w)) (Refused Muddled) Passed))
+    (cond (shares || anyRecord w (λ i. misplaced w i)) (Refused Muddled) Passed))
 
 unfoldable pub pointsTested : List ℕ → Verdict
 pointsTested w =
     let ms : List ℕ = marksBy w (recordsOf w) in
-    cond (anyMarked w ms Table) (Refused OffTheTable) (linksOf w ms (anyRecord w (meets w)))
+    cond (anyMarked w ms Table) (Refused OffTheTable) (linksOf w ms (anyRecord w (λ i. meets w i)))
