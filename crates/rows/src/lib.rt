@@ -1,8 +1,8 @@
 // Rows 4 to 8 of document 01's table, each over the whole job as it was read.
-mod marks;
 mod owners;
 mod resolving;
 mod tables;
+mod visits;
 
 use crate::tables::UNKNOWN;
 use audit::PointTest;
@@ -118,11 +118,12 @@ fn muddled(w: &[u32], homes: &mut [usize]) -> bool
         return true;
     }
     resolving::find_all(w, homes);
-    let mut marks = [0u8; Job::POINTS];
-    if marks::walk_all(w, homes, &mut marks) {
+    let r = visits::walk_all(w, homes);
+    if r.found {
         return true;
     }
-    marks::any_bare(w, &marks)
+    let marks = r.marks;
+    visits::any_bare(w, marks)
 }
 
 // Row 8.

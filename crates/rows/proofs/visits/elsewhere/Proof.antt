@@ -1,7 +1,7 @@
--- `rows::marks::elsewhere` meets its contract: what the point resolves to, compared.
+-- `rows::visits::elsewhere` meets its contract: what the point resolves to, compared.
 use borrow.Author.Needs.{needs}
-use Rattle.rows.proofs.marks.elsewhere.Statement.{statement}
-use Rattle.rows.proofs.marks.elsewhere.Tie as tie
+use Rattle.rows.proofs.visits.elsewhere.Statement.{statement}
+use Rattle.rows.proofs.visits.elsewhere.Tie as tie
 
 pub elsewhere-spec : {M : Type 1} → statement M
 elsewhere-spec =
