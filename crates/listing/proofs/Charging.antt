@@ -23,10 +23,8 @@ use Rattle.listing.specs.Lines.{listingOf}
 use Rattle.listing.specs.Charge.{netArea, chargeText, chargedOf, pointCount}
 use Rattle.listing.specs.Needs.{Sized, FieldIn, FieldsIn, Summable, Netting}
 use Rattle.listing.proofs.Pouring.{pour-more}
+use Rattle.listing.proofs.Runs.{less}
 use Rattle.listing.proofs.Heads.{field-sized}
-
-less : (k : ℕ) → 0 < k → k ≡ suc (k - 1)
-less k h = omega arith
 
 pub netting-begins : (t : List ℕ) (n : ℕ) → Summable t n → Netting t n 0 n (pos 0)
 netting-begins t n s = record { rest = s .fields; sum = +ℤ-idl (netArea (pathsIn t n 0)); low = omega (arith, s .few) }

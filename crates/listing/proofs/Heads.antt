@@ -10,12 +10,10 @@ use mir.Syntax.{w64}
 use mir.Val.{toZ, ofZ}
 use mir.Facts.{toZ-ofZ}
 use Rattle.exact.specs.Num.{Within}
-use Rattle.exact.proofs.Size.{fits-size, size-add}
-use Rattle.rings.specs.Circle.{lastOf}
-use Rattle.geometry.specs.declared.Point.{Point}
-use Rattle.geometry.specs.Plane.{edgeArea, areaFrom, areaOutpt}
-use Rattle.geometry.specs.Table.{InTable, AllInTable}
-use Rattle.geometry.proofs.Coordinates.{edge-within}
+use Rattle.exact.proofs.Size.{fits-size}
+use Rattle.geometry.specs.Plane.{areaOutpt}
+use Rattle.geometry.specs.Table.{AllInTable}
+use Rattle.geometry.proofs.Circles.{area-within}
 use Rattle.listing.specs.Pour.{poured, pour}
 use Rattle.listing.specs.Text.{SPACE, decimal, signedText, LINE}
 use Rattle.listing.specs.Fields.{pointsIn, valueLength, pathIn}
@@ -27,24 +25,11 @@ length-points : (t : List ℕ) (n at : ℕ) → length (pointsIn t n at) ≡ n
 length-points t zero at = refl
 length-points t (suc n) at = ap suc (length-points t n (at + 8))
 
--- ---- a doubled area is small
-
-from-small : (p : Point) (l : List Point) → InTable p → AllInTable l → natAbs (areaFrom p l) ≤ length l * 2 ^ 42
-from-small p [] h k = omega arith
-from-small p (q ∷ l) h k = omega (arith, size-add (edgeArea p q) (areaFrom q l), edge-within h (k .0) .size, from-small q l (k .0) (k .1))
-
-last-in : (p : Point) (l : List Point) → InTable p → AllInTable l → InTable (lastOf p l)
-last-in p [] h k = h
-last-in p (q ∷ l) h k = last-in q l (k .0) (k .1)
-
-area-small : (l : List Point) → AllInTable l → natAbs (areaOutpt l) ≤ length l * 2 ^ 42
-unfolding areaOutpt
-area-small [] k = omega arith
-area-small (p ∷ l) k = from-small (lastOf p l) (p ∷ l) (last-in p l (k .0) (k .1)) k
+-- ---- a doubled area
 
 module _ (t : List ℕ) (n at : ℕ) (s : Sized t n at) (r : ℤ) (e : r ≡ areaOutpt (pointsIn t n at)) where
   small : natAbs (areaOutpt (pointsIn t n at)) ≤ 2 ^ 56
-  small = omega (arith, area-small (pointsIn t n at) (s .run .small), length-points t n at, s .few)
+  small = omega (arith, area-within (pointsIn t n at) (s .run .small) .size, length-points t n at, s .few)
 
   pub area-held : toZ w64 (ofZ w64 r) ≡ areaOutpt (pointsIn t n at)
   area-held = toZ-ofZ (rw e (fits-size w64 (areaOutpt (pointsIn t n at)) (omega (arith, small)))) ∙ e

@@ -22,7 +22,8 @@ use Rattle.listing.specs.Lines.{pointText, pointsText}
 use Rattle.listing.specs.Needs.{Showing}
 use Rattle.listing.proofs.Pouring.{pour-none, pour-more, pour-length}
 
-less : (k : ℕ) → 0 < k → k ≡ suc (k - 1)
+-- one less than are left
+pub less : (k : ℕ) → 0 < k → k ≡ suc (k - 1)
 less k h = omega arith
 
 module _ (t : List ℕ) where

@@ -19,11 +19,9 @@ use Rattle.listing.specs.Needs.{Going}
 use Rattle.listing.specs.Told.{told, answerAt, tell}
 use Rattle.listing.specs.Needs.{Listable}
 use Rattle.listing.proofs.Pouring.{pour-none, pour-more, pour-length}
+use Rattle.listing.proofs.Runs.{less}
 
 -- ---- lines
-
-less : (k : ℕ) → 0 < k → k ≡ suc (k - 1)
-less k h = omega arith
 
 pub going-begins : (t : List ℕ) (from count : ℕ) (o : Bool) (at : ℕ) (out : List ℕ) → FieldsIn t count from → Going t from count o at out out at from count
 going-begins t from count o at out r = record { rest = r; done = []; is = pour-none out at; all = refl; after = refl }
