@@ -10,7 +10,7 @@ use Rattle.job.specs.declared.refusal.Refusal.the-variants.{BadRate}
 use Rattle.rates.specs.declared.Rate.{Rate}
 use Rattle.rates.specs.declared.Rate.the-variants.{NoRate, Cents, Bad}
 use Rattle.rates.specs.Rate.{LARGEST, asked}
-use Rattle.rates.proofs.Digits.{cents-low}
+use Rattle.rates.proofs.Digits.{asked-twice, cents-low}
 use Rattle.store.specs.Words.{view}
 use Rattle.store.specs.Good.{Sound}
 use Rattle.acts.specs.Finish.{RingsEnd, ringsDone, ringsFull}
@@ -85,24 +85,30 @@ module _ (bytes : List ℕ) (n : ℕ) (t w′ t′ : List ℕ) (r : Written) (e 
     as-listed : (text : List ℕ) → listedAs rate r t′ ≡ text → told a out′ ≡ tell text out → listedJob (told a out′) w′ t′ ≡ listedOut rate (finishOf bytes n t) out
     as-listed text h g = ap (λ (x : Told). listedJob x w′ t′) (g ∙ ap (λ (s : List ℕ). tell s out) (sym h)) ∙ ap (λ (f : Finished). listedOut rate f out) e
 
-    paths-listed : (c o : ℕ) → r ≡ Paths c o → told a out′ ≡ tell (pathsAt rate c o t′) out → listedJob (told a out′) w′ t′ ≡ listedOut rate (finishOf bytes n t) out
+    pub paths-listed : (c o : ℕ) → r ≡ Paths c o → told a out′ ≡ tell (pathsAt rate c o t′) out → listedJob (told a out′) w′ t′ ≡ listedOut rate (finishOf bytes n t) out
     paths-listed c o h g = as-listed (pathsAt rate c o t′) (ap (λ (z : Written). listedAs rate z t′) h) g
 
     pub refusal-listed : (x : Refusal) → r ≡ Refused x → told a out′ ≡ tell (refusedLine (numberOf x)) out → listedJob (told a out′) w′ t′ ≡ listedOut rate (finishOf bytes n t) out
     refusal-listed x h g = as-listed (refusedLine (numberOf x)) (ap (λ (z : Written). listedAs rate z t′) h) g
-
-  module _ (out out′ : List ℕ) (a : Listed) (c o : ℕ) (h : r ≡ Paths c o) where
-    pub plain-listed : told a out′ ≡ tell (listingOf c o t′) out → listedJob (told a out′) w′ t′ ≡ listedOut NoRate (finishOf bytes n t) out
-    plain-listed g = paths-listed NoRate out out′ a c o h g
-
-    pub charged-listed : (rate : ℕ) → told a out′ ≡ tell (chargedOf rate c o t′) out → listedJob (told a out′) w′ t′ ≡ listedOut (Cents rate) (finishOf bytes n t) out
-    charged-listed rate g = paths-listed (Cents rate) out out′ a c o h g
 
 -- the line of a refusal, by its number
 pub line-is : (x : Refusal) (k : ℕ) (out out′ : List ℕ) (a : Listed) → k ≡ numberOf x → told a out′ ≡ tell (refusedLine k) out → told a out′ ≡ tell (refusedLine (numberOf x)) out
 line-is x k out out′ a e g = g ∙ ap (λ (m : ℕ). tell (refusedLine m) out) e
 
 -- ---- by the rate
+
+module _ (rate : Rate) (c o : ℕ) (t out out′ : List ℕ) (a : Listed) where
+  at-rate : (q : Rate) → rate ≡ q → told a out′ ≡ tell (pathsAt q c o t) out → told a out′ ≡ tell (pathsAt rate c o t) out
+  at-rate q e g = g ∙ ap (λ (p : Rate). tell (pathsAt p c o t) out) (sym e)
+
+  pub none-told : rate ≡ NoRate → told a out′ ≡ tell (listingOf c o t) out → told a out′ ≡ tell (pathsAt rate c o t) out
+  none-told e g = at-rate NoRate e g
+
+  pub cents-told : (n : ℕ) → rate ≡ Cents n → told a out′ ≡ tell (chargedOf n c o t) out → told a out′ ≡ tell (pathsAt rate c o t) out
+  cents-told n e g = at-rate (Cents n) e g
+
+  pub bad-told : rate ≡ Bad → told a out′ ≡ tell (refusedLine (numberOf BadRate)) out → told a out′ ≡ tell (pathsAt rate c o t) out
+  bad-told e g = at-rate Bad e g
 
 module _ (rate q : Rate) (e : q ≡ asked rate) (bytes w t out out′ w′ t′ : List ℕ) (a : Listed) where
   pub by-none : q ≡ NoRate → listedJob (told a out′) w′ t′ ≡ listedOut NoRate (finishOf bytes (length w) t) out → listedJob (told a out′) w′ t′ ≡ listJobOf rate bytes w t out
@@ -117,5 +123,8 @@ pub by-bad : (rate q : Rate) (bytes w t out out′ : List ℕ) (a : Listed) → 
 unfolding listJobOf
 by-bad rate q bytes w t out out′ a e h g = ap (λ (x : Told). listedJob x w t) g ∙ ap (λ (p : Rate). listedBy p bytes w t out) (sym h ∙ e)
 
-pub given-low : (rate q : Rate) (n : ℕ) → q ≡ asked rate → q ≡ Cents n → n ≤ LARGEST
-given-low rate q n e h = cents-low rate n (sym h ∙ e)
+pub cents-again : (rate q : Rate) (n : ℕ) → q ≡ asked rate → q ≡ Cents n → asked (Cents n) ≡ Cents n
+cents-again rate q n e h = let f : asked rate ≡ Cents n = sym e ∙ h in ap asked (sym f) ∙ asked-twice rate ∙ f
+
+pub given-low : (rate : Rate) (n : ℕ) → asked rate ≡ rate → rate ≡ Cents n → n ≤ LARGEST
+given-low rate n e h = cents-low n (ap asked (sym h) ∙ e ∙ h)

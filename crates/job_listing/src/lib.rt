@@ -7,15 +7,14 @@ use paths::Written;
 use rates::Rate;
 use rates::asked;
 ghost use mathlib.Core.Path.{_≡_};
-ghost use Prim.Native.Nat.{_≤_};
 ghost use lib.ListN.{length};
 ghost use Rattle.job.specs.Refusal.{numberOf};
-ghost use Rattle.rates.specs.declared.Rate.the-variants as given;
-ghost use Rattle.rates.specs.Rate.{LARGEST};
+ghost use Rattle.rates.specs.Rate.{asked};
 ghost use Rattle.finishing.specs.InOneCall.{finishOf};
 ghost use Rattle.listing.specs.Lines.{refusedLine};
 ghost use Rattle.listing.specs.Told.{told, tell};
-ghost use Rattle.job_listing.specs.Cutlist.{listedJob, listedOut, listJobOf};
+ghost use Rattle.listing.specs.Needs.{Listable, Summable};
+ghost use Rattle.job_listing.specs.Cutlist.{pathsAt, listedJob, listedOut, listJobOf};
 
 // The line of a refusal.
 fn refused(x: Refusal, out: &mut [u8]) -> Listed
@@ -25,31 +24,32 @@ fn refused(x: Refusal, out: &mut [u8]) -> Listed
     listing::refusal(k, out)
 }
 
-// Without a rate.
-fn list_plain(bytes: &[u8], work: &mut [u32], tray: &mut [u8], out: &mut [u8]) -> Listed
-    ensures { λ r. ⌜ listedJob (told r (now (out .exit))) (now (work .exit)) (now (tray .exit)) ≡ listedOut given.NoRate (finishOf (now (bytes .entry)) (length (now (work .entry))) (now (tray .entry))) (now (out .entry)) ⌝ }
+// The lines of an accepted job's tray, at a rate that is as asked.
+fn list_paths(tray: &[u8], closed: usize, opened: usize, rate: Rate, out: &mut [u8]) -> Listed
+    requires { ⌜ Listable closed opened (now tray) ⌝ ∗ ⌜ Summable (now tray) closed ⌝ ∗ ⌜ asked rate ≡ rate ⌝ }
+    ensures { λ r. ⌜ told r (now (out .exit)) ≡ tell (pathsAt rate closed opened (now (tray .entry))) (now (out .entry)) ⌝ }
 {
-    let r = finish(bytes, work, tray);
-    match r {
-        Written::Paths { closed, open } => listing::listing(tray, closed, open, out),
-        Written::Refused(x) => refused(x, out),
+    match rate {
+        Rate::NoRate => listing::listing(tray, closed, opened, out),
+        Rate::Cents(n) => charged(tray, closed, opened, n, out),
+        Rate::Bad => refused(Refusal::BadRate, out),
     }
 }
 
-// With the charge at a rate.
-fn list_charged(
+// The job finished in one call, and listed.
+fn list_finished(
     bytes: &[u8],
-    rate: u64,
+    rate: Rate,
     work: &mut [u32],
     tray: &mut [u8],
     out: &mut [u8],
 ) -> Listed
-    requires { ⌜ rate ≤ LARGEST ⌝ }
-    ensures { λ r. ⌜ listedJob (told r (now (out .exit))) (now (work .exit)) (now (tray .exit)) ≡ listedOut (given.Cents rate) (finishOf (now (bytes .entry)) (length (now (work .entry))) (now (tray .entry))) (now (out .entry)) ⌝ }
+    requires { ⌜ asked rate ≡ rate ⌝ }
+    ensures { λ r. ⌜ listedJob (told r (now (out .exit))) (now (work .exit)) (now (tray .exit)) ≡ listedOut rate (finishOf (now (bytes .entry)) (length (now (work .entry))) (now (tray .entry))) (now (out .entry)) ⌝ }
 {
     let r = finish(bytes, work, tray);
     match r {
-        Written::Paths { closed, open } => charged(tray, closed, open, rate, out),
+        Written::Paths { closed, open } => list_paths(tray, closed, open, rate, out),
         Written::Refused(x) => refused(x, out),
     }
 }
@@ -67,8 +67,8 @@ pub fn list_job(
 {
     let at = asked(rate);
     match at {
-        Rate::NoRate => list_plain(bytes, work, tray, out),
-        Rate::Cents(n) => list_charged(bytes, n, work, tray, out),
+        Rate::NoRate => list_finished(bytes, Rate::NoRate, work, tray, out),
+        Rate::Cents(n) => list_finished(bytes, Rate::Cents(n), work, tray, out),
         Rate::Bad => refused(Refusal::BadRate, out),
     }
 }

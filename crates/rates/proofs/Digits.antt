@@ -72,19 +72,23 @@ within n h k = sym (ap (λ (x : Bool). cond (x && leb n LARGEST) (Cents n) Bad) 
 pub cents-asked : (q p : Rate) (n : ℕ) → q ≡ Cents n → p ≡ inRange n → p ≡ asked q
 cents-asked q p n e f = rw e f
 
--- a rate that is given is in the range
-pub cents-low : (q : Rate) (n : ℕ) → Cents n ≡ asked q → n ≤ LARGEST
-cents-low NoRate n e = let z : _≡_ {A = ℕ} 0 1 = cc in absurd (omega arith)
-cents-low Bad n e = let z : _≡_ {A = ℕ} 0 1 = cc in absurd (omega arith)
-cents-low (Cents m) n e = go (decLt LARGEST m)
+-- to ask again changes nothing
+pub asked-twice : (q : Rate) → asked (asked q) ≡ asked q
+asked-twice NoRate = refl
+asked-twice Bad = refl
+asked-twice (Cents n) = go (leb 1 n && leb n LARGEST) refl
   where
-    go : Dec (LARGEST < m) → n ≤ LARGEST
-    go (yes h) = let z : Cents n ≡ Bad = e ∙ past m h in let y : _≡_ {A = ℕ} 0 1 = cc in absurd (omega arith)
-    go (no h) = one (decLt m 1)
-      where
-        one : Dec (m < 1) → n ≤ LARGEST
-        one (yes l) = let z : Cents n ≡ Bad = e ∙ sym (low m l) in let y : _≡_ {A = ℕ} 0 1 = cc in absurd (omega arith)
-        one (no l) = let z : Cents n ≡ Cents m = e ∙ sym (within m (omega arith) (omega arith)) in let y : n ≡ m = cc in omega arith
+    go : (b : Bool) → leb 1 n && leb n LARGEST ≡ b → asked (cond b (Cents n) Bad) ≡ cond b (Cents n) Bad
+    go true e = ap (λ (x : Bool). cond x (Cents n) Bad) e
+    go false e = refl
+
+-- a rate that was asked for is in the range
+pub cents-low : (n : ℕ) → inRange n ≡ Cents n → n ≤ LARGEST
+cents-low n e = go (decLt LARGEST n)
+  where
+    go : Dec (LARGEST < n) → n ≤ LARGEST
+    go (yes h) = let z : Cents n ≡ Bad = sym e ∙ past n h in let y : _≡_ {A = ℕ} 0 1 = cc in absurd (omega arith)
+    go (no h) = omega arith
 
 -- ---- the arguments
 

@@ -1,6 +1,6 @@
 -- `list_job` meets its contract: by the rate that is asked.
 use borrow.Author.Needs.{needs}
-use Rattle.job_listing.proofs.Listing.{given-low, by-none, by-cents, by-bad}
+use Rattle.job_listing.proofs.Listing.{cents-again, by-none, by-cents, by-bad}
 use Rattle.job_listing.proofs.list_job.Statement.{statement}
 use Rattle.job_listing.proofs.list_job.Tie as tie
 
@@ -12,7 +12,7 @@ list-job-spec =
     (λ c. search needs)
     (λ c κs. search needs)
     (λ c. search needs)
-    (λ c κs. search (needs, given-low))
+    (λ c κs. search (needs, cents-again))
     (λ c. search needs)
     (λ c κs. search needs)
     (λ c. search needs)
