@@ -10,7 +10,8 @@ use paths::TRAY;
 use rates::Rate;
 use rates::rate_of;
 use store::LENGTH;
-ghost use Prim.Native.Nat.{_≤_};
+ghost use mathlib.Core.Path.{_≡_};
+ghost use Prim.Native.Nat.{_-_, _≤_};
 ghost use lib.ListN.{length};
 ghost use Rattle.io.specs.Counts.{Counts};
 ghost use Rattle.listing.specs.Needs.{Whole};
@@ -36,7 +37,9 @@ fn say(text: &[u8], a: Listed)
 }
 
 // How many arguments there are, the program's name left out.
-fn given(count: usize) -> usize {
+fn given(count: usize) -> usize
+    ensures { λ r. ⌜ r ≡ count - 1 ⌝ }
+{
     if count == 0 {
         return 0;
     }
