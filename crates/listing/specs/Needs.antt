@@ -56,11 +56,11 @@ pub record Showing (t : List ℕ) (from n at : ℕ) (out₀ out : List ℕ) (k f
   pub all : done ++ pointsText (pointsIn t left f) ≡ pointsText (pointsIn t n from)
 
 -- ---- lines in the making: `left` fields are left, the first of them at f
-pub record Going (t : List ℕ) (from count : ℕ) (o : Bool) (at : ℕ) (out₀ out : List ℕ) (k f left : ℕ) : Type 0 where
+pub record Going (t : List ℕ) (from count : ℕ) (rev o : Bool) (at : ℕ) (out₀ out : List ℕ) (k f left : ℕ) : Type 0 where
   pub rest : FieldsIn t left f
   pub done : List ℕ
   pub is : poured k out ≡ pour done at out₀
-  pub all : done ++ linesOf o (pathsIn t left f) ≡ linesOf o (pathsIn t count from)
+  pub all : done ++ linesOf rev o (pathsIn t left f) ≡ linesOf rev o (pathsIn t count from)
   pub after : fieldAfter t left f ≡ fieldAfter t count from
 
 -- there was room for all of the text, in a slice of n bytes

@@ -139,7 +139,7 @@ fn is_open(w: &[u32], i: usize) -> bool
 }
 
 // The setting `reverse_solution`.
-fn reverse_solution(w: &[u32]) -> bool
+pub fn reverse_solution(w: &[u32]) -> bool
     requires { ⌜ LENGTH ≤ length (now w) ⌝ }
     ensures { λ r. ⌜ r ≡ reverseSolution (view (now (w .entry))) ⌝ }
 {
