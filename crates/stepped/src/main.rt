@@ -148,7 +148,8 @@ fn list(work: &[u32], tray: &mut [u8], out: &mut [u8]) -> usize
     let r = write_out(work, tray);
     match r {
         Written::Paths { closed, open } => {
-            let Listed::Bytes(n) = listing::listing(tray, closed, open, out) else {
+            let rev = paths::reverse_solution(work);
+            let Listed::Bytes(n) = listing::listing(tray, closed, open, rev, out) else {
                 return 0;
             };
             return n;

@@ -10,6 +10,7 @@ list-spec =
     (tie.spec
     (λ c κs. search needs)
     (λ c. search needs)
+    (λ c κs. search needs)
     (λ c κs. search (listable, needs))
     (λ c. search needs)
     (λ c. search needs)
