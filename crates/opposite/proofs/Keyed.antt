@@ -2,7 +2,7 @@
 -- whole points where no neighbours equal by key were dropped.
 use Prim.Native.Nat.{ℕ, suc, _≤_}
 use mathlib.Core.Path.{_≡_, refl, sym, ap, _∙_, subst}
-use mathlib.Core.Bool.{Bool, true, false, cond, not, _&&_, true≢false}
+use mathlib.Core.Bool.{Bool, true, false, cond, not, _&&_}
 use mathlib.Core.List.{List, [], _∷_, _++_, map, reverse, reverse-cons, reverse-append, map-append}
 use mathlib.Core.Option.{Option, none, some}
 use native.Mathlib.Omega.{arith}
@@ -20,29 +20,23 @@ order-turned : {A : Type 0} (c : List A) → inOrder true c ≡ reverse (inOrder
 order-turned [] = refl
 order-turned (x ∷ xs) = sym (reverse-append xs (x ∷ []))
 
+-- two tests that hold together are equal
+agree : (s t : Bool) → (s ≡ true → t ≡ true) → (t ≡ true → s ≡ true) → s ≡ t
+agree true t h k = sym (h refl)
+agree false true h k = k refl
+agree false false h k = refl
+
 last-snoc : {A : Type 0} (z : A) (zs : List A) (y : A) → lastOf z (zs ++ (y ∷ [])) ≡ y
 last-snoc z [] y = refl
 last-snoc z (x ∷ zs) y = last-snoc x zs y
 
 module _ {P K : Type 0} (G : Geo P) (key : P → K) (same-key : (p q : P) → G .samePoint p q ≡ true → key p ≡ key q) (key-same : (p q : P) → key p ≡ key q → G .samePoint p q ≡ true) where
-  -- equality reads the key only
+  -- equality reads the key only, and either way round
   reads : (x y a b : P) → key x ≡ key y → key a ≡ key b → G .samePoint x a ≡ G .samePoint y b
-  reads x y a b h e = go (G .samePoint x a) (G .samePoint y b) refl refl
-    where
-      go : (s t : Bool) → G .samePoint x a ≡ s → G .samePoint y b ≡ t → s ≡ t
-      go true true i j = refl
-      go true false i j = sym (key-same y b (sym h ∙ same-key x a i ∙ e)) ∙ j
-      go false true i j = sym i ∙ key-same x a (h ∙ same-key y b j ∙ sym e)
-      go false false i j = refl
+  reads x y a b h e = agree (G .samePoint x a) (G .samePoint y b) (λ i. key-same y b (sym h ∙ same-key x a i ∙ e)) (λ j. key-same x a (h ∙ same-key y b j ∙ sym e))
 
   swapped : (p q : P) → G .samePoint p q ≡ G .samePoint q p
-  swapped p q = go (G .samePoint p q) (G .samePoint q p) refl refl
-    where
-      go : (s t : Bool) → G .samePoint p q ≡ s → G .samePoint q p ≡ t → s ≡ t
-      go true true i j = refl
-      go true false i j = sym (key-same q p (sym (same-key p q i))) ∙ j
-      go false true i j = sym i ∙ key-same p q (sym (same-key q p j))
-      go false false i j = refl
+  swapped p q = agree (G .samePoint p q) (G .samePoint q p) (λ i. key-same q p (sym (same-key p q i))) (λ j. key-same p q (sym (same-key q p j)))
 
   last-key : (l q : P) (qs : List P) → key l ≡ key q → key (lastOf l qs) ≡ key (lastOf q qs)
   last-key l q [] e = e
