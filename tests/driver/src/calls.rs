@@ -78,9 +78,11 @@ pub enum Fault {
     ListDigit,
     /// A bad rate clears the tray's first byte.
     ListFound,
+    /// The words of a reversed job's listing go by the printed sign.
+    ListWord,
 }
 
-pub const FAULTS: [Fault; 23] = [
+pub const FAULTS: [Fault; 24] = [
     Fault::FinishAnswer,
     Fault::TrayByte,
     Fault::PastPaths,
@@ -104,7 +106,21 @@ pub const FAULTS: [Fault; 23] = [
     Fault::WriteEarly,
     Fault::ListDigit,
     Fault::ListFound,
+    Fault::ListWord,
 ];
+
+/// The listing with `piece` and `hole` exchanged, and its length.
+fn exchanged(text: &mut [u8], length: usize) -> u64 {
+    let listing = String::from_utf8_lossy(&text[..length]).into_owned();
+    let line = |line: &str| match line.split_once(' ') {
+        Some(("piece", rest)) => format!("hole {rest}\n"),
+        Some(("hole", rest)) => format!("piece {rest}\n"),
+        _ => format!("{line}\n"),
+    };
+    let other: String = listing.lines().map(line).collect();
+    text[..other.len()].copy_from_slice(other.as_bytes());
+    other.len() as u64
+}
 
 pub fn work_words() -> u64 {
     unsafe { outline_work_words() }
@@ -184,6 +200,7 @@ impl Calls {
         match self.0 {
             Fault::ListDigit if answer > 11 && rate > 0 => text[answer as usize - 2] ^= 1,
             Fault::ListFound if rate > 1000 && bytes > 0 => tray[0] = 0,
+            Fault::ListWord if job.len() > 3 && job[3] & 2 != 0 => return exchanged(text, answer as usize),
             _ => {}
         }
         answer

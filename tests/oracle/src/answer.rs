@@ -8,7 +8,11 @@ pub const SMALL_TRAY: u8 = 11;
 pub enum Answer {
     Refused(u8),
     /// The lists, and whether they were written under `reverse_solution`.
-    Paths { closed: Vec<Vec<Pt>>, open: Vec<Vec<Pt>>, reversed: bool },
+    Paths {
+        closed: Vec<Vec<Pt>>,
+        open: Vec<Vec<Pt>>,
+        reversed: bool,
+    },
 }
 
 /// One path as an output field: x, y for each point.

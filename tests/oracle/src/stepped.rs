@@ -194,7 +194,8 @@ fn tell(oracle: &mut Oracle, case: &Case) -> Result<String, String> {
     let mut out = if rising { show::rising(&mut forest) } else { show::listed(&mut forest, &case.steps) };
     let (closed, open) = forest.paths();
     let done = busy(&forest).is_empty();
-    let answer = if done { Answer::Paths { closed, open, reversed: forest.reverse } } else { Answer::Refused(OUT_OF_TURN) };
+    let answer =
+        if done { Answer::Paths { closed, open, reversed: forest.reverse } } else { Answer::Refused(OUT_OF_TURN) };
     if rising && done && case.progress.is_empty() && oracle.answer(&case.job) != answer {
         return Err("the real run has other paths than the model".into());
     }
