@@ -1,8 +1,8 @@
 -- A job's listing has at most `TEXT` bytes: so a program that lends as many always has room for it.
 use Prim.Native.Nat.{ℕ, _≤_}
-use mathlib.Core.Path.{_≡_, refl, sym, ap, _∙_, subst}
+use mathlib.Core.Path.{_≡_, refl, sym, ap, subst}
 use mathlib.Core.Bool.{Bool}
-use mathlib.Core.List.{List, _++_}
+use mathlib.Core.List.{List}
 use native.Mathlib.Omega.{arith}
 use lib.ListN.{length, take, drop, length-append, length-take, length-drop}
 use borrow.Author.Tests.{le-leb}
@@ -17,19 +17,18 @@ use Rattle.store.specs.Good.{Sound}
 use Rattle.acts.specs.Finish.{RingsEnd, ringsDone, ringsFull}
 use Rattle.paths.specs.declared.Written.{Written}
 use Rattle.paths.specs.declared.Written.the-variants.{Paths, Refused}
-use Rattle.paths.specs.Wrote.{Wrote, wrote, buildPaths64}
+use Rattle.paths.specs.Wrote.{wrote, buildPaths64}
 use Rattle.opening.specs.declared.open.Opened.the-variants.{Accepted}
 use Rattle.opening.specs.declared.open.Opened.the-variants as opened
 use Rattle.opening.specs.Open.{End, end, openOf}
 use Rattle.finishing.specs.Opened.{OpeningLeft}
 use Rattle.finishing.specs.Finish.{finishRings}
-use Rattle.finishing.specs.InOneCall.{Finished, afterWriting, afterSteps, afterOpening, finishOf}
+use Rattle.finishing.specs.InOneCall.{afterWriting, afterSteps, afterOpening, finishOf}
 use Rattle.finishing.proofs.InOneCall.{done-ready, opening-left}
 use Rattle.listing.specs.declared.Listed.{Listed}
-use Rattle.listing.specs.declared.Listed.the-variants.{Bytes}
 use Rattle.listing.specs.Lines.{refusedLine}
 use Rattle.listing.specs.Room.{TEXT}
-use Rattle.listing.specs.Told.{Told, told, answerAt, tell}
+use Rattle.listing.specs.Told.{Told, told, tell}
 use Rattle.listing.specs.Needs.{Whole}
 use Rattle.listing.proofs.Answers.{written-out}
 use Rattle.listing.proofs.Room.{listing-le, charged-le, refusal-le}

@@ -11,7 +11,7 @@ use crate::value_length;
 use rates::Charge;
 use rates::charge_of;
 ghost use mathlib.Core.Path.{_≡_};
-ghost use Prim.Native.Nat.{_≤_, _^_};
+ghost use Prim.Native.Nat.{_≤_};
 ghost use lib.IntN.{natAbs};
 ghost use Rattle.rates.specs.Rate.{LARGEST};
 ghost use Rattle.rates.specs.Charge.{chargeOf};

@@ -1,7 +1,7 @@
 -- A ring's path forward and its path reversed are the same points in exactly opposite order, or neither is there: the plane, where a point is its own key.
 use mathlib.Core.Path.{_≡_, refl, sym, ap, _∙_}
 use mathlib.Core.Bool.{Bool, true, false, not, _||_}
-use mathlib.Core.List.{List, [], _∷_, _++_, map, map-id, reverse, reverse-reverse}
+use mathlib.Core.List.{List, [], _∷_, _++_, map-id, reverse, reverse-reverse}
 use mathlib.Core.Option.{Option, none, some}
 use Prim.Native.Nat.{ℕ}
 use lib.Dec.{ltb}

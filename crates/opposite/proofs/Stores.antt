@@ -1,8 +1,8 @@
 -- The paths of a store under either setting: equally many, each the other's at its place in exactly opposite order. Of any store, sound or not.
-use Prim.Native.Nat.{ℕ, zero, suc, _+_, _-_, _/_, _%_, _≤_}
+use Prim.Native.Nat.{ℕ, zero, suc, _+_, _-_, _/_, _%_}
 use mathlib.Core.Path.{_≡_, refl, sym, ap, _∙_}
 use mathlib.Core.Bool.{Bool, true, false, cond, not, Bool·beq}
-use mathlib.Core.List.{List, [], _∷_, _++_, map, reverse, map-append}
+use mathlib.Core.List.{List, _++_, reverse, map-append}
 use mathlib.Core.Option.{Option, none, some}
 use native.Mathlib.Omega.{arith}
 use lib.Dec.{eqb}
