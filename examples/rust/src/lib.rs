@@ -165,6 +165,10 @@ pub fn finish(job: &[u8], work: &mut [u32], tray: &mut [u8]) -> Result<(), Refus
 /// assert_eq!(listing, b"closed 2 open 0\npiece 3 60 5,5 0,12 0,0\nhole 3 -50 10,10 10,0 5,5\n");
 /// assert!(list(job, &mut work, &mut tray, 1000, &mut text).unwrap().ends_with(b"\ncharge 0 10000\n"));
 /// assert_eq!(list(job, &mut work, &mut tray, RATE + 1, &mut text), Some(&b"refused 13\n"[..]));
+/// let mut reversed = job.to_vec();
+/// reversed[3] = 2; // `reverse_solution`: the areas change sign, the words stay
+/// let listing = list(&reversed, &mut work, &mut tray, 0, &mut text).unwrap();
+/// assert_eq!(listing, b"closed 2 open 0\npiece 3 -60 0,0 0,12 5,5\nhole 3 50 5,5 10,0 10,10\n");
 /// assert_eq!(list(job, &mut work, &mut tray, 0, &mut text[1..]), None);
 /// ```
 pub fn list<'a>(job: &[u8], work: &mut [u32], tray: &mut [u8], rate: u32, text: &'a mut [u8]) -> Option<&'a [u8]> {
