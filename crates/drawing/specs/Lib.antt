@@ -1,0 +1,2 @@
+-- One drawing under two numberings of its points.
+pub mod Drawing

@@ -1,0 +1,3 @@
+-- A drawing as a job's bytes.
+pub mod Sheet
+pub mod Encode
