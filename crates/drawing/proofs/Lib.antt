@@ -1,1 +1,4 @@
--- Laws of drawings.
+-- Laws of renumbering.
+pub mod Writing
+pub mod Likeness
+pub mod Rings
