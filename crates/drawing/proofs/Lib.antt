@@ -2,3 +2,7 @@
 pub mod Writing
 pub mod Likeness
 pub mod Rings
+pub mod Joins
+pub mod Walks
+pub mod Rows
+pub mod Pairs
