@@ -6,3 +6,7 @@ pub mod Joins
 pub mod Walks
 pub mod Rows
 pub mod Pairs
+pub mod Forests
+pub mod Opening
+pub mod Places
+pub mod Finishing

@@ -10,15 +10,9 @@ use Rattle.rings.specs.Count.{sumTo}
 use Rattle.geometry.specs.declared.Point.{Point}
 use Rattle.store.specs.Field.{NONE}
 use Rattle.store.specs.Value.{wordOf}
+use Rattle.drawing.specs.Places.{nextPlace, prevPlace}
 use Rattle.drawing.specs.Drawing.{Drawn, Spot, Drawing}
 use Rattle.encoding.specs.Sheet.{Sheet, sheetBytes}
-
--- the place after p, and the place before it, on a ring of m points
-unfoldable pub nextPlace : ℕ → ℕ → ℕ
-nextPlace p m = cond (eqb (suc p) m) 0 (suc p)
-
-unfoldable pub prevPlace : ℕ → ℕ → ℕ
-prevPlace p m = cond (eqb p 0) (m - 1) (p - 1)
 
 -- of n rings with these lengths, the one that has point k where the points are numbered ring by ring
 unfoldable pub ringHolding : (ℕ → ℕ) → ℕ → ℕ → ℕ
