@@ -10,3 +10,5 @@ pub mod Forests
 pub mod Opening
 pub mod Places
 pub mod Finishing
+pub mod Naming
+pub mod Drawings
