@@ -12,3 +12,6 @@ pub mod Places
 pub mod Finishing
 pub mod Naming
 pub mod Drawings
+pub mod Spaces
+pub mod Theorem
+pub mod Examples
