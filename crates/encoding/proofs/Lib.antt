@@ -1,1 +1,5 @@
--- Laws of a drawing's bytes.
+-- The bytes of a drawing are read back as that drawing.
+pub mod Fielding
+pub mod Loading
+pub mod Sheets
+pub mod Numbering

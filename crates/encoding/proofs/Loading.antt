@@ -1,0 +1,322 @@
+-- A sheet's bytes are read back: every number stands in its word.
+use Prim.Native.Nat.{ℕ, zero, suc, _+_, _-_, _*_, _≤_, _<_}
+use mathlib.Core.Path.{_≡_, refl, ap, _∙_, sym, subst}
+use mathlib.Core.Bool.{Bool, true, false, cond}
+use mathlib.Core.List.{List, [], _∷_, _++_}
+use native.Mathlib.Omega.{arith}
+use native.Mathlib.Decide.{ℕ-discrete}
+use lib.Dec.{eqb, ltb}
+use lib.ListN.{length, getD, set, drop, length-set, length-drop, length-append}
+use lib.Seq.{getD-set-same, getD-set-other, drop-drop, drop-at}
+use borrow.Author.Tests.{eq-eqb, ne-eqb, lt-ltb, le-ltb}
+use Rattle.job.specs.Limits as limit
+use Rattle.job.specs.Job.{fresh, past}
+use Rattle.job.specs.declared.Job.{Job}
+use Rattle.job.specs.declared.field.Field.{Field}
+use Rattle.job.specs.declared.field.Field.the-variants.{Settings, Point, Record, Segment, Join}
+use Rattle.job.specs.declared.field.Reading.{Reading}
+use Rattle.job.specs.declared.field.Reading.the-variants.{Read}
+use Rattle.job.specs.Field.{fieldOf}
+use Rattle.store.specs.Field.{pt, rc, ct, X, Y, NEXT, PREV, REC, FLAGS, OWNER, FIRST, SETTINGS, POINTS, RECORDS, LENGTH}
+use Rattle.store.specs.Words.{Store, view, Write, write, onWords}
+use Rattle.store.specs.Stores.{onStore}
+use Rattle.store.specs.Named.{settingsOf, pointsOf, recordsOf}
+use Rattle.store.proofs.Storing.{view-writes, length-writes}
+use Rattle.reading.specs.declared.fill.Outcome.the-variants.{State}
+use Rattle.reading.specs.Fill.{ReadEnd, end, putPoint, putRecord, putJoin, placed, taken, turnOf, follow, run, fillOf}
+use Rattle.reading.specs.Read.{counted, withCounts, readOf}
+use Rattle.acts.specs.Opened.{table}
+use Rattle.opening.proofs.Starting.{more}
+use Rattle.encoding.specs.Sheet.{bytesOf, allBytes, Sheet, pointField, recordField, segmentField, joinField}
+use Rattle.encoding.proofs.Fielding.{read-settings, read-point, read-record, read-segment, read-join}
+
+-- every count is within its limit, and every number fits its bytes
+pub record SheetFits (t : Sheet) : Type 0 where
+  pub bits : t .bits ≤ 3
+  pub points : t .points ≤ limit.POINTS
+  pub records : t .records ≤ limit.RECORDS
+  pub segments : t .segments ≤ limit.SEGMENTS
+  pub joins : t .joins ≤ limit.JOINS
+  pub x : (k : ℕ) → k < t .points → t .x k ≤ 2 * limit.COORDINATE
+  pub y : (k : ℕ) → k < t .points → t .y k ≤ 2 * limit.COORDINATE
+  pub next : (k : ℕ) → k < t .points → t .next k < 65536
+  pub prev : (k : ℕ) → k < t .points → t .prev k < 65536
+  pub rec : (k : ℕ) → k < t .points → t .rec k < 65536
+  pub flags : (i : ℕ) → i < t .records → t .flags i ≤ 3
+  pub owner : (i : ℕ) → i < t .records → t .owner i < 65536
+  pub first : (i : ℕ) → i < t .records → t .first i < 65536
+  pub segment : (i : ℕ) → i < t .segments → t .segment i < 65536
+  pub one : (i : ℕ) → i < t .joins → t .one i < 65536
+  pub two : (i : ℕ) → i < t .joins → t .two i < 65536
+
+-- ---- one turn
+
+module _ (bytes : List ℕ) (j : Job) (w ss js : List ℕ) (f : Field) (n : ℕ) (rest : List ℕ) (here : drop (j .at) bytes ≡ bytesOf f ++ rest) (long : length (bytesOf f) ≡ n) (some : 0 < n) where
+  pub turn : (k : ℕ) → fieldOf j (bytesOf f ++ rest) ≡ Read f n → run (suc k) bytes j w ss js ≡ follow (run k bytes) (placed f n j w ss js)
+  unfolding run turnOf
+  turn k e =
+      let l : j .at < length bytes = omega (arith, length-drop (j .at) bytes, ap length here, length-append (bytesOf f) rest) in
+      rw (lt-ltb (j .at) (length bytes) l, here, e)
+
+  pub onward : drop (j .at + n) bytes ≡ rest
+  onward = sym (drop-drop n (j .at) bytes) ∙ ap (drop n) here ∙ drop-at (bytesOf f) rest n long
+
+-- a column with v at i: what is below i + 1
+column-more : (i v : ℕ) (c d : ℕ → ℕ) → ((k : ℕ) → k < i → c k ≡ d k) → d i ≡ v → (k : ℕ) → k < i + 1 → cond (eqb k i) v (c k) ≡ d k
+column-more i v c d h e k l = more i v c d h e k (omega arith)
+
+listed-more : (i v : ℕ) (l : List ℕ) (d : ℕ → ℕ) → i < length l → ((k : ℕ) → k < i → getD l k 0 ≡ d k) → d i ≡ v → (k : ℕ) → k < i + 1 → getD (set l i v) k 0 ≡ d k
+listed-more i v l d b h e k m = go (ℕ-discrete k i)
+  where
+    go : Dec (k ≡ i) → getD (set l i v) k 0 ≡ d k
+    go (yes z) = rw z (getD-set-same l i v 0 b ∙ sym e)
+    go (no z) = getD-set-other l i k v 0 z ∙ h k (omega arith)
+
+module _ (t : Sheet) (bytes : List ℕ) where
+  -- what was read so far, and what is left of the bytes
+  pub record Got (j : Job) (w ss js rest : List ℕ) (tag : ℕ) : Type 0 where
+    pub here : drop (j .at) bytes ≡ rest
+    pub bits : j .bits ≡ t .bits
+    pub some : 0 < j .last
+    pub last : j .last ≤ tag
+    pub long : LENGTH ≤ length w
+    pub segments-long : limit.SEGMENTS ≤ length ss
+    pub joins-long : 2 * limit.JOINS ≤ length js
+    pub x : (k : ℕ) → k < j .points → view w (pt X) k ≡ t .x k
+    pub y : (k : ℕ) → k < j .points → view w (pt Y) k ≡ t .y k
+    pub next : (k : ℕ) → k < j .points → view w (pt NEXT) k ≡ t .next k
+    pub prev : (k : ℕ) → k < j .points → view w (pt PREV) k ≡ t .prev k
+    pub rec : (k : ℕ) → k < j .points → view w (pt REC) k ≡ t .rec k
+    pub flags : (i : ℕ) → i < j .records → view w (rc FLAGS) i ≡ t .flags i
+    pub owner : (i : ℕ) → i < j .records → view w (rc OWNER) i ≡ t .owner i
+    pub first : (i : ℕ) → i < j .records → view w (rc FIRST) i ≡ t .first i
+    pub segment : (i : ℕ) → i < j .segments → getD ss i 0 ≡ t .segment i
+    pub one : (i : ℕ) → i < j .joins → getD js (2 * i) 0 ≡ t .one i
+    pub two : (i : ℕ) → i < j .joins → getD js (2 * i + 1) 0 ≡ t .two i
+
+  -- where reading comes to
+  pub record ReadUpTo (fuel : ℕ) (j₀ : Job) (w₀ ss₀ js₀ rest : List ℕ) (tag n p r s q : ℕ) : Type 0 where
+    pub job : Job
+    pub words : List ℕ
+    pub segments : List ℕ
+    pub joins : List ℕ
+    pub left : ℕ
+    pub spent : left + n ≡ fuel
+    pub runs : run fuel bytes j₀ w₀ ss₀ js₀ ≡ run left bytes job words segments joins
+    pub got : Got job words segments joins rest tag
+    pub points-are : job .points ≡ p
+    pub records-are : job .records ≡ r
+    pub segments-are : job .segments ≡ s
+    pub joins-are : job .joins ≡ q
+
+  stay : (fuel : ℕ) (j : Job) (w ss js rest : List ℕ) (tag : ℕ) → Got j w ss js rest tag → ReadUpTo fuel j w ss js rest tag 0 (j .points) (j .records) (j .segments) (j .joins)
+  stay fuel j w ss js rest tag g =
+      record { job = j; words = w; segments = ss; joins = js; left = fuel; spent = omega arith; runs = refl; got = g; points-are = refl; records-are = refl; segments-are = refl; joins-are = refl }
+
+  later : (fuel : ℕ) (j : Job) (w ss js rest : List ℕ) (tag n p r s q : ℕ) (i : Job) (v ts ks : List ℕ) → run (suc fuel) bytes j w ss js ≡ run fuel bytes i v ts ks → ReadUpTo fuel i v ts ks rest tag n p r s q
+      → ReadUpTo (suc fuel) j w ss js rest tag (suc n) p r s q
+  later fuel j w ss js rest tag n p r s q i v ts ks e z =
+      record {
+        job = z .job;
+        words = z .words;
+        segments = z .segments;
+        joins = z .joins;
+        left = z .left;
+        spent = omega (arith, z .spent);
+        runs = e ∙ z .runs;
+        got = z .got;
+        points-are = z .points-are;
+        records-are = z .records-are;
+        segments-are = z .segments-are;
+        joins-are = z .joins-are;
+      }
+
+  module _ (f : SheetFits t) where
+    -- ---- points
+
+    point-got : (j : Job) (w ss js rest : List ℕ) → j .points < t .points → Got j w ss js (bytesOf (pointField t (j .points)) ++ rest) 2
+        → Got (past (pointField t (j .points)) 17 j) (putPoint (j .points) (t .x (j .points)) (t .y (j .points)) (t .next (j .points)) (t .prev (j .points)) (t .rec (j .points)) w) ss js rest 2
+    point-got j w ss js rest h g =
+        let i = j .points in
+        let l : i < limit.POINTS = omega (arith, f .points) in
+        let xs = write (pt X) i (t .x i) ∷ write (pt Y) i (t .y i) ∷ write (pt NEXT) i (t .next i) ∷ write (pt PREV) i (t .prev i) ∷ write (pt REC) i (t .rec i) ∷ [] in
+        let v : view (onWords w xs) ≡ onStore (view w) xs = view-writes w xs (g .long) (l, (l, (l, (l, (l, tt))))) in
+        record {
+          here = onward bytes j w ss js (pointField t i) 17 rest (g .here) refl (omega arith);
+          bits = g .bits;
+          some = omega arith;
+          last = omega arith;
+          long = omega (arith, g .long, length-writes w xs);
+          segments-long = g .segments-long;
+          joins-long = g .joins-long;
+          x = λ k b. ap (λ (s : Store). s (pt X) k) v ∙ column-more i (t .x i) (view w (pt X)) (t .x) (g .x) refl k b;
+          y = λ k b. ap (λ (s : Store). s (pt Y) k) v ∙ column-more i (t .y i) (view w (pt Y)) (t .y) (g .y) refl k b;
+          next = λ k b. ap (λ (s : Store). s (pt NEXT) k) v ∙ column-more i (t .next i) (view w (pt NEXT)) (t .next) (g .next) refl k b;
+          prev = λ k b. ap (λ (s : Store). s (pt PREV) k) v ∙ column-more i (t .prev i) (view w (pt PREV)) (t .prev) (g .prev) refl k b;
+          rec = λ k b. ap (λ (s : Store). s (pt REC) k) v ∙ column-more i (t .rec i) (view w (pt REC)) (t .rec) (g .rec) refl k b;
+          flags = λ k b. ap (λ (s : Store). s (rc FLAGS) k) v ∙ g .flags k b;
+          owner = λ k b. ap (λ (s : Store). s (rc OWNER) k) v ∙ g .owner k b;
+          first = λ k b. ap (λ (s : Store). s (rc FIRST) k) v ∙ g .first k b;
+          segment = g .segment;
+          one = g .one;
+          two = g .two;
+        }
+
+    pub points-read : (m fuel : ℕ) (j : Job) (w ss js : List ℕ) (fs : List Field) → j .points + m ≡ t .points → m ≤ fuel → Got j w ss js (allBytes (table (pointField t) (j .points) m ++ fs)) 2
+        → ReadUpTo fuel j w ss js (allBytes fs) 2 m (t .points) (j .records) (j .segments) (j .joins)
+    points-read zero fuel j w ss js fs e h g = subst (λ (p : ℕ). ReadUpTo fuel j w ss js (allBytes fs) 2 0 p (j .records) (j .segments) (j .joins)) (omega arith) (stay fuel j w ss js (allBytes fs) 2 g)
+    points-read (suc m) zero j w ss js fs e h g = absurd (omega arith)
+    points-read (suc m) (suc fuel) j w ss js fs e h g =
+        let i = j .points in
+        let b : i < t .points = omega arith in
+        let rest = allBytes (table (pointField t) (i + 1) m ++ fs) in
+        let q : allBytes (table (pointField t) i (suc m) ++ fs) ≡ bytesOf (pointField t i) ++ rest = ap (λ (n : ℕ). bytesOf (pointField t i) ++ allBytes (table (pointField t) n m ++ fs)) (omega arith) in
+        let g′ : Got j w ss js (bytesOf (pointField t i) ++ rest) 2 = subst (λ (z : List ℕ). Got j w ss js z 2) q g in
+        later fuel j w ss js (allBytes fs) 2 m (t .points) (j .records) (j .segments) (j .joins) (past (pointField t i) 17 j) (putPoint i (t .x i) (t .y i) (t .next i) (t .prev i) (t .rec i) w) ss js
+        (turn bytes j w ss js (pointField t i) 17 rest (g′ .here) refl (omega arith) fuel
+        (read-point j rest (t .x i) (t .y i) (t .next i) (t .prev i) (t .rec i) (g .some) (g .last) (omega (arith, f .points)) (f .x i b) (f .y i b) (f .next i b) (f .prev i b) (f .rec i b)))
+        (points-read m fuel (past (pointField t i) 17 j) (putPoint i (t .x i) (t .y i) (t .next i) (t .prev i) (t .rec i) w) ss js fs (omega arith) (omega arith) (point-got j w ss js rest b g′))
+
+    -- ---- records
+
+    record-got : (j : Job) (w ss js rest : List ℕ) → j .records < t .records → Got j w ss js (bytesOf (recordField t (j .records)) ++ rest) 3
+        → Got (past (recordField t (j .records)) 8 j) (putRecord (j .records) (t .flags (j .records)) (t .owner (j .records)) (t .first (j .records)) w) ss js rest 3
+    record-got j w ss js rest h g =
+        let i = j .records in
+        let l : i < limit.RECORDS = omega (arith, f .records) in
+        let xs = write (rc FLAGS) i (t .flags i) ∷ write (rc OWNER) i (t .owner i) ∷ write (rc FIRST) i (t .first i) ∷ [] in
+        let v : view (onWords w xs) ≡ onStore (view w) xs = view-writes w xs (g .long) (l, (l, (l, tt))) in
+        record {
+          here = onward bytes j w ss js (recordField t i) 8 rest (g .here) refl (omega arith);
+          bits = g .bits;
+          some = omega arith;
+          last = omega arith;
+          long = omega (arith, g .long, length-writes w xs);
+          segments-long = g .segments-long;
+          joins-long = g .joins-long;
+          x = λ k b. ap (λ (s : Store). s (pt X) k) v ∙ g .x k b;
+          y = λ k b. ap (λ (s : Store). s (pt Y) k) v ∙ g .y k b;
+          next = λ k b. ap (λ (s : Store). s (pt NEXT) k) v ∙ g .next k b;
+          prev = λ k b. ap (λ (s : Store). s (pt PREV) k) v ∙ g .prev k b;
+          rec = λ k b. ap (λ (s : Store). s (pt REC) k) v ∙ g .rec k b;
+          flags = λ k b. ap (λ (s : Store). s (rc FLAGS) k) v ∙ column-more i (t .flags i) (view w (rc FLAGS)) (t .flags) (g .flags) refl k b;
+          owner = λ k b. ap (λ (s : Store). s (rc OWNER) k) v ∙ column-more i (t .owner i) (view w (rc OWNER)) (t .owner) (g .owner) refl k b;
+          first = λ k b. ap (λ (s : Store). s (rc FIRST) k) v ∙ column-more i (t .first i) (view w (rc FIRST)) (t .first) (g .first) refl k b;
+          segment = g .segment;
+          one = g .one;
+          two = g .two;
+        }
+
+    pub records-read : (m fuel : ℕ) (j : Job) (w ss js : List ℕ) (fs : List Field) → j .records + m ≡ t .records → m ≤ fuel → Got j w ss js (allBytes (table (recordField t) (j .records) m ++ fs)) 3
+        → ReadUpTo fuel j w ss js (allBytes fs) 3 m (j .points) (t .records) (j .segments) (j .joins)
+    records-read zero fuel j w ss js fs e h g = subst (λ (p : ℕ). ReadUpTo fuel j w ss js (allBytes fs) 3 0 (j .points) p (j .segments) (j .joins)) (omega arith) (stay fuel j w ss js (allBytes fs) 3 g)
+    records-read (suc m) zero j w ss js fs e h g = absurd (omega arith)
+    records-read (suc m) (suc fuel) j w ss js fs e h g =
+        let i = j .records in
+        let b : i < t .records = omega arith in
+        let rest = allBytes (table (recordField t) (i + 1) m ++ fs) in
+        let q : allBytes (table (recordField t) i (suc m) ++ fs) ≡ bytesOf (recordField t i) ++ rest = ap (λ (n : ℕ). bytesOf (recordField t i) ++ allBytes (table (recordField t) n m ++ fs)) (omega arith) in
+        let g′ : Got j w ss js (bytesOf (recordField t i) ++ rest) 3 = subst (λ (z : List ℕ). Got j w ss js z 3) q g in
+        later fuel j w ss js (allBytes fs) 3 m (j .points) (t .records) (j .segments) (j .joins) (past (recordField t i) 8 j) (putRecord i (t .flags i) (t .owner i) (t .first i) w) ss js
+        (turn bytes j w ss js (recordField t i) 8 rest (g′ .here) refl (omega arith) fuel
+        (read-record j rest (t .flags i) (t .owner i) (t .first i) (g .some) (g .last) (omega (arith, f .records)) (f .flags i b) (f .owner i b) (f .first i b)))
+        (records-read m fuel (past (recordField t i) 8 j) (putRecord i (t .flags i) (t .owner i) (t .first i) w) ss js fs (omega arith) (omega arith) (record-got j w ss js rest b g′))
+
+    -- ---- segments
+
+    segment-got : (j : Job) (w ss js rest : List ℕ) → j .segments < t .segments → Got j w ss js (bytesOf (segmentField t (j .segments)) ++ rest) 4
+        → Got (past (segmentField t (j .segments)) 5 j) w (set ss (j .segments) (t .segment (j .segments))) js rest 4
+    segment-got j w ss js rest h g =
+        let i = j .segments in
+        record {
+          here = onward bytes j w ss js (segmentField t i) 5 rest (g .here) refl (omega arith);
+          bits = g .bits;
+          some = omega arith;
+          last = omega arith;
+          long = g .long;
+          segments-long = omega (arith, g .segments-long, length-set ss i (t .segment i));
+          joins-long = g .joins-long;
+          x = g .x;
+          y = g .y;
+          next = g .next;
+          prev = g .prev;
+          rec = g .rec;
+          flags = g .flags;
+          owner = g .owner;
+          first = g .first;
+          segment = listed-more i (t .segment i) ss (t .segment) (omega (arith, g .segments-long, f .segments)) (g .segment) refl;
+          one = g .one;
+          two = g .two;
+        }
+
+    pub segments-read : (m fuel : ℕ) (j : Job) (w ss js : List ℕ) (fs : List Field) → j .segments + m ≡ t .segments → m ≤ fuel → Got j w ss js (allBytes (table (segmentField t) (j .segments) m ++ fs)) 4
+        → ReadUpTo fuel j w ss js (allBytes fs) 4 m (j .points) (j .records) (t .segments) (j .joins)
+    segments-read zero fuel j w ss js fs e h g = subst (λ (p : ℕ). ReadUpTo fuel j w ss js (allBytes fs) 4 0 (j .points) (j .records) p (j .joins)) (omega arith) (stay fuel j w ss js (allBytes fs) 4 g)
+    segments-read (suc m) zero j w ss js fs e h g = absurd (omega arith)
+    segments-read (suc m) (suc fuel) j w ss js fs e h g =
+        let i = j .segments in
+        let b : i < t .segments = omega arith in
+        let rest = allBytes (table (segmentField t) (i + 1) m ++ fs) in
+        let q : allBytes (table (segmentField t) i (suc m) ++ fs) ≡ bytesOf (segmentField t i) ++ rest = ap (λ (n : ℕ). bytesOf (segmentField t i) ++ allBytes (table (segmentField t) n m ++ fs)) (omega arith) in
+        let g′ : Got j w ss js (bytesOf (segmentField t i) ++ rest) 4 = subst (λ (z : List ℕ). Got j w ss js z 4) q g in
+        later fuel j w ss js (allBytes fs) 4 m (j .points) (j .records) (t .segments) (j .joins) (past (segmentField t i) 5 j) w (set ss i (t .segment i)) js
+        (turn bytes j w ss js (segmentField t i) 5 rest (g′ .here) refl (omega arith) fuel (read-segment j rest (t .segment i) (g .some) (g .last) (omega (arith, f .segments)) (f .segment i b)))
+        (segments-read m fuel (past (segmentField t i) 5 j) w (set ss i (t .segment i)) js fs (omega arith) (omega arith) (segment-got j w ss js rest b g′))
+
+    -- ---- joins
+
+    join-got : (j : Job) (w ss js rest : List ℕ) → j .joins < t .joins → Got j w ss js (bytesOf (joinField t (j .joins)) ++ rest) 5
+        → Got (past (joinField t (j .joins)) 7 j) w ss (putJoin (j .joins) (t .one (j .joins)) (t .two (j .joins)) js) rest 5
+    join-got j w ss js rest h g =
+        let i = j .joins in
+        let l = length-set js (2 * i) (t .one i) in
+        record {
+          here = onward bytes j w ss js (joinField t i) 7 rest (g .here) refl (omega arith);
+          bits = g .bits;
+          some = omega arith;
+          last = omega arith;
+          long = g .long;
+          segments-long = g .segments-long;
+          joins-long = omega (arith, g .joins-long, l, length-set (set js (2 * i) (t .one i)) (2 * i + 1) (t .two i));
+          x = g .x;
+          y = g .y;
+          next = g .next;
+          prev = g .prev;
+          rec = g .rec;
+          flags = g .flags;
+          owner = g .owner;
+          first = g .first;
+          segment = g .segment;
+          one = λ k b. firsts k b (ℕ-discrete k i);
+          two = λ k b. seconds k b (ℕ-discrete k i);
+        }
+      where
+        fits : 2 * j .joins + 1 < length js
+        fits = omega (arith, g .joins-long, f .joins)
+
+        firsts : (k : ℕ) → k < j .joins + 1 → Dec (k ≡ j .joins) → getD (set (set js (2 * j .joins) (t .one (j .joins))) (2 * j .joins + 1) (t .two (j .joins))) (2 * k) 0 ≡ t .one k
+        firsts k b d = getD-set-other (set js (2 * j .joins) (t .one (j .joins))) (2 * j .joins + 1) (2 * k) (t .two (j .joins)) 0 (λ e. omega arith) ∙ go d
+          where
+            go : Dec (k ≡ j .joins) → getD (set js (2 * j .joins) (t .one (j .joins))) (2 * k) 0 ≡ t .one k
+            go (yes e) = rw e (getD-set-same js (2 * j .joins) (t .one (j .joins)) 0 (omega (arith, fits)))
+            go (no e) = getD-set-other js (2 * j .joins) (2 * k) (t .one (j .joins)) 0 (λ z. e (omega arith)) ∙ g .one k (omega arith)
+
+        seconds : (k : ℕ) → k < j .joins + 1 → Dec (k ≡ j .joins) → getD (set (set js (2 * j .joins) (t .one (j .joins))) (2 * j .joins + 1) (t .two (j .joins))) (2 * k + 1) 0 ≡ t .two k
+        seconds k b (yes e) = rw e (getD-set-same (set js (2 * j .joins) (t .one (j .joins))) (2 * j .joins + 1) (t .two (j .joins)) 0 (omega (arith, fits, length-set js (2 * j .joins) (t .one (j .joins)))))
+        seconds k b (no e) =
+            getD-set-other (set js (2 * j .joins) (t .one (j .joins))) (2 * j .joins + 1) (2 * k + 1) (t .two (j .joins)) 0 (λ z. e (omega arith))
+            ∙ getD-set-other js (2 * j .joins) (2 * k + 1) (t .one (j .joins)) 0 (λ z. omega arith) ∙ g .two k (omega arith)
+
+    pub joins-read : (m fuel : ℕ) (j : Job) (w ss js : List ℕ) (fs : List Field) → j .joins + m ≡ t .joins → m ≤ fuel → Got j w ss js (allBytes (table (joinField t) (j .joins) m ++ fs)) 5
+        → ReadUpTo fuel j w ss js (allBytes fs) 5 m (j .points) (j .records) (j .segments) (t .joins)
+    joins-read zero fuel j w ss js fs e h g = subst (λ (p : ℕ). ReadUpTo fuel j w ss js (allBytes fs) 5 0 (j .points) (j .records) (j .segments) p) (omega arith) (stay fuel j w ss js (allBytes fs) 5 g)
+    joins-read (suc m) zero j w ss js fs e h g = absurd (omega arith)
+    joins-read (suc m) (suc fuel) j w ss js fs e h g =
+        let i = j .joins in
+        let b : i < t .joins = omega arith in
+        let rest = allBytes (table (joinField t) (i + 1) m ++ fs) in
+        let q : allBytes (table (joinField t) i (suc m) ++ fs) ≡ bytesOf (joinField t i) ++ rest = ap (λ (n : ℕ). bytesOf (joinField t i) ++ allBytes (table (joinField t) n m ++ fs)) (omega arith) in
+        let g′ : Got j w ss js (bytesOf (joinField t i) ++ rest) 5 = subst (λ (z : List ℕ). Got j w ss js z 5) q g in
+        later fuel j w ss js (allBytes fs) 5 m (j .points) (j .records) (j .segments) (t .joins) (past (joinField t i) 7 j) w ss (putJoin i (t .one i) (t .two i) js)
+        (turn bytes j w ss js (joinField t i) 7 rest (g′ .here) refl (omega arith) fuel (read-join j rest (t .one i) (t .two i) (g .some) (g .last) (omega (arith, f .joins)) (f .one i b) (f .two i b)))
+        (joins-read m fuel (past (joinField t i) 7 j) w ss (putJoin i (t .one i) (t .two i) js) fs (omega arith) (omega arith) (join-got j w ss js rest b g′))
