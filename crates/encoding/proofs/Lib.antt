@@ -3,3 +3,5 @@ pub mod Fielding
 pub mod Loading
 pub mod Sheets
 pub mod Numbering
+pub mod Encodable
+pub mod Passing
