@@ -5,7 +5,7 @@ use mathlib.Core.List.{List}
 use Prim.Native.Nat.{ℕ, zero, suc, _+_, _-_, _<_, _≤_}
 use native.Mathlib.Omega.{arith}
 use lib.Dec.{ltb, eqb}
-use lib.ListN.{length, take, drop}
+use lib.ListN.{length, take, drop, length-drop}
 use borrow.Author.Tests.{ltb-true, ltb-false}
 use Rattle.job.specs.declared.Job.{Job}
 use Rattle.job.specs.declared.refusal.Refusal.the-variants.{Strange}
@@ -15,7 +15,7 @@ use Rattle.job.specs.declared.field.Reading.{Reading}
 use Rattle.job.specs.declared.field.Reading.the-variants as reading
 use Rattle.job.specs.Field.{fieldOf}
 use Rattle.job.specs.Job.{fresh, past, Within}
-use Rattle.job.proofs.Accepted.{within-fresh}
+use Rattle.job.proofs.Accepted.{accepted, within-fresh}
 use Rattle.reading.specs.declared.fill.Outcome.the-variants.{State, Refused}
 use Rattle.reading.specs.Fill.{ReadEnd, end, placed, taken, turnOf, follow, run, fillOf}
 use Rattle.reading.proofs.Going.{After, moves}
@@ -28,6 +28,11 @@ use Rattle.deciding.proofs.Spent.{Spent, spent-fresh, spent-past, not-p
 abbrev Counted : ReadEnd → Type 0
 Counted (end (State n) w ss js) = Spent n
 Counted (end (Refused x) w ss js) = Unit {0}
+
+-- and lies in the job
+abbrev Inside : List ℕ → ReadEnd → Type 0
+Inside bytes (end (State n) w ss js) = n .at ≤ length bytes
+Inside bytes (end (Refused x) w ss js) = Unit {0}
 
 module _ (j : Job) (w ss js : List ℕ) (i : Spent j) where
   placed-counted : (f : Field) (n : ℕ) → Spent (past f n j) → Counted (placed f n j w ss js)
@@ -81,23 +86,49 @@ module _ (a b : List ℕ) (e : take DECIDES a ≡ take DECIDES b) where
   unfolding fillOf
   fill-same w ss js = rw (empty-same DECIDES a b e (omega arith), run-same (suc (length a)) (suc (length b)) fresh w ss js spent-fresh within-fresh (omega arith) (omega arith) (omega arith) (omega arith))
 
--- no longer job is read to its end
-module _ (bytes : List ℕ) (n : Job) (v ts ks : List ℕ) where
-  run-longest : (k : ℕ) (j : Job) (w ss js : List ℕ) → Spent j → Within j → run k bytes j w ss js ≡ end (State n) v ts ks → length bytes ≤ LONGEST
-  unfolding run
-  run-longest zero j w ss js i l e = absurd (let z : _≡_ {A = ℕ} 0 1 = cc in omega arith)
-  run-longest (suc k) j w ss js i l e =
-      by (ltb (j .at) (length bytes)) refl (turnOf bytes j w ss js) (moves bytes j w ss js) (turn-counted j w ss js i bytes) e (λ m u us ls. run-longest k m u us ls)
-    where
-      by : (t : Bool) → ltb (j .at) (length bytes) ≡ t → (T : ReadEnd) → After j T → Counted T → cond t (follow (run k bytes) T) (end (State j) w ss js) ≡ end (State n) v ts ks → ((m : Job) (u us ls : List ℕ) → Spent m → Within m → run k bytes m u us ls ≡ end (State n) v ts ks → length bytes ≤ LONGEST) → length bytes ≤ LONGEST
-      by true h (end (State m) u us ls) d c f again = again m u us ls c (d .within l) f
-      by true h (end (Refused x) u us ls) d c f again = absurd (let z : _≡_ {A = ℕ} 0 1 = cc in omega arith)
-      by false h T d c f again = let x = ltb-false (j .at) (length bytes) h in let y = not-past j i l in omega arith
+-- ---- a job that is read to its end has the bytes of its counted fields, and no others
 
-  pub fill-longest : (w ss js : List ℕ) → fillOf bytes w ss js ≡ end (State n) v ts ks → length bytes ≤ LONGEST
-  unfolding fillOf
-  fill-longest w ss js e = by (eqb (length bytes) 0) e
+pub record ReadWhole (bytes : List ℕ) (j : Job) : Type 0 where
+  pub at : j .at ≡ length bytes
+  pub spent : Spent j
+  pub within : Within j
+
+inside : (bytes : List ℕ) (j : Job) (w ss js : List ℕ) → Within j → j .at ≤ length bytes → Inside bytes (turnOf bytes j w ss js)
+unfolding turnOf
+inside bytes j w ss js l h = go (fieldOf j (drop (j .at) bytes)) refl
+  where
+    places : (f : Field) (n : ℕ) → j .at + n ≤ length bytes → Inside bytes (placed f n j w ss js)
+    places (Settings b) n h = h
+    places (Point x y nx pv r) n h = h
+    places (Record f o p) n h = h
+    places (Segment p) n h = h
+    places (Join a b) n h = h
+
+    go : (r : Reading) → fieldOf j (drop (j .at) bytes) ≡ r → Inside bytes (taken r j w ss js)
+    go (reading.Read f n) e = places f n (let a = accepted j (drop (j .at) bytes) f n e in omega (arith, a .here, length-drop (j .at) bytes))
+    go (reading.Refused x) e = tt
+
+module _ (bytes : List ℕ) (n : Job) (v ts ks : List ℕ) where
+  run-whole : (k : ℕ) (j : Job) (w ss js : List ℕ) → Spent j → Within j → j .at ≤ length bytes → run k bytes j w ss js ≡ end (State n) v ts ks → ReadWhole bytes n
+  unfolding run
+  run-whole zero j w ss js i l b e = absurd (let z : _≡_ {A = ℕ} 0 1 = cc in omega arith)
+  run-whole (suc k) j w ss js i l b e =
+      by (ltb (j .at) (length bytes)) refl (turnOf bytes j w ss js) (moves bytes j w ss js) (turn-counted j w ss js i bytes) (inside bytes j w ss js l b) e (λ m u us ls. run-whole k m u us ls)
     where
-      by : (t : Bool) → cond t (end (Refused Strange) w ss js) (run (suc (length bytes)) bytes fresh w ss js) ≡ end (State n) v ts ks → length bytes ≤ LONGEST
+      by : (t : Bool) → ltb (j .at) (length bytes) ≡ t → (T : ReadEnd) → After j T → Counted T → Inside bytes T → cond t (follow (run k bytes) T) (end (State j) w ss js) ≡ end (State n) v ts ks
+          → ((m : Job) (u us ls : List ℕ) → Spent m → Within m → m .at ≤ length bytes → run k bytes m u us ls ≡ end (State n) v ts ks → ReadWhole bytes n) → ReadWhole bytes n
+      by true h (end (State m) u us ls) d c q f again = again m u us ls c (d .within l) q f
+      by true h (end (Refused x) u us ls) d c q f again = absurd (let z : _≡_ {A = ℕ} 0 1 = cc in omega arith)
+      by false h T d c q f again = let z : j ≡ n = cc (f) in rw (← z) (record { at = (let x = ltb-false (j .at) (length bytes) h in omega arith); spent = i; within = l })
+
+  pub fill-whole : (w ss js : List ℕ) → fillOf bytes w ss js ≡ end (State n) v ts ks → ReadWhole bytes n
+  unfolding fillOf
+  fill-whole w ss js e = by (eqb (length bytes) 0) e
+    where
+      by : (t : Bool) → cond t (end (Refused Strange) w ss js) (run (suc (length bytes)) bytes fresh w ss js) ≡ end (State n) v ts ks → ReadWhole bytes n
       by true d = absurd (let z : _≡_ {A = ℕ} 0 1 = cc in omega arith)
-      by false d = run-longest (suc (length bytes)) fresh w ss js spent-fresh within-fresh d
+      by false d = run-whole (suc (length bytes)) fresh w ss js spent-fresh within-fresh (omega arith) d
+
+  -- so it is no longer than the longest
+  pub fill-longest : (w ss js : List ℕ) → fillOf bytes w ss js ≡ end (State n) v ts ks → length bytes ≤ LONGEST
+  fill-longest w ss js e = let r = fill-whole w ss js e in omega (arith, r .at, not-past n (r .spent) (r .within))
