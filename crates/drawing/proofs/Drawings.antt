@@ -101,7 +101,7 @@ drawn-agree s s′ e c =
 
 -- ---- and name their segments and joins alike
 
-spot-point : (w : List ℕ) → Ready w → (k : ℕ) → k < pointsOf w → getD (ringAt (view w) (homeOf w k)) (orZero (place k (ringAt (view w) (homeOf w k)))) 0 ≡ k
+pub spot-point : (w : List ℕ) → Ready w → (k : ℕ) → k < pointsOf w → getD (ringAt (view w) (homeOf w k)) (orZero (place k (ringAt (view w) (homeOf w k)))) 0 ≡ k
 spot-point w o k h = place-at k (ringAt (view w) (homeOf w k)) (on-ring (view w) (o .resolved) (homeOf w k) k (at-home w o k (homeOf w k) h refl))
 
 spot-named : (w w′ : List ℕ) → Ready w′ → (k k′ : ℕ) → k < pointsOf w → k′ < pointsOf w′ → spotOf w′ k′ ≡ spotOf w k → k′ ≡ renaming w w′ k

@@ -5,3 +5,6 @@ pub mod Sheets
 pub mod Numbering
 pub mod Encodable
 pub mod Passing
+pub mod Again
+pub mod Accepted
+pub mod Sizes
