@@ -2,13 +2,15 @@
 use mathlib.Core.Path.{_≡_, refl, ap, _∙_}
 use mathlib.Core.Bool.{Bool, true, false, cond}
 use mathlib.Core.List.{List}
-use Prim.Native.Nat.{ℕ, zero, suc, _+_, _-_, _<_, _≤_}
+use Prim.Native.Nat.{ℕ, zero, suc, _+_, _-_, _*_, _<_, _≤_}
 use native.Mathlib.Omega.{arith}
+use native.Mathlib.Decide.{decLt}
 use lib.Dec.{ltb, eqb}
 use lib.ListN.{length, take, drop, length-drop}
-use borrow.Author.Tests.{ltb-true, ltb-false}
+use borrow.Author.Tests.{eqb-false, ltb-true, ltb-false}
 use Rattle.job.specs.declared.Job.{Job}
 use Rattle.job.specs.declared.refusal.Refusal.the-variants.{Strange}
+use Rattle.job.specs.declared.field.Kind.the-variants as kind
 use Rattle.job.specs.declared.field.Field.{Field}
 use Rattle.job.specs.declared.field.Field.the-variants.{Settings, Point, Record, Segment, Join}
 use Rattle.job.specs.declared.field.Reading.{Reading}
@@ -19,10 +21,10 @@ use Rattle.job.proofs.Accepted.{accepted, within-fresh}
 use Rattle.reading.specs.declared.fill.Outcome.the-variants.{State, Refused}
 use Rattle.reading.specs.Fill.{ReadEnd, end, placed, taken, turnOf, follow, run, fillOf}
 use Rattle.reading.proofs.Going.{After, moves}
-use Rattle.deciding.specs.Decides.{LONGEST, DECIDES}
+use Rattle.deciding.specs.Decides.{wholeOf, LONGEST, DECIDES}
 use Rattle.deciding.proofs.Beginnings.{long-same, empty-same, rest-same, fewer-same}
 use Rattle.deciding.proofs.Fields.{field-same}
-use Rattle.deciding.proofs.Spent.{Spent, spent-fresh, spent-past, not-past}
+use Rattle.deciding.proofs.Spent.{Spent, first-some, spent-fresh, spent-past, not-past}
 
 -- what a turn leaves, if it is no refusal, is counted with its bytes
 abbrev Counted : ReadEnd → Type 0
@@ -89,8 +91,7 @@ module _ (a b : List ℕ) (e : take DECIDES a ≡ take DECIDES b) where
 -- ---- a job that is read to its end has the bytes of its counted fields, and no others
 
 pub record ReadWhole (bytes : List ℕ) (j : Job) : Type 0 where
-  pub at : j .at ≡ length bytes
-  pub spent : Spent j
+  pub long : length bytes ≡ wholeOf kind.Settings + j .points * wholeOf kind.Point + j .records * wholeOf kind.Record + j .segments * wholeOf kind.Segment + j .joins * wholeOf kind.Join
   pub within : Within j
 
 inside : (bytes : List ℕ) (j : Job) (w ss js : List ℕ) → Within j → j .at ≤ length bytes → Inside bytes (turnOf bytes j w ss js)
@@ -109,26 +110,34 @@ inside bytes j w ss js l h = go (fieldOf j (drop (j .at) bytes)) refl
     go (reading.Refused x) e = tt
 
 module _ (bytes : List ℕ) (n : Job) (v ts ks : List ℕ) where
-  run-whole : (k : ℕ) (j : Job) (w ss js : List ℕ) → Spent j → Within j → j .at ≤ length bytes → run k bytes j w ss js ≡ end (State n) v ts ks → ReadWhole bytes n
+  run-whole : (k : ℕ) (j : Job) (w ss js : List ℕ) → 0 < length bytes → Spent j → Within j → j .at ≤ length bytes → run k bytes j w ss js ≡ end (State n) v ts ks → ReadWhole bytes n
   unfolding run
-  run-whole zero j w ss js i l b e = absurd (let z : _≡_ {A = ℕ} 0 1 = cc in omega arith)
-  run-whole (suc k) j w ss js i l b e =
-      by (ltb (j .at) (length bytes)) refl (turnOf bytes j w ss js) (moves bytes j w ss js) (turn-counted j w ss js i bytes) (inside bytes j w ss js l b) e (λ m u us ls. run-whole k m u us ls)
+  run-whole zero j w ss js o i l b e = absurd (let z : _≡_ {A = ℕ} 0 1 = cc in omega arith)
+  run-whole (suc k) j w ss js o i l b e =
+      by (ltb (j .at) (length bytes)) refl (turnOf bytes j w ss js) (moves bytes j w ss js) (turn-counted j w ss js i bytes) (inside bytes j w ss js l b) e (λ m u us ls. run-whole k m u us ls o)
     where
       by : (t : Bool) → ltb (j .at) (length bytes) ≡ t → (T : ReadEnd) → After j T → Counted T → Inside bytes T → cond t (follow (run k bytes) T) (end (State j) w ss js) ≡ end (State n) v ts ks
           → ((m : Job) (u us ls : List ℕ) → Spent m → Within m → m .at ≤ length bytes → run k bytes m u us ls ≡ end (State n) v ts ks → ReadWhole bytes n) → ReadWhole bytes n
       by true h (end (State m) u us ls) d c q f again = again m u us ls c (d .within l) q f
       by true h (end (Refused x) u us ls) d c q f again = absurd (let z : _≡_ {A = ℕ} 0 1 = cc in omega arith)
-      by false h T d c q f again = let z : j ≡ n = cc (f) in rw (← z) (record { at = (let x = ltb-false (j .at) (length bytes) h in omega arith); spent = i; within = l })
+      by false h T d c q f again =
+          let x = ltb-false (j .at) (length bytes) h in
+          let y : 0 < j .last = go (decLt 0 (j .last)) in
+          let z : j ≡ n = cc (f) in
+          rw (← z) (record { long = omega (arith, i .at, first-some (j .last) y); within = l })
+        where
+          go : Dec (0 < j .last) → 0 < j .last
+          go (yes g) = g
+          go (no g) = absurd (omega (arith, i .none-yet (omega arith), ltb-false (j .at) (length bytes) h))
 
   pub fill-whole : (w ss js : List ℕ) → fillOf bytes w ss js ≡ end (State n) v ts ks → ReadWhole bytes n
   unfolding fillOf
-  fill-whole w ss js e = by (eqb (length bytes) 0) e
+  fill-whole w ss js e = by (eqb (length bytes) 0) refl e
     where
-      by : (t : Bool) → cond t (end (Refused Strange) w ss js) (run (suc (length bytes)) bytes fresh w ss js) ≡ end (State n) v ts ks → ReadWhole bytes n
-      by true d = absurd (let z : _≡_ {A = ℕ} 0 1 = cc in omega arith)
-      by false d = run-whole (suc (length bytes)) fresh w ss js spent-fresh within-fresh (omega arith) d
+      by : (t : Bool) → eqb (length bytes) 0 ≡ t → cond t (end (Refused Strange) w ss js) (run (suc (length bytes)) bytes fresh w ss js) ≡ end (State n) v ts ks → ReadWhole bytes n
+      by true h d = absurd (let z : _≡_ {A = ℕ} 0 1 = cc in omega arith)
+      by false h d = let o = eqb-false (length bytes) 0 h in run-whole (suc (length bytes)) fresh w ss js (omega arith) spent-fresh within-fresh (omega arith) d
 
   -- so it is no longer than the longest
   pub fill-longest : (w ss js : List ℕ) → fillOf bytes w ss js ≡ end (State n) v ts ks → length bytes ≤ LONGEST
-  fill-longest w ss js e = let r = fill-whole w ss js e in omega (arith, r .at, not-past n (r .spent) (r .within))
+  fill-longest w ss js e = let r = fill-whole w ss js e in let i = r .within in omega (arith, r .long, i .points, i .records, i .segments, i .joins)

@@ -8,3 +8,5 @@ pub mod Passing
 pub mod Again
 pub mod Accepted
 pub mod Sizes
+pub mod Theorem
+pub mod Examples

@@ -12,7 +12,6 @@ use Rattle.acts.specs.Opened.{table}
 use Rattle.drawing.specs.Drawing.{Drawing}
 use Rattle.encoding.specs.Sheet.{bytesOf, allBytes, Sheet, pointField, recordField, segmentField, joinField, sheetFields, sheetBytes}
 use Rattle.encoding.specs.Encode.{firstNumber, sheetOf, encode}
-use Rattle.encoding.proofs.Encodable.{Encodable}
 
 bytes-append : (f g : List Field) → length (allBytes (f ++ g)) ≡ length (allBytes f) + length (allBytes g)
 bytes-append [] g = omega arith
@@ -34,10 +33,6 @@ sheet-length t =
 pub encode-length : (d : Drawing) → length (encode d) ≡ 4 + 17 * firstNumber d (length (d .records)) + 8 * length (d .records) + 5 * length (d .segments) + 7 * (length (d .joins) / 2)
 unfolding encode sheetOf
 encode-length d = sheet-length (sheetOf d)
-
--- "at most 41,988"
-pub never-longer : (d : Drawing) → Encodable d → length (encode d) ≤ 41988
-never-longer d f = omega (arith, encode-length d, f .few-points, f .few-records, f .few-segments, f .few-joins)
 
 -- ---- bytes
 
