@@ -1,53 +1,37 @@
--- Two accepted jobs have the same drawing exactly when one is the other with its points renamed; and then they finish alike.
-use Prim.Native.Nat.{ℕ, zero, suc, _+_, _*_, _≤_, _<_}
-use mathlib.Core.Path.{_≡_, refl, ap, _∙_, sym, subst}
-use mathlib.Core.Bool.{Bool, true, false, cond}
+-- Two accepted jobs have the same drawing exactly when one is the other with its points renumbered.
+use Prim.Native.Nat.{ℕ, zero, suc, _+_, _*_, _<_}
+use mathlib.Core.Path.{_≡_, refl, ap, _∙_, sym}
 use mathlib.Core.List.{List, [], _∷_, map}
-use mathlib.Core.Option.{Option, none, some}
 use native.Mathlib.Nat.{zero-add}
 use native.Mathlib.Omega.{arith}
-use lib.Dec.{eqb, ltb}
-use lib.IntN.{ℤ, pos, natAbs, _+ℤ_, _-ℤ_}
-use lib.ListN.{length, getD, length-map, replicate, length-replicate}
-use borrow.Author.Tests.{ltb-false}
+use lib.IntN.{pos, natAbs}
+use lib.ListN.{length, getD, length-map}
 use Rattle.exact.proofs.Poly.{solve, var, _:+_, _:-_}
 use Rattle.rings.specs.Place.{place, orZero}
 use Rattle.numbers.specs.Raised.{coordinate}
 use Rattle.geometry.specs.declared.Point.{Point}
 use Rattle.job.specs.Limits as limit
 use Rattle.job.specs.declared.Job.{Job}
-use Rattle.job.specs.declared.refusal.Refusal.the-variants as refusal
-use Rattle.store.specs.Field.{pt, rc, ct, X, Y, FLAGS, OWNER, SETTINGS, LENGTH}
+use Rattle.store.specs.Field.{pt, ct, X, Y, SETTINGS}
 use Rattle.store.specs.Words.{Store, view}
-use Rattle.store.specs.Named.{settingsOf, pointsOf, recordsOf}
-use Rattle.store.specs.Sound.{pts, recs, ringAt}
+use Rattle.store.specs.Named.{pointsOf, recordsOf}
+use Rattle.store.specs.Sound.{recs, ringAt}
 use Rattle.store.specs.Value.{wordOf, pointAt, ringPoints}
 use Rattle.joins.specs.Resolve.{homeOf}
-use Rattle.joins.specs.Paths.{Lives}
 use Rattle.joins.specs.Resolved.{Ready}
 use Rattle.joins.proofs.Finding.{at-home}
 use Rattle.joins.proofs.Homes.{on-ring}
 use Rattle.converting.specs.Needs.{Converting}
-use Rattle.reading.specs.declared.fill.Outcome.the-variants as outcome
-use Rattle.reading.specs.Fill as fill
-use Rattle.accepting.specs.Accept.{acceptOf}
 use Rattle.acts.specs.Opened.{table}
 use Rattle.acts.proofs.Opening.{length-table, at-table}
 use Rattle.turns.specs.Form.{raised}
-use Rattle.opening.specs.declared.open.Opened.the-variants.{Refused}
-use Rattle.opening.specs.Open.{JOIN-POINTS, end, openOf}
-use Rattle.opening.proofs.Passing.{converting}
-use Rattle.finishing.specs.InOneCall.{finishOf}
 use Rattle.drawing.specs.Renumbered.{Renumbered, RenumberedList, RenumberedJob}
-use Rattle.drawing.specs.Same.{SameFinish}
-use Rattle.drawing.specs.Drawing.{Drawn, Spot, Drawing, drawnAt, spotOf, drawingOf, drawnFrom, drawingIn}
-use Rattle.drawing.proofs.Likeness.{tell}
+use Rattle.drawing.specs.Drawing.{Drawn, Spot, Drawing, drawnAt, spotOf, drawingOf}
+use Rattle.drawing.proofs.Likeness.{tells-apart}
 use Rattle.drawing.proofs.Rings.{rings-alike, homes-alike}
 use Rattle.drawing.proofs.Forests.{table-same, ring-values}
 use Rattle.drawing.proofs.Places.{place-at, place-map}
-use Rattle.drawing.proofs.Naming.{SameRings, name, renaming, renaming-in, agree-alike, as-many}
-use Rattle.drawing.proofs.Opening.{acceptedAs}
-use Rattle.drawing.proofs.Finishing.{opened-finish, finishing-alike}
+use Rattle.drawing.proofs.Naming.{SameRings, numberIn, renumbering, renumbering-in, rings-renumber}
 
 -- ---- a coordinate tells its word
 
@@ -104,36 +88,36 @@ drawn-agree s s′ e c =
 pub spot-point : (w : List ℕ) → Ready w → (k : ℕ) → k < pointsOf w → getD (ringAt (view w) (homeOf w k)) (orZero (place k (ringAt (view w) (homeOf w k)))) 0 ≡ k
 spot-point w o k h = place-at k (ringAt (view w) (homeOf w k)) (on-ring (view w) (o .resolved) (homeOf w k) k (at-home w o k (homeOf w k) h refl))
 
-spot-named : (w w′ : List ℕ) → Ready w′ → (k k′ : ℕ) → k < pointsOf w → k′ < pointsOf w′ → spotOf w′ k′ ≡ spotOf w k → k′ ≡ renaming w w′ k
-unfolding name
+spot-named : (w w′ : List ℕ) → Ready w′ → (k k′ : ℕ) → k < pointsOf w → k′ < pointsOf w′ → spotOf w′ k′ ≡ spotOf w k → k′ ≡ renumbering w w′ k
+unfolding numberIn
 spot-named w w′ o′ k k′ h h′ e =
     sym (spot-point w′ o′ k′ h′)
     ∙ ap (λ (z : Spot). getD (ringAt (view w′) (z .ring)) (z .place) 0) e
-    ∙ sym (renaming-in w w′ k h)
+    ∙ sym (renumbering-in w w′ k h)
 
 spots-listed : (w w′ : List ℕ) → Ready w′ → (m m′ : ℕ) (l l′ : List ℕ) → table (λ i. spotOf w′ (getD l′ i 0)) 0 m′ ≡ table (λ i. spotOf w (getD l i 0)) 0 m
-    → ((i : ℕ) → i < m → getD l i 0 < pointsOf w) → ((i : ℕ) → i < m′ → getD l′ i 0 < pointsOf w′) → RenumberedList (renaming w w′) m l l′
+    → ((i : ℕ) → i < m → getD l i 0 < pointsOf w) → ((i : ℕ) → i < m′ → getD l′ i 0 < pointsOf w′) → RenumberedList (renumbering w w′) m l l′
 spots-listed w w′ o′ m m′ l l′ e h h′ i b =
     spot-named w w′ o′ (getD l i 0) (getD l′ i 0) (h i b) (h′ i (omega (arith, tables-long (λ i. spotOf w (getD l i 0)) (λ i. spotOf w′ (getD l′ i 0)) m m′ e)))
     (tables-at (spotOf w 0) (λ i. spotOf w (getD l i 0)) (λ i. spotOf w′ (getD l′ i 0)) m m′ e i b)
 
--- equal drawings: the second job is the first with its points renamed
+-- equal drawings: the second job is the first with its points renumbered
 pub drawing-alike : (j j′ : Job) (w w′ ss ss′ js js′ : List ℕ) → Converting w ss (j .segments) js (j .joins) → Converting w′ ss′ (j′ .segments) js′ (j′ .joins)
-    → drawingOf w′ ss′ (j′ .segments) js′ (j′ .joins) ≡ drawingOf w ss (j .segments) js (j .joins) → RenumberedJob (renaming w w′) j j′ w w′ ss ss′ js js′
+    → drawingOf w′ ss′ (j′ .segments) js′ (j′ .joins) ≡ drawingOf w ss (j .segments) js (j .joins) → RenumberedJob (renumbering w w′) j j′ w w′ ss ss′ js js′
 unfolding drawingOf
 drawing-alike j j′ w w′ ss ss′ js js′ t t′ e =
     let g : SameRings (view w) (view w′) = drawn-agree (view w) (view w′) (ap (λ (d : Drawing). d .records) e) (ap (λ (d : Drawing). d .settings) e) in
     let a = ap (λ (d : Drawing). d .segments) e in
     let b = ap (λ (d : Drawing). d .joins) e in
     record {
-      words = agree-alike w w′ (t .listed .ready) (t′ .listed .ready) g;
+      words = rings-renumber w w′ (t .listed .ready) (t′ .listed .ready) g;
       as-many-segments = tables-long (λ i. spotOf w (getD ss i 0)) (λ i. spotOf w′ (getD ss′ i 0)) (j .segments) (j′ .segments) a;
       as-many-joins = omega (arith, tables-long (λ i. spotOf w (getD js i 0)) (λ i. spotOf w′ (getD js′ i 0)) (2 * j .joins) (2 * j′ .joins) b);
       segments = spots-listed w w′ (t′ .listed .ready) (j .segments) (j′ .segments) ss ss′ a (t .listed .point) (t′ .listed .point);
       joins = spots-listed w w′ (t′ .listed .ready) (2 * j .joins) (2 * j′ .joins) js js′ b (t .named) (t′ .named);
     }
 
--- ---- back: renamed points have the same drawing
+-- ---- back: renumbered points have the same drawing
 
 module _ {ρ : ℕ → ℕ} (w w′ : List ℕ) (al : Renumbered ρ (view w) (view w′)) (o : Ready w) (o′ : Ready w′) where
   drawn-same : (i : ℕ) → i < recordsOf w → drawnAt (view w′) i ≡ drawnAt (view w) i
@@ -147,7 +131,7 @@ module _ {ρ : ℕ → ℕ} (w w′ : List ℕ) (al : Renumbered ρ (view w) (vi
       let e = homes-alike w w′ al o o′ k h in
       let z = at-home w o k (homeOf w k) h refl in
       let r = rings-alike al (o .resolved) (o′ .resolved) (homeOf w k) (z .res .real) in
-      both e (ap (λ (i : ℕ). orZero (place (ρ k) (ringAt (view w′) i))) e ∙ ap (λ (c : List ℕ). orZero (place (ρ k) c)) r ∙ ap orZero (place-map ρ (tell al) k (ringAt (view w) (homeOf w k))))
+      both e (ap (λ (i : ℕ). orZero (place (ρ k) (ringAt (view w′) i))) e ∙ ap (λ (c : List ℕ). orZero (place (ρ k) c)) r ∙ ap orZero (place-map ρ (tells-apart al) k (ringAt (view w) (homeOf w k))))
     where
       both : {a b c d : ℕ} → a ≡ b → c ≡ d → _≡_ {A = Spot} (record { ring = a; place = c }) (record { ring = b; place = d })
       both e f = cc

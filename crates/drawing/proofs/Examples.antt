@@ -2,7 +2,7 @@
 use Prim.Native.Nat.{ℕ}
 use mathlib.Core.Path.{_≡_, refl}
 use mathlib.Core.List.{List, [], _∷_, _++_}
-use mathlib.Core.Option.{Option, some}
+use mathlib.Core.Option.{some}
 use Rattle.job.specs.Field.{bodyOf, fieldOf}
 use Rattle.store.specs.Field.{NONE}
 use Rattle.store.specs.Words.{cell, put}
@@ -33,16 +33,16 @@ abbrev settings : List ℕ
 settings = 1 ∷ 1 ∷ 0 ∷ 0 ∷ []
 
 -- (0,0) (50,0) (20,40), numbered 0 1 2, all naming record 0
-abbrev pub one : List ℕ
-one = settings ++ at 0 0 1 2 0 ++ at 50 0 2 0 0 ++ at 20 40 0 1 0 ++ ending 0 1 0
+abbrev pub firstExport : List ℕ
+firstExport = settings ++ at 0 0 1 2 0 ++ at 50 0 2 0 0 ++ at 20 40 0 1 0 ++ ending 0 1 0
 
 -- the same, numbered 1 2 0, two of them naming record 1
-abbrev pub two : List ℕ
-two = settings ++ at 20 40 1 2 1 ++ at 0 0 2 0 0 ++ at 50 0 0 1 1 ++ ending 1 2 1
+abbrev pub secondExport : List ℕ
+secondExport = settings ++ at 20 40 1 2 1 ++ at 0 0 2 0 0 ++ at 50 0 0 1 1 ++ ending 1 2 1
 
 -- what both draw
-abbrev pub triangle : Drawing
-triangle =
+abbrev pub drawnTriangle : Drawing
+drawnTriangle =
     record {
       settings = 0;
       records = record { flags = 0; owner = NONE; ring = pt 0 0 ∷ pt 50 0 ∷ pt 20 40 ∷ [] } ∷ record { flags = 0; owner = 0; ring = [] } ∷ [];
@@ -50,14 +50,14 @@ triangle =
       joins = record { ring = 0; place = 1 } ∷ record { ring = 0; place = 0 } ∷ [];
     }
 
-pub one-draws : drawingIn one ≡ some triangle
+pub first-draws : drawingIn firstExport ≡ some drawnTriangle
 unfolding drawingIn drawingOf acceptOf readOf fillOf run turnOf fieldOf bodyOf rowsOf endsIn findIn anyIn walk.run anyBelow cell put realOf getRealOutrec homeOf
-one-draws = refl
+first-draws = refl
 
-pub two-draws : drawingIn two ≡ some triangle
+pub second-draws : drawingIn secondExport ≡ some drawnTriangle
 unfolding drawingIn drawingOf acceptOf readOf fillOf run turnOf fieldOf bodyOf rowsOf endsIn findIn anyIn walk.run anyBelow cell put realOf getRealOutrec homeOf
-two-draws = refl
+second-draws = refl
 
 -- so they finish alike, in every work space and on every tray
-pub finish-alike : (n : ℕ) (t : List ℕ) → SameFinish (finishOf one n t) (finishOf two n t)
-finish-alike n t = drawing-finish one two n t triangle one-draws two-draws
+pub finish-alike : (n : ℕ) (t : List ℕ) → SameFinish (finishOf firstExport n t) (finishOf secondExport n t)
+finish-alike n t = drawing-finish firstExport secondExport n t drawnTriangle first-draws second-draws

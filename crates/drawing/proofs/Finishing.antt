@@ -2,21 +2,14 @@
 use Prim.Native.Nat.{ℕ, _%_, _/_}
 use mathlib.Core.Path.{_≡_, refl, ap, _∙_, sym, subst}
 use mathlib.Core.Logic.{_⊎_, inl, inr}
-use mathlib.Core.Bool.{Bool}
 use mathlib.Core.List.{List, []}
 use lib.Dec.{eqb}
 use lib.ListN.{length}
-use Rattle.rings.specs.Progress.{Ring}
-use Rattle.geometry.specs.declared.Point.{Point}
-use Rattle.job.specs.Limits as limit
 use Rattle.job.specs.declared.Job.{Job}
 use Rattle.job.specs.declared.refusal.Refusal.the-variants as refusal
-use Rattle.lone.specs.Forest.{Fed, Forest, opening, runForest}
 use Rattle.lone.specs.Order.{AllDone}
-use Rattle.lone.specs.Rounds.{enough}
 use Rattle.lone.specs.Plane.{plane, loneRing}
 use Rattle.lone.specs.Writing.{closedPaths, openPaths}
-use Rattle.store.specs.Words.{view}
 use Rattle.store.specs.Named.{settingsOf}
 use Rattle.paths.specs.declared.Written.{Written}
 use Rattle.paths.specs.declared.Written.the-variants as written
@@ -25,12 +18,9 @@ use Rattle.opening.specs.declared.open.Opened.the-variants.{Accepted, Refused}
 use Rattle.opening.specs.Open.{End, end, openOf}
 use Rattle.finishing.specs.Write.{writeOf}
 use Rattle.finishing.specs.Run.{runOf}
-use Rattle.finishing.specs.Finish.{inRising}
 use Rattle.finishing.specs.Opened.{OpeningLeft}
 use Rattle.finishing.specs.InOneCall.{Finished, refused, afterWriting, finishOf}
 use Rattle.order.specs.Demand3.{Lone, inTray, lones, AllDoneAfter, RingsFit, RingsNeverEnd}
-use Rattle.order.specs.Jobs.{OfJob}
-use Rattle.order.proofs.Following.{M}
 use Rattle.order.proofs.Theorem.{F, lones-are, after-list, GoesThrough, where-fits}
 use Rattle.order.proofs.Jobs.{left, goes-out, of-job}
 use Rattle.drawing.specs.Renumbered.{RenumberedJob}
@@ -64,12 +54,12 @@ module _ (w w′ : List ℕ) (o : OpeningLeft w) (o′ : OpeningLeft w′) (f : 
 
 -- ---- finishing them
 
-pub turned : (w w′ : List ℕ) → SameForest w w′ → SameForest w′ w
-turned w w′ f = record { settings = sym (f .settings); as-many-points = sym (f .as-many-points); as-many-records = sym (f .as-many-records); forest = sym (f .forest) }
+forest-back : (w w′ : List ℕ) → SameForest w w′ → SameForest w′ w
+forest-back w w′ f = record { settings = sym (f .settings); as-many-points = sym (f .as-many-points); as-many-records = sym (f .as-many-records); forest = sym (f .forest) }
 
-written-alike : (v v′ : List ℕ) (r : Written) (t : List ℕ) → SameFinish (afterWriting v r t) (afterWriting v′ r t)
-written-alike v v′ (written.Paths c o) t = record { answer = refl; tray = refl }
-written-alike v v′ (written.Refused x) t = record { answer = refl; tray = refl }
+out-alike : (v v′ : List ℕ) (r : Written) (t : List ℕ) → SameFinish (afterWriting v r t) (afterWriting v′ r t)
+out-alike v v′ (written.Paths c o) t = record { answer = refl; tray = refl }
+out-alike v v′ (written.Refused x) t = record { answer = refl; tray = refl }
 
 same-from : (f f′ g g′ : Finished) → f ≡ g → f′ ≡ g′ → SameFinish g g′ → SameFinish f f′
 same-from f f′ g g′ e e′ s = rw (e, e′) s
@@ -88,12 +78,12 @@ module _ (bytes bytes′ : List ℕ) (n : ℕ) (w w′ : List ℕ) (e : openOf b
       same-from (finishOf bytes n t) (finishOf bytes′ n t) (afterWriting (runOf w (g .steps)) (writeOf (runOf w (g .steps)) t .answer) (writeOf (runOf w (g .steps)) t .tray))
       (afterWriting (runOf w′ (g′ .steps)) (writeOf (runOf w (g .steps)) t .answer) (writeOf (runOf w (g .steps)) t .tray)) (goes-out bytes n w e g t)
       (goes-out bytes′ n w′ e′ g′ t ∙ ap (λ (b : Wrote). afterWriting (runOf w′ (g′ .steps)) (b .answer) (b .tray)) q)
-      (written-alike (runOf w (g .steps)) (runOf w′ (g′ .steps)) (writeOf (runOf w (g .steps)) t .answer) (writeOf (runOf w (g .steps)) t .tray))
+      (out-alike (runOf w (g .steps)) (runOf w′ (g′ .steps)) (writeOf (runOf w (g .steps)) t .answer) (writeOf (runOf w (g .steps)) t .tray))
 
   both : RingsFit w ⊎ RingsNeverEnd w → RingsFit w′ ⊎ RingsNeverEnd w′ → SameFinish (finishOf bytes n t) (finishOf bytes′ n t)
   both (inl x) (inl y) = through (where-fits w o x) (where-fits w′ o′ y)
   both (inl x) (inr y) = let g = x .goes-on [] in absurd (y (g .0) (done-too w w′ o o′ f (g .0) (g .1)))
-  both (inr x) (inl y) = let g = y .goes-on [] in absurd (x (g .0) (done-too w′ w o′ o (turned w w′ f) (g .0) (g .1)))
+  both (inr x) (inl y) = let g = y .goes-on [] in absurd (x (g .0) (done-too w′ w o′ o (forest-back w w′ f) (g .0) (g .1)))
   both (inr x) (inr y) =
       same-from (finishOf bytes n t) (finishOf bytes′ n t) (refused refusal.Full (length w) (length t)) (refused refusal.Full (length w′) (length t))
       (of-job bytes n w e .overflows x t) (of-job bytes′ n w′ e′ .overflows y t) (record { answer = refl; tray = refl })

@@ -1,7 +1,7 @@
 -- Renumbered stores have the same forest by value.
-use Prim.Native.Nat.{ℕ, zero, suc, _+_, _%_, _≤_, _<_}
-use mathlib.Core.Path.{_≡_, refl, ap, _∙_, sym, subst}
-use mathlib.Core.Bool.{Bool, true, false, cond}
+use Prim.Native.Nat.{ℕ, zero, suc, _+_, _%_, _<_}
+use mathlib.Core.Path.{_≡_, refl, ap, _∙_}
+use mathlib.Core.Bool.{Bool, true, cond}
 use mathlib.Core.List.{List, [], _∷_, map}
 use native.Mathlib.Omega.{arith}
 use lib.Dec.{eqb}
@@ -9,7 +9,7 @@ use Rattle.rings.specs.Links.{All}
 use Rattle.rings.specs.Progress.{Ring, atStart}
 use Rattle.rings.proofs.Counting.{all-in}
 use Rattle.lone.specs.Forest.{Fed, leftRingless, leftOpen, leftClosed}
-use Rattle.store.specs.Field.{Field, pt, rc, ct, X, Y, NEXT, PREV, REC, FLAGS, OWNER, FIRST, MARK, PRESENT, START, CUT}
+use Rattle.store.specs.Field.{Field, pt, rc, ct, FLAGS, OWNER, FIRST, MARK, PRESENT, START, CUT}
 use Rattle.store.specs.Words.{Store, view}
 use Rattle.store.specs.Named.{settingsOf, pointsOf, recordsOf}
 use Rattle.store.specs.Sound.{pts, recs, ringless, ringAt, isOpen}
@@ -18,7 +18,7 @@ use Rattle.acts.specs.Value.{value}
 use Rattle.acts.specs.Opened.{table, openedAt, records}
 use Rattle.turns.specs.Form.{raised}
 use Rattle.opening.specs.Start.{startRings}
-use Rattle.opening.proofs.Starting.{Begun, begun-all, start-ready}
+use Rattle.opening.proofs.Starting.{Begun, begun-all}
 use Rattle.drawing.specs.Renumbered.{Renumbered}
 use Rattle.drawing.proofs.Writing.{compared, never}
 use Rattle.drawing.proofs.Likeness.{StillCompared, alike-still}

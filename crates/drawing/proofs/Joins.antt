@@ -3,7 +3,7 @@ use Prim.Native.Nat.{ℕ, zero, suc, _+_, _*_, _≤_, _<_}
 use mathlib.Core.Path.{_≡_, refl, ap, _∙_, sym, subst}
 use mathlib.Core.Logic.{_≢_, _⊎_, inl, inr}
 use mathlib.Core.Bool.{Bool, true, false, cond}
-use mathlib.Core.List.{List, [], _∷_, _++_, map}
+use mathlib.Core.List.{List, _++_, map}
 use native.Mathlib.Omega.{arith}
 use native.Mathlib.Decide.{ℕ-discrete, decLt}
 use lib.Dec.{eqb, ltb}
@@ -13,21 +13,18 @@ use Rattle.rings.specs.Count.{occ}
 use Rattle.rings.specs.Links.{All}
 use Rattle.rings.proofs.Counting.{all-in}
 use Rattle.job.specs.Limits as limit
-use Rattle.store.specs.Field.{Field, pt, rc, ct, X, Y, NEXT, PREV, REC, FLAGS, OWNER, FIRST, MARK, PRESENT, START, CUT, POINTS, RECORDS, NONE, LENGTH, same}
-use Rattle.store.specs.Words.{Store, view, Write, write, onWords}
+use Rattle.store.specs.Field.{Field, pt, rc, ct, X, Y, NEXT, PREV, REC, FLAGS, OWNER, FIRST, POINTS, RECORDS, LENGTH, same}
+use Rattle.store.specs.Words.{Store, view, Write, onWords}
 use Rattle.store.specs.Stores.{onStore}
 use Rattle.store.specs.Named.{nextOf, prevOf, recOf, firstOf, pointsOf, recordsOf}
 use Rattle.store.specs.Sound.{pts, recs, ringAt}
-use Rattle.store.proofs.Storing.{view-writes, length-writes}
+use Rattle.store.proofs.Storing.{view-writes}
 use Rattle.joins.specs.declared.Joined.{Joined}
 use Rattle.joins.specs.declared.Joined.the-variants.{Done, Knot, Full}
 use Rattle.joins.specs.Resolve.{homeOf}
-use Rattle.joins.specs.Paths.{Lives}
-use Rattle.joins.specs.Resolved.{Ready}
 use Rattle.joins.specs.Join.{JoinEnd, end, relinkWrites, madeWrites, emptyWrites, firstWrites, relinkOf, newOutRec, nameAll, fixOutrecPts, moveFirst, splitRing, splitOf, mergeOf, byRecords, joinOf, follow, joinsFrom, processHorzJoins}
-use Rattle.joins.specs.Needs.{Points, Four, Ringed, Unknotted, Joins}
-use Rattle.joins.proofs.Homes.{next-lives, first-lives}
-use Rattle.joins.proofs.Finding.{at-home}
+use Rattle.joins.specs.Needs.{Points, Ringed, Unknotted, Joins}
+use Rattle.joins.proofs.Homes.{first-lives}
 use Rattle.joins.proofs.Resolving.{res-low}
 use Rattle.joins.proofs.Renaming.{ring-is}
 use Rattle.joins.proofs.Naming.{name-length, name-col, name-in, name-out}
@@ -35,8 +32,8 @@ use Rattle.joins.proofs.Cases.{four, low-one, low-two, parts, new-ring}
 use Rattle.joins.proofs.Turns.{points-pair, pair-same, join-kept}
 use Rattle.joins.proofs.Turns as turns
 use Rattle.drawing.specs.Renumbered.{Renumbered, RenumberedList}
-use Rattle.drawing.proofs.Writing.{compared, never, RenumberedWrites, Among}
-use Rattle.drawing.proofs.Likeness.{tell, none, Grows, alike-words, StillCompared, alike-still}
+use Rattle.drawing.proofs.Writing.{compared, never, RenumberedWrites, AmongWrites}
+use Rattle.drawing.proofs.Likeness.{tells-apart, none, alike-words, StillCompared, alike-still}
 use Rattle.drawing.proofs.Rings.{occ-map, ring-alike, next-in, homes-alike}
 
 abbrev answerOf : JoinEnd → Joined
@@ -164,7 +161,7 @@ module _ {ρ : ℕ → ℕ} (w w′ : List ℕ) (al : Renumbered ρ (view w) (vi
       (links-renumbered w w′ al a c (madeWrites k (nextOf w a) i) (madeWrites k (nextOf w′ (ρ a)) i) (t .one .bound) (t .two .bound) ((refl, refl, refl), ((refl, refl, refl), ((refl, refl, al .nexts a (t .one .bound)), ((refl, refl, refl), tt)))))
       (record { more = omega arith; points = λ m h. inl h; records = λ m h. old m h (ℕ-discrete m k) })
     where
-      old : (m : ℕ) → m < k + 1 → Dec (m ≡ k) → (m < recordsOf w) ⊎ (Among (splits w a c i k t kn kf) (rc FLAGS) m × Among (splits w a c i k t kn kf) (rc OWNER) m × Among (splits w a c i k t kn kf) (rc FIRST) m)
+      old : (m : ℕ) → m < k + 1 → Dec (m ≡ k) → (m < recordsOf w) ⊎ (AmongWrites (splits w a c i k t kn kf) (rc FLAGS) m × AmongWrites (splits w a c i k t kn kf) (rc OWNER) m × AmongWrites (splits w a c i k t kn kf) (rc FIRST) m)
       old m h (yes e) = inr (inr (inr (inr (inr (inr (inl (refl, e)))))), inr (inr (inr (inr (inr (inr (inr (inl (refl, e)))))))), inr (inr (inr (inr (inr (inr (inl (refl, e))))))))
       old m h (no d) = inl (omega arith)
 
@@ -188,7 +185,7 @@ module _ {ρ : ℕ → ℕ} (w w′ : List ℕ) (al : Renumbered ρ (view w) (vi
       went w′ (ρ a) (ρ c) i k t′ kn′ kf
       ∙ ap (λ (l : List ℕ). ltb 0 (occ (firstOf (named w′ (ρ a) (ρ c) i k t′ kn′ kf) i) l)) ring-new
       ∙ ap (λ (m : ℕ). ltb 0 (occ m (map ρ (ringAt (view (halved w a c i k t kn kf)) k)))) first-new
-      ∙ ap (ltb 0) (occ-map ρ (tell al) (firstOf (named w a c i k t kn kf) i) (ringAt (view (halved w a c i k t kn kf)) k))
+      ∙ ap (ltb 0) (occ-map ρ (tells-apart al) (firstOf (named w a c i k t kn kf) i) (ringAt (view (halved w a c i k t kn kf)) k))
       ∙ sym (went w a c i k t kn kf)
 
   pub split-ring-alike : Renumbered ρ (view (splitRing w a c i k)) (view (splitRing w′ (ρ a) (ρ c) i k))
@@ -230,7 +227,7 @@ module _ {ρ : ℕ → ℕ} (w w′ : List ℕ) (al : Renumbered ρ (view w) (vi
       let e : nextOf w′ (ρ a) ≡ ρ (nextOf w a) = al .nexts a (p .one) in
       let d : homeOf w′ (ρ a) ≡ homeOf w a = homes-alike w w′ al (p .ready) (p′ .ready) a (p .one) in
       let f : homeOf w′ (ρ c) ≡ homeOf w c = homes-alike w w′ al (p .ready) (p′ .ready) c (p .two) in
-      rw (e, d, f, tell al (nextOf w a) c) (go e d f (eqb (nextOf w a) c) refl)
+      rw (e, d, f, tells-apart al (nextOf w a) c) (go e d f (eqb (nextOf w a) c) refl)
     where
       go : nextOf w′ (ρ a) ≡ ρ (nextOf w a) → homeOf w′ (ρ a) ≡ homeOf w a → homeOf w′ (ρ c) ≡ homeOf w c → (b : Bool) → eqb (nextOf w a) c ≡ b
           → SameJoinEnd ρ (cond b (end Knot w) (byRecords w a c (homeOf w a) (homeOf w c))) (cond b (end Knot w′) (byRecords w′ (ρ a) (ρ c) (homeOf w a) (homeOf w c)))
@@ -238,7 +235,7 @@ module _ {ρ : ℕ → ℕ} (w w′ : List ℕ) (al : Renumbered ρ (view w) (vi
       go e d f false z =
           by-alike (homeOf w a) (homeOf w c)
           (points-pair w a c p (nextOf w a) (homeOf w a) (homeOf w c) refl (eqb-false _ _ z) refl refl)
-          (points-pair w′ (ρ a) (ρ c) p′ (nextOf w′ (ρ a)) (homeOf w a) (homeOf w c) refl (eqb-false _ _ (ap (λ (x : ℕ). eqb x (ρ c)) e ∙ tell al (nextOf w a) c ∙ z)) (sym d) (sym f))
+          (points-pair w′ (ρ a) (ρ c) p′ (nextOf w′ (ρ a)) (homeOf w a) (homeOf w c) refl (eqb-false _ _ (ap (λ (x : ℕ). eqb x (ρ c)) e ∙ tells-apart al (nextOf w a) c ∙ z)) (sym d) (sym f))
 
 -- ---- the list of joins
 

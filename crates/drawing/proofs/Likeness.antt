@@ -1,8 +1,8 @@
--- Renumbered stores stay alike: under writes that are renamed, and where only words that are not compared change.
+-- Renumbered stores stay alike: under writes that are renumbered, and where only words that are not compared change.
 use Prim.Native.Nat.{ℕ, _≤_, _<_}
-use mathlib.Core.Path.{_≡_, refl, ap, _∙_, sym, subst}
+use mathlib.Core.Path.{_≡_, refl, ap, _∙_, sym}
 use mathlib.Core.Logic.{_⊎_, inl, inr}
-use mathlib.Core.Bool.{false, true}
+use mathlib.Core.Bool.{true}
 use mathlib.Core.List.{List}
 use native.Mathlib.Omega.{arith}
 use lib.Dec.{eqb}
@@ -14,14 +14,14 @@ use Rattle.store.specs.Stores.{onStore, Within}
 use Rattle.store.specs.Sound.{pts, recs}
 use Rattle.store.proofs.Storing.{view-writes}
 use Rattle.drawing.specs.Renumbered.{Renumbers, Renumbered}
-use Rattle.drawing.proofs.Writing.{inj, eqb-same, lower, AgreeAt, RenumberedWrites, Among, compared, written}
+use Rattle.drawing.proofs.Writing.{eqb-same, lower, AgreeAt, RenumberedWrites, AmongWrites, compared, write-alike}
 
 pub renumbers-more : {ρ : ℕ → ℕ} {c : ℕ} (d : ℕ) → c ≤ d → Renumbers ρ c → Renumbers ρ d
 renumbers-more d h r = record { back = r .back; back-of = r .back-of; of-back = r .of-back; stays = λ k l. r .stays k (omega arith) }
 
 module _ {ρ : ℕ → ℕ} {s s′ : Store} (a : Renumbered ρ s s′) where
-  pub tell : (x y : ℕ) → eqb (ρ x) (ρ y) ≡ eqb x y
-  tell = eqb-same (a .renumbers)
+  pub tells-apart : (x y : ℕ) → eqb (ρ x) (ρ y) ≡ eqb x y
+  tells-apart = eqb-same (a .renumbers)
 
   pub low : (k : ℕ) → k < pts s → ρ k < pts s
   low k h = lower (a .renumbers) k h
@@ -36,8 +36,8 @@ module _ {ρ : ℕ → ℕ} {s s′ : Store} (a : Renumbered ρ s s′) where
   -- the new points and records are written alike
   pub record Grows (xs : List Write) : Type 0 where
     pub more : pts s ≤ onStore s xs (ct POINTS) 0
-    pub points : (k : ℕ) → k < onStore s xs (ct POINTS) 0 → (k < pts s) ⊎ (Among xs (pt X) k × Among xs (pt Y) k × Among xs (pt NEXT) k × Among xs (pt PREV) k)
-    pub records : (i : ℕ) → i < onStore s xs (ct RECORDS) 0 → (i < recs s) ⊎ (Among xs (rc FLAGS) i × Among xs (rc OWNER) i × Among xs (rc FIRST) i)
+    pub points : (k : ℕ) → k < onStore s xs (ct POINTS) 0 → (k < pts s) ⊎ (AmongWrites xs (pt X) k × AmongWrites xs (pt Y) k × AmongWrites xs (pt NEXT) k × AmongWrites xs (pt PREV) k)
+    pub records : (i : ℕ) → i < onStore s xs (ct RECORDS) 0 → (i < recs s) ⊎ (AmongWrites xs (rc FLAGS) i × AmongWrites xs (rc OWNER) i × AmongWrites xs (rc FIRST) i)
 
   pub alike-store : (xs ys : List Write) → RenumberedWrites ρ xs ys → Grows xs → Renumbered ρ (onStore s xs) (onStore s′ ys)
   alike-store xs ys r g =
@@ -55,8 +55,8 @@ module _ {ρ : ℕ → ℕ} {s s′ : Store} (a : Renumbered ρ s s′) where
         firsts = λ i h. by (rc FIRST) i refl (one (a .firsts i) (λ z. z .2) (g .records i h));
       }
     where
-      by : (f : Field) (k : ℕ) → compared f ≡ true → AgreeAt ρ s s′ f k ⊎ Among xs f k → AgreeAt ρ (onStore s xs) (onStore s′ ys) f k
-      by f k t z = written ρ tell f k t xs ys s s′ r z
+      by : (f : Field) (k : ℕ) → compared f ≡ true → AgreeAt ρ s s′ f k ⊎ AmongWrites xs f k → AgreeAt ρ (onStore s xs) (onStore s′ ys) f k
+      by f k t z = write-alike ρ tells-apart f k t xs ys s s′ r z
 
       one : {A B C D : Type 0} → (A → B) → (C → D) → A ⊎ C → B ⊎ D
       one f g (inl x) = inl (f x)

@@ -2,18 +2,18 @@
 use Prim.Native.Nat.{ℕ, zero, suc, _+_, _*_, _≤_, _<_}
 use mathlib.Core.Path.{_≡_, refl, ap, _∙_, sym, subst}
 use mathlib.Core.Logic.{_≢_, _⊎_, inl, inr}
-use mathlib.Core.Bool.{Bool, true, false, cond, _||_, not}
+use mathlib.Core.Bool.{Bool, true, false, cond}
 use mathlib.Core.List.{List, [], _∷_, map}
 use native.Mathlib.Omega.{arith}
 use native.Mathlib.Decide.{ℕ-discrete}
 use lib.Dec.{eqb, ltb}
-use lib.ListN.{length, getD, set, length-set, length-map}
+use lib.ListN.{length, getD, set, length-set}
 use lib.Seq.{getD-set-same, getD-set-other}
 use borrow.Author.Tests.{eqb-false, ltb-true}
 use Rattle.job.specs.Limits as limit
 use Rattle.store.specs.declared.points.Room.the-variants.{At, Full}
-use Rattle.store.specs.Field.{pt, rc, ct, X, Y, NEXT, PREV, NONE}
-use Rattle.store.specs.Words.{view, Write, onWords}
+use Rattle.store.specs.Field.{pt, X, Y, NEXT, PREV, NONE}
+use Rattle.store.specs.Words.{view, onWords}
 use Rattle.store.specs.Named.{pointsOf}
 use Rattle.store.specs.Primitive.{Taken, taken, afterWrites, beforeWrites, duplicateOp}
 use Rattle.joins.specs.Needs.{Point}
@@ -28,8 +28,8 @@ use Rattle.converting.proofs.Making.{pair-valid, pair-overlaps, making-on, maki
 use Rattle.converting.proofs.Looping.{inner-kept}
 use Rattle.converting.proofs.Converting.{converting-pairing}
 use Rattle.drawing.specs.Renumbered.{Renumbered, RenumberedList}
-use Rattle.drawing.proofs.Writing.{RenumberedWrites, Among}
-use Rattle.drawing.proofs.Likeness.{tell, none, Grows, alike-words}
+use Rattle.drawing.proofs.Writing.{AmongWrites}
+use Rattle.drawing.proofs.Likeness.{tells-apart, none, alike-words}
 use Rattle.drawing.proofs.Walks.{renumberedSegment, one-alike, two-alike}
 use Rattle.drawing.proofs.Rows.{map-set, sorted-alike}
 
@@ -83,7 +83,7 @@ module _ {ρ : ℕ → ℕ} (w w′ : List ℕ) (al : Renumbered ρ (view w) (vi
       (record { more = omega arith; points = λ k h. old k h (ℕ-discrete k (pointsOf w)); records = λ k h. inl h })
     where
       old : (k : ℕ) → k < suc (pointsOf w) → Dec (k ≡ pointsOf w)
-          → (k < pointsOf w) ⊎ (Among (afterWrites (view w) p) (pt X) k × Among (afterWrites (view w) p) (pt Y) k × Among (afterWrites (view w) p) (pt NEXT) k × Among (afterWrites (view w) p) (pt PREV) k)
+          → (k < pointsOf w) ⊎ (AmongWrites (afterWrites (view w) p) (pt X) k × AmongWrites (afterWrites (view w) p) (pt Y) k × AmongWrites (afterWrites (view w) p) (pt NEXT) k × AmongWrites (afterWrites (view w) p) (pt PREV) k)
       old k h (yes e) = inr (inr (inl (refl, e)), inr (inr (inl (refl, e))), inr (inr (inr (inr (inl (refl, e))))), inr (inr (inr (inr (inr (inl (refl, e)))))))
       old k h (no d) = inl (omega arith)
 
@@ -99,7 +99,7 @@ module _ {ρ : ℕ → ℕ} (w w′ : List ℕ) (al : Renumbered ρ (view w) (vi
       (record { more = omega arith; points = λ k h. old k h (ℕ-discrete k (pointsOf w)); records = λ k h. inl h })
     where
       old : (k : ℕ) → k < suc (pointsOf w) → Dec (k ≡ pointsOf w)
-          → (k < pointsOf w) ⊎ (Among (beforeWrites (view w) p) (pt X) k × Among (beforeWrites (view w) p) (pt Y) k × Among (beforeWrites (view w) p) (pt NEXT) k × Among (beforeWrites (view w) p) (pt PREV) k)
+          → (k < pointsOf w) ⊎ (AmongWrites (beforeWrites (view w) p) (pt X) k × AmongWrites (beforeWrites (view w) p) (pt Y) k × AmongWrites (beforeWrites (view w) p) (pt NEXT) k × AmongWrites (beforeWrites (view w) p) (pt PREV) k)
       old k h (yes e) = inr (inr (inl (refl, e)), inr (inr (inl (refl, e))), inr (inr (inr (inr (inl (refl, e))))), inr (inr (inr (inr (inr (inl (refl, e)))))))
       old k h (no d) = inl (omega arith)
 
@@ -277,7 +277,7 @@ then-alike rs fs k k′ (out converted.Full x ls js) (out converted.Full x′ ls
 -- a right point is none in both or in neither
 none-test : {ρ : ℕ → ℕ} (w w′ : List ℕ) → Renumbered ρ (view w) (view w′) → pointsOf w ≤ limit.POINTS → (rs : List ℕ) (i : ℕ) → i < length rs → eqb (getD (map ρ rs) i 0) NONE ≡ eqb (getD rs i 0) NONE
 none-test {ρ} w w′ al h rs i l =
-    ap (λ (n : ℕ). eqb n NONE) (at-map ρ rs i l) ∙ subst (λ (x : ℕ). eqb (ρ (getD rs i 0)) x ≡ eqb (getD rs i 0) NONE) (none al h) (tell al (getD rs i 0) NONE)
+    ap (λ (n : ℕ). eqb n NONE) (at-map ρ rs i l) ∙ subst (λ (x : ℕ). eqb (ρ (getD rs i 0)) x ≡ eqb (getD rs i 0) NONE) (none al h) (tells-apart al (getD rs i 0) NONE)
 
 inner-alike : {ρ : ℕ → ℕ} (f : ℕ) (rs fs : List ℕ) (i j : ℕ) → getD rs i 0 ≢ NONE → getD (map ρ rs) i 0 ≢ NONE → i < j → j + f ≡ limit.SEGMENTS → Onward ρ rs fs (innerFrom f rs fs i j) (innerFrom f (map ρ rs) fs i j)
 unfolding innerFrom

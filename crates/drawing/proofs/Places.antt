@@ -1,8 +1,8 @@
 -- Places on a list of distinct points, and the neighbours there.
 use Prim.Native.Nat.{ℕ, zero, suc, _+_, _≤_, _<_}
-use mathlib.Core.Path.{_≡_, refl, ap, _∙_, sym, subst}
+use mathlib.Core.Path.{_≡_, refl, ap, _∙_, sym}
 use mathlib.Core.Logic.{_≢_}
-use mathlib.Core.Bool.{Bool, true, false, cond}
+use mathlib.Core.Bool.{cond}
 use mathlib.Core.List.{List, [], _∷_, _++_, map}
 use mathlib.Core.Option.{some}
 use native.Mathlib.Omega.{arith}
@@ -68,7 +68,7 @@ seg-at n q (a ∷ []) p s h = absurd (omega arith)
 seg-at n q (a ∷ b ∷ r) zero s h = s .0
 seg-at n q (a ∷ b ∷ r) (suc p) s h = seg-at n q (b ∷ r) p (s .2) (omega arith)
 
--- getD within the first list, and right nextPlace it
+-- getD within the first list, and right after it
 in-first : (p : ℕ) (c : List ℕ) (x : ℕ) → p < length c → getD (c ++ (x ∷ [])) p 0 ≡ getD c p 0
 in-first p [] x h = absurd (omega arith)
 in-first zero (y ∷ c) x h = refl

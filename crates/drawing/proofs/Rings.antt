@@ -1,13 +1,12 @@
--- Renumbered stores have the same rings, renamed; and each point resolves to the same record.
+-- Renumbered stores have the same rings, renumbered; and each point resolves to the same record.
 use Prim.Native.Nat.{ℕ, zero, suc, _≤_, _<_}
-use mathlib.Core.Path.{_≡_, refl, ap, _∙_, sym, subst}
+use mathlib.Core.Path.{_≡_, refl, ap, subst}
 use mathlib.Core.Logic.{_≢_}
 use mathlib.Core.Bool.{Bool, true, false, cond}
 use mathlib.Core.List.{List, [], _∷_, map}
-use native.Mathlib.Omega.{arith}
 use lib.Dec.{eqb}
 use borrow.Author.Tests.{eqb-false}
-use Rattle.rings.specs.Count.{one, occ}
+use Rattle.rings.specs.Count.{occ}
 use Rattle.rings.specs.Walk.{run, walk}
 use Rattle.job.specs.Limits as limit
 use Rattle.store.specs.Field.{pt, rc, NEXT, REC, FIRST, NONE}
@@ -19,8 +18,8 @@ use Rattle.joins.specs.Resolved.{Resolved, Ready}
 use Rattle.joins.proofs.Homes.{home-of, on-ring, lives-on, next-lives, first-lives}
 use Rattle.joins.proofs.Finding.{at-home}
 use Rattle.joins.proofs.Resolving.{res-same}
-use Rattle.drawing.specs.Renumbered.{Renumbers, Renumbered}
-use Rattle.drawing.proofs.Likeness.{tell, low, low′, none}
+use Rattle.drawing.specs.Renumbered.{Renumbered}
+use Rattle.drawing.proofs.Likeness.{tells-apart, low′, none}
 
 module _ (ρ : ℕ → ℕ) (tells : (a b : ℕ) → eqb (ρ a) (ρ b) ≡ eqb a b) where
   -- a walk, renumbered
@@ -39,7 +38,7 @@ module _ (ρ : ℕ → ℕ) (tells : (a b : ℕ) → eqb (ρ a) (ρ b) ≡ eqb a
 
 module _ {ρ : ℕ → ℕ} {s s′ : Store} (a : Renumbered ρ s s′) (few : pts s ≤ limit.POINTS) where
   pub ringless-alike : (i : ℕ) → i < recs s → ringless s′ i ≡ ringless s i
-  ringless-alike i h = rw (a .firsts i h) (subst (λ (x : ℕ). eqb (ρ (s (rc FIRST) i)) x ≡ eqb (s (rc FIRST) i) NONE) (none a few) (tell a (s (rc FIRST) i) NONE))
+  ringless-alike i h = rw (a .firsts i h) (subst (λ (x : ℕ). eqb (ρ (s (rc FIRST) i)) x ≡ eqb (s (rc FIRST) i) NONE) (none a few) (tells-apart a (s (rc FIRST) i) NONE))
 
   -- where next stays among the points
   pub ring-alike : ((k : ℕ) → k < pts s → s (pt NEXT) k < pts s) → (i : ℕ) → i < recs s → (s (rc FIRST) i ≢ NONE → s (rc FIRST) i < pts s) → ringAt s′ i ≡ map ρ (ringAt s i)
@@ -47,7 +46,7 @@ module _ {ρ : ℕ → ℕ} {s s′ : Store} (a : Renumbered ρ s s′) (few : p
     where
       go : (b : Bool) → ringless s i ≡ b → cond b [] (walk (s′ (pt NEXT)) (ρ (s (rc FIRST) i))) ≡ map ρ (cond b [] (walk (s (pt NEXT)) (s (rc FIRST) i)))
       go true e = refl
-      go false e = run-map ρ (tell a) (s (pt NEXT)) (s′ (pt NEXT)) (pts s) l (a .nexts) (s (rc FIRST) i) limit.POINTS (s (rc FIRST) i) (f (eqb-false _ _ e))
+      go false e = run-map ρ (tells-apart a) (s (pt NEXT)) (s′ (pt NEXT)) (pts s) l (a .nexts) (s (rc FIRST) i) limit.POINTS (s (rc FIRST) i) (f (eqb-false _ _ e))
 
 module _ (s : Store) (o : Resolved s) where
   pub next-in : (k : ℕ) → k < pts s → s (pt NEXT) k < pts s
@@ -63,7 +62,7 @@ module _ {ρ : ℕ → ℕ} {s s′ : Store} (a : Renumbered ρ s s′) (o : Res
 
   -- each point lives on the same ring
   pub lives-alike : (i k : ℕ) → Lives s i k → Lives s′ i (ρ k)
-  lives-alike i k z = lives-on s′ o′ i (ρ k) (rw (a .records) (z .res .real)) (rw (rings-alike i (z .res .real), occ-map ρ (tell a) k (ringAt s i)) (on-ring s o i k z))
+  lives-alike i k z = lives-on s′ o′ i (ρ k) (rw (a .records) (z .res .real)) (rw (rings-alike i (z .res .real), occ-map ρ (tells-apart a) k (ringAt s i)) (on-ring s o i k z))
 
 -- and resolves to the same record
 pub homes-alike : {ρ : ℕ → ℕ} (w w′ : List ℕ) → Renumbered ρ (view w) (view w′) → Ready w → Ready w′ → (k : ℕ) → k < pts (view w) → homeOf w′ (ρ k) ≡ homeOf w k

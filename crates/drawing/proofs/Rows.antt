@@ -21,7 +21,7 @@ use Rattle.segments.proofs.Updates.{through-fit}
 use Rattle.converting.specs.Make.{sortedSegments}
 use Rattle.drawing.specs.Renumbered.{Renumbered, RenumberedList}
 use Rattle.drawing.proofs.Writing.{inj}
-use Rattle.drawing.proofs.Likeness.{tell, none, low}
+use Rattle.drawing.proofs.Likeness.{tells-apart, none, low}
 use Rattle.drawing.proofs.Walks.{renumberedSegment, through-alike}
 
 -- ---- the sort
@@ -86,7 +86,7 @@ module _ {ρ : ℕ → ℕ} (w w′ : List ℕ) (al : Renumbered ρ (view w) (vi
   SameClaim (claim s ms) (claim s′ ms′) = (s′ ≡ renumberedSegment ρ s) × Marked ms ms′
 
   none-alike : (r : ℕ) → eqb (ρ r) NONE ≡ eqb r NONE
-  none-alike r = subst (λ (x : ℕ). eqb (ρ r) x ≡ eqb r NONE) (none al few) (tell al r NONE)
+  none-alike r = subst (λ (x : ℕ). eqb (ρ r) x ≡ eqb r NONE) (none al few) (tells-apart al r NONE)
 
   -- an invalid segment, by its right point, none
   invalid-alike : (l f : ℕ) → invalid (ρ l) f ≡ renumberedSegment ρ (invalid l f)

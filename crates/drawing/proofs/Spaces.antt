@@ -13,7 +13,7 @@ use Rattle.job.specs.Coordinate as coordinate
 use Rattle.job.specs.Field.{fieldOf}
 use Rattle.job.specs.Job.{fresh, past}
 use Rattle.job.specs.declared.Job.{Job}
-use Rattle.job.specs.declared.refusal.Refusal.the-variants.{Torn, Strange, OffTheTable, NoSuch, Loose, Muddled, OpenEdge}
+use Rattle.job.specs.declared.refusal.Refusal.the-variants.{Strange, OffTheTable, NoSuch, Loose, Muddled, OpenEdge}
 use Rattle.job.specs.declared.field.Field as job
 use Rattle.job.specs.declared.field.Field.the-variants.{Settings, Point, Record, Segment, Join}
 use Rattle.job.specs.declared.field.Reading.{Reading}

@@ -1,18 +1,14 @@
 -- The level walks from renumbered points come to renumbered points, and the level segments are renumbered.
-use Prim.Native.Nat.{ℕ, zero, suc, _≤_, _<_}
-use mathlib.Core.Path.{_≡_, refl, ap, _∙_, sym, subst}
-use mathlib.Core.Bool.{Bool, true, false, cond, _||_, not}
+use Prim.Native.Nat.{ℕ, zero, suc, _<_}
+use mathlib.Core.Path.{_≡_, refl, ap, _∙_, sym}
+use mathlib.Core.Bool.{Bool, true, false, cond, not}
 use mathlib.Core.List.{List}
-use native.Mathlib.Omega.{arith}
 use lib.Dec.{eqb, ltb}
 use Rattle.job.specs.Limits as limit
-use Rattle.store.specs.Field.{pt, rc, NEXT, PREV, FLAGS, NONE}
 use Rattle.store.specs.Words.{view}
-use Rattle.store.specs.Named.{nextOf, prevOf, firstOf, flagsOf, pointsOf}
+use Rattle.store.specs.Named.{nextOf, firstOf, pointsOf}
 use Rattle.joins.specs.Resolve.{homeOf}
-use Rattle.joins.specs.Paths.{Lives}
 use Rattle.joins.specs.Resolved.{Ready}
-use Rattle.joins.specs.Needs.{Point}
 use Rattle.joins.proofs.Homes.{home-of}
 use Rattle.segments.specs.declared.level.Ends.{Ends}
 use Rattle.sorting.specs.declared.HorzSegment.{HorzSegment}
@@ -24,8 +20,8 @@ use Rattle.segments.specs.Update.{hasFront, walledEnds, freeEnds, endsOf, valid
 use Rattle.segments.proofs.Running.{along-lives, wall-on}
 use Rattle.segments.proofs.Updates.{point-at-home, ends-on}
 use Rattle.drawing.specs.Renumbered.{Renumbered}
-use Rattle.drawing.proofs.Likeness.{tell, none}
-use Rattle.drawing.proofs.Rings.{next-in, homes-alike}
+use Rattle.drawing.proofs.Likeness.{tells-apart, none}
+use Rattle.drawing.proofs.Rings.{homes-alike}
 
 -- a segment by renumbered points
 abbrev pub renumberedSegment : (ℕ → ℕ) → HorzSegment → HorzSegment
@@ -62,11 +58,11 @@ module _ {ρ : ℕ → ℕ} (w w′ : List ℕ) (al : Renumbered ρ (view w) (vi
 
   wall-alike : (on : Bool) (wall y p : ℕ) → p < pointsOf w → atWall w′ on (ρ wall) y (ρ p) ≡ atWall w on wall y p
   unfolding atWall
-  wall-alike on wall y p h = rw (tell al p wall, y-along on p h)
+  wall-alike on wall y p h = rw (tells-apart al p wall, y-along on p h)
 
   stop-alike : (on : Bool) (stop y p : ℕ) → p < pointsOf w → atStop w′ on (ρ stop) y (ρ p) ≡ atStop w on stop y p
   unfolding atStop
-  stop-alike on stop y p h = rw (y-along on p h, along-alike on p h, tell al (alongOf w on p) stop)
+  stop-alike on stop y p h = rw (y-along on p h, along-alike on p h, tells-apart al (alongOf w on p) stop)
 
   limit-alike : (on : Bool) (far y p : ℕ) → p < pointsOf w → atLimit w′ on far y (ρ p) ≡ atLimit w on far y p
   unfolding atLimit

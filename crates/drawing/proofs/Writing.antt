@@ -1,7 +1,7 @@
 -- One law for every write: where two stores hold a word alike, or both write it alike, they hold it alike afterwards.
 use Prim.Native.Nat.{ℕ, zero, suc, _<_}
 use mathlib.Core.Path.{_≡_, refl, ap, _∙_, sym, subst}
-use mathlib.Core.Logic.{_≢_, _⊎_, inl, inr}
+use mathlib.Core.Logic.{_⊎_, inl, inr}
 use mathlib.Core.Bool.{Bool, true, false, cond}
 use mathlib.Core.List.{List, [], _∷_}
 use native.Mathlib.Omega.{arith}
@@ -35,10 +35,10 @@ module _ {ρ : ℕ → ℕ} {c : ℕ} (r : Renumbers ρ c) where
 
 -- ---- where a word stands in the other store, and what it holds
 
-abbrev pub there : (ℕ → ℕ) → Field → ℕ → ℕ
-there ρ (pt f) k = ρ k
-there ρ (rc f) k = k
-there ρ (ct f) k = k
+abbrev pub thereIn : (ℕ → ℕ) → Field → ℕ → ℕ
+thereIn ρ (pt f) k = ρ k
+thereIn ρ (rc f) k = k
+thereIn ρ (ct f) k = k
 
 abbrev pub image : (ℕ → ℕ) → Field → ℕ → ℕ
 image ρ (pt X) v = v
@@ -72,7 +72,7 @@ compared (rc CUT) = false
 compared (ct f) = true
 
 abbrev pub AgreeAt : (ℕ → ℕ) → Store → Store → Field → ℕ → Type 0
-AgreeAt ρ s s′ g k = s′ g (there ρ g k) ≡ image ρ g (s g k)
+AgreeAt ρ s s′ g k = s′ g (thereIn ρ g k) ≡ image ρ g (s g k)
 
 abbrev pub HeldIf : Bool → ℕ → ℕ → Type 0
 HeldIf true v v′ = v′ ≡ v
@@ -80,7 +80,7 @@ HeldIf false v v′ = Unit {0}
 
 -- one write and the renumbered one
 abbrev pub OneWrite : (ℕ → ℕ) → Write → Write → Type 0
-OneWrite ρ x y = (y .to ≡ x .to) × (y .at ≡ there ρ (x .to) (x .at)) × HeldIf (compared (x .to)) (image ρ (x .to) (x .is)) (y .is)
+OneWrite ρ x y = (y .to ≡ x .to) × (y .at ≡ thereIn ρ (x .to) (x .at)) × HeldIf (compared (x .to)) (image ρ (x .to) (x .is)) (y .is)
 
 abbrev pub RenumberedWrites : (ℕ → ℕ) → List Write → List Write → Type 0
 RenumberedWrites ρ [] [] = Unit {0}
@@ -92,9 +92,9 @@ RenumberedWrites ρ (x ∷ xs) (y ∷ ys) = OneWrite ρ x y × RenumberedWrites 
 abbrev pub Hits : Write → Field → ℕ → Type 0
 Hits x g k = (same (x .to) g ≡ true) × (k ≡ x .at)
 
-abbrev pub Among : List Write → Field → ℕ → Type 0
-Among [] g k = ⊥
-Among (x ∷ xs) g k = Hits x g k ⊎ Among xs g k
+abbrev pub AmongWrites : List Write → Field → ℕ → Type 0
+AmongWrites [] g k = ⊥
+AmongWrites (x ∷ xs) g k = Hits x g k ⊎ AmongWrites xs g k
 
 -- ---- columns that are the same
 
@@ -159,15 +159,15 @@ same-is (ct f) (ct g) e = ap ct (sym (count-is f) ∙ ap countOf (eqb-true _ _ e
 
 -- ---- the law
 
-module _ (ρ : ℕ → ℕ) (tell : (a b : ℕ) → eqb (ρ a) (ρ b) ≡ eqb a b) where
-  eqb-there : (f : Field) (a b : ℕ) → eqb (there ρ f a) (there ρ f b) ≡ eqb a b
-  eqb-there (pt f) a b = tell a b
+module _ (ρ : ℕ → ℕ) (tells-apart : (a b : ℕ) → eqb (ρ a) (ρ b) ≡ eqb a b) where
+  eqb-there : (f : Field) (a b : ℕ) → eqb (thereIn ρ f a) (thereIn ρ f b) ≡ eqb a b
+  eqb-there (pt f) a b = tells-apart a b
   eqb-there (rc f) a b = refl
   eqb-there (ct f) a b = refl
 
   -- one write
   step : (M : Type 0) (s s′ : Store) (f : Field) (i v v′ : ℕ) (g : Field) (k : ℕ) → compared g ≡ true → HeldIf (compared f) (image ρ f v) v′
-      → AgreeAt ρ s s′ g k ⊎ (Hits (write f i v) g k ⊎ M) → AgreeAt ρ (upd s f i v) (upd s′ f (there ρ f i) v′) g k ⊎ M
+      → AgreeAt ρ s s′ g k ⊎ (Hits (write f i v) g k ⊎ M) → AgreeAt ρ (upd s f i v) (upd s′ f (thereIn ρ f i) v′) g k ⊎ M
   step M s s′ f i v v′ g k t h a = go (same f g) refl
     where
       out : AgreeAt ρ s s′ g k ⊎ (Hits (write f i v) g k ⊎ M) → (Hits (write f i v) g k → ⊥) → AgreeAt ρ s s′ g k ⊎ M
@@ -179,26 +179,26 @@ module _ (ρ : ℕ → ℕ) (tell : (a b : ℕ) → eqb (ρ a) (ρ b) ≡ eqb a 
       held true e y = y
       held false e y = never e
 
-      here : (f ≡ g) → (d : Bool) → eqb k i ≡ d → (cond (eqb (there ρ g k) (there ρ f i)) v′ (s′ g (there ρ g k)) ≡ image ρ g (cond d v (s g k))) ⊎ M
+      here : (f ≡ g) → (d : Bool) → eqb k i ≡ d → (cond (eqb (thereIn ρ g k) (thereIn ρ f i)) v′ (s′ g (thereIn ρ g k)) ≡ image ρ g (cond d v (s g k))) ⊎ M
       here e true z =
-          let y : eqb (there ρ g k) (there ρ f i) ≡ true = subst (λ (x : Field). eqb (there ρ x k) (there ρ f i) ≡ true) e (eqb-there f k i ∙ z) in
+          let y : eqb (thereIn ρ g k) (thereIn ρ f i) ≡ true = subst (λ (x : Field). eqb (thereIn ρ x k) (thereIn ρ f i) ≡ true) e (eqb-there f k i ∙ z) in
           inl (rw y (subst (λ (x : Field). v′ ≡ image ρ x v) e (held (compared f) (ap compared e ∙ t) h)))
       here e false z =
-          let y : eqb (there ρ g k) (there ρ f i) ≡ false = subst (λ (x : Field). eqb (there ρ x k) (there ρ f i) ≡ false) e (eqb-there f k i ∙ z) in
+          let y : eqb (thereIn ρ g k) (thereIn ρ f i) ≡ false = subst (λ (x : Field). eqb (thereIn ρ x k) (thereIn ρ f i) ≡ false) e (eqb-there f k i ∙ z) in
           rw y (out a (λ u. eqb-false k i z (u .1)))
 
-      go : (b : Bool) → same f g ≡ b → (cond b (cond (eqb (there ρ g k) (there ρ f i)) v′ (s′ g (there ρ g k))) (s′ g (there ρ g k)) ≡ image ρ g (cond b (cond (eqb k i) v (s g k)) (s g k))) ⊎ M
+      go : (b : Bool) → same f g ≡ b → (cond b (cond (eqb (thereIn ρ g k) (thereIn ρ f i)) v′ (s′ g (thereIn ρ g k))) (s′ g (thereIn ρ g k)) ≡ image ρ g (cond b (cond (eqb k i) v (s g k)) (s g k))) ⊎ M
       go true e = here (same-is f g e) (eqb k i) refl
       go false e = out a (λ u. never (sym e ∙ u .0))
 
   -- a list of writes
-  pub written : (g : Field) (k : ℕ) → compared g ≡ true → (xs ys : List Write) (s s′ : Store) → RenumberedWrites ρ xs ys → AgreeAt ρ s s′ g k ⊎ Among xs g k → AgreeAt ρ (onStore s xs) (onStore s′ ys) g k
-  written g k t [] [] s s′ r (inl e) = e
-  written g k t [] [] s s′ r (inr e) = absurd e
-  written g k t [] (y ∷ ys) s s′ r a = absurd r
-  written g k t (x ∷ xs) [] s s′ r a = absurd r
-  written g k t (x ∷ xs) (y ∷ ys) s s′ r a =
-      written g k t xs ys (upd s (x .to) (x .at) (x .is)) (upd s′ (y .to) (y .at) (y .is)) (r .1)
-      (subst (λ (f : Field). AgreeAt ρ (upd s (x .to) (x .at) (x .is)) (upd s′ f (y .at) (y .is)) g k ⊎ Among xs g k) (sym (r .0 .0))
-      (subst (λ (i : ℕ). AgreeAt ρ (upd s (x .to) (x .at) (x .is)) (upd s′ (x .to) i (y .is)) g k ⊎ Among xs g k) (sym (r .0 .1))
-      (step (Among xs g k) s s′ (x .to) (x .at) (x .is) (y .is) g k t (r .0 .2) a)))
+  pub write-alike : (g : Field) (k : ℕ) → compared g ≡ true → (xs ys : List Write) (s s′ : Store) → RenumberedWrites ρ xs ys → AgreeAt ρ s s′ g k ⊎ AmongWrites xs g k → AgreeAt ρ (onStore s xs) (onStore s′ ys) g k
+  write-alike g k t [] [] s s′ r (inl e) = e
+  write-alike g k t [] [] s s′ r (inr e) = absurd e
+  write-alike g k t [] (y ∷ ys) s s′ r a = absurd r
+  write-alike g k t (x ∷ xs) [] s s′ r a = absurd r
+  write-alike g k t (x ∷ xs) (y ∷ ys) s s′ r a =
+      write-alike g k t xs ys (upd s (x .to) (x .at) (x .is)) (upd s′ (y .to) (y .at) (y .is)) (r .1)
+      (subst (λ (f : Field). AgreeAt ρ (upd s (x .to) (x .at) (x .is)) (upd s′ f (y .at) (y .is)) g k ⊎ AmongWrites xs g k) (sym (r .0 .0))
+      (subst (λ (i : ℕ). AgreeAt ρ (upd s (x .to) (x .at) (x .is)) (upd s′ (x .to) i (y .is)) g k ⊎ AmongWrites xs g k) (sym (r .0 .1))
+      (step (AmongWrites xs g k) s s′ (x .to) (x .at) (x .is) (y .is) g k t (r .0 .2) a)))

@@ -1,5 +1,5 @@
 -- The drawing of an accepted job can be encoded, and has as many points as the job.
-use Prim.Native.Nat.{ℕ, zero, suc, _+_, _*_, _/_, _%_, _≤_, _<_}
+use Prim.Native.Nat.{ℕ, zero, suc, _+_, _*_, _%_, _≤_, _<_}
 use mathlib.Core.Path.{_≡_, refl, ap, _∙_, sym, subst}
 use mathlib.Core.Bool.{Bool, true, false, _&&_}
 use mathlib.Core.List.{List, [], _∷_, map}
@@ -32,9 +32,8 @@ use Rattle.rows.specs.Rings.{onRing}
 use Rattle.rows.specs.Rows.{onOpen}
 use Rattle.rows.proofs.Homes.{or-left, or-right, named-at}
 use Rattle.accepting.specs.Accepted.{Accepted}
-use Rattle.acts.specs.Opened.{table}
 use Rattle.acts.proofs.Opening.{length-table, at-table}
-use Rattle.drawing.specs.Drawing.{Drawn, Spot, Drawing, drawnAt, spotOf, drawingOf}
+use Rattle.drawing.specs.Drawing.{Drawn, Drawing, drawnAt, spotOf, drawingOf}
 use Rattle.drawing.proofs.Drawings.{word-back, spot-point}
 use Rattle.drawing.proofs.Places.{place-low, at-place, at-most}
 use Rattle.drawing.proofs.Naming.{home-is, at-lives}

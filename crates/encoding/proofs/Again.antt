@@ -2,7 +2,7 @@
 use Prim.Native.Nat.{ℕ, zero, suc, _+_, _*_, _/_, _%_, _≤_, _<_}
 use mathlib.Core.Path.{_≡_, refl, ap, _∙_, sym, subst}
 use mathlib.Core.List.{List, [], _∷_, map}
-use mathlib.Core.Option.{Option, some}
+use mathlib.Core.Option.{some}
 use native.Mathlib.Omega.{arith}
 use native.Mathlib.Decide.{ℕ-discrete}
 use lib.IntN.{ℤ}
@@ -12,7 +12,6 @@ use Rattle.rings.specs.Count.{occ}
 use Rattle.rings.specs.Place.{place, orZero}
 use Rattle.geometry.specs.declared.Point.{Point}
 use Rattle.job.specs.Limits as limit
-use Rattle.job.specs.declared.Job.{Job}
 use Rattle.store.specs.Field.{LENGTH}
 use Rattle.store.specs.Words.{view}
 use Rattle.store.specs.Sound.{ringAt}
@@ -22,7 +21,7 @@ use Rattle.audit.specs.declared.Verdict.the-variants.{Passed}
 use Rattle.joins.specs.Resolved.{Ready}
 use Rattle.joins.proofs.Homes.{lives-on}
 use Rattle.reading.specs.declared.fill.Outcome.the-variants.{State}
-use Rattle.reading.specs.Fill.{ReadEnd, end}
+use Rattle.reading.specs.Fill.{end}
 use Rattle.reading.specs.Needs.{Space}
 use Rattle.reading.specs.Read.{readOf}
 use Rattle.rows.specs.Rows.{rowsOf}

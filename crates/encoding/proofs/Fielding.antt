@@ -1,26 +1,23 @@
 -- Each field's bytes are read back as the field.
-use Prim.Native.Nat.{ℕ, zero, suc, _+_, _*_, _^_, _/_, _%_, _≤_, _<_}
-use mathlib.Core.Path.{_≡_, refl, ap, _∙_, sym, subst}
-use mathlib.Core.Bool.{Bool, true, false, cond, not, _||_, _&&_}
-use mathlib.Core.List.{List, [], _∷_, _++_}
+use Prim.Native.Nat.{ℕ, _+_, _*_, _^_, _/_, _%_, _≤_, _<_}
+use mathlib.Core.Path.{_≡_, refl, ap, _∙_}
+use mathlib.Core.Bool.{Bool, true, false, _&&_}
+use mathlib.Core.List.{List, _++_}
 use native.Mathlib.Nat.{mod-one, mod-eq-of-lt}
 use native.Mathlib.Omega.{arith}
-use lib.Dec.{eqb, ltb, leb}
-use lib.ListN.{length, getD, drop}
-use borrow.Author.Tests.{eq-eqb, ne-eqb, lt-ltb, le-ltb, le-leb, lt-leb}
-use Rattle.numbers.specs.Bytes.{le}
+use lib.Dec.{ltb}
+use lib.ListN.{length, drop}
+use borrow.Author.Tests.{ne-eqb, le-ltb, lt-leb}
 use Rattle.numbers.specs.Raised.{raised, lowered}
 use Rattle.numbers.proofs.Raises.{raised-lowered}
 use Rattle.numbers.proofs.Written.{split}
 use Rattle.job.specs.Limits as limit
-use Rattle.job.specs.Coordinate.{wordAt}
 use Rattle.job.specs.declared.Job.{Job}
 use Rattle.job.specs.declared.field.Kind.{Kind}
 use Rattle.job.specs.declared.field.Kind.the-variants as kind
 use Rattle.job.specs.declared.field.Field.{Field}
 use Rattle.job.specs.declared.field.Field.the-variants.{Settings, Point, Record, Segment, Join}
-use Rattle.job.specs.declared.field.Reading.{Reading}
-use Rattle.job.specs.declared.field.Reading.the-variants.{Read, Refused}
+use Rattle.job.specs.declared.field.Reading.the-variants.{Read}
 use Rattle.job.specs.Field.{tagOf, kindOf, sizeOf, fieldIn, strangeTag, tornValue, strangeBits, crowded, bodyOf, fieldOf}
 use Rattle.encoding.specs.Sheet.{bytesOf}
 

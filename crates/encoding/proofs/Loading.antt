@@ -1,34 +1,29 @@
 -- A sheet's bytes are read back: every number stands in its word.
-use Prim.Native.Nat.{ℕ, zero, suc, _+_, _-_, _*_, _≤_, _<_}
+use Prim.Native.Nat.{ℕ, zero, suc, _+_, _*_, _≤_, _<_}
 use mathlib.Core.Path.{_≡_, refl, ap, _∙_, sym, subst}
-use mathlib.Core.Bool.{Bool, true, false, cond}
+use mathlib.Core.Bool.{cond}
 use mathlib.Core.List.{List, [], _∷_, _++_}
 use native.Mathlib.Omega.{arith}
 use native.Mathlib.Decide.{ℕ-discrete}
-use lib.Dec.{eqb, ltb}
+use lib.Dec.{eqb}
 use lib.ListN.{length, getD, set, drop, length-set, length-drop, length-append}
 use lib.Seq.{getD-set-same, getD-set-other, drop-drop, drop-at}
-use borrow.Author.Tests.{eq-eqb, ne-eqb, lt-ltb, le-ltb}
+use borrow.Author.Tests.{lt-ltb}
 use Rattle.job.specs.Limits as limit
-use Rattle.job.specs.Job.{fresh, past}
+use Rattle.job.specs.Job.{past}
 use Rattle.job.specs.declared.Job.{Job}
 use Rattle.job.specs.declared.field.Field.{Field}
-use Rattle.job.specs.declared.field.Field.the-variants.{Settings, Point, Record, Segment, Join}
-use Rattle.job.specs.declared.field.Reading.{Reading}
 use Rattle.job.specs.declared.field.Reading.the-variants.{Read}
 use Rattle.job.specs.Field.{fieldOf}
-use Rattle.store.specs.Field.{pt, rc, ct, X, Y, NEXT, PREV, REC, FLAGS, OWNER, FIRST, SETTINGS, POINTS, RECORDS, LENGTH}
-use Rattle.store.specs.Words.{Store, view, Write, write, onWords}
+use Rattle.store.specs.Field.{pt, rc, X, Y, NEXT, PREV, REC, FLAGS, OWNER, FIRST, POINTS, RECORDS, LENGTH}
+use Rattle.store.specs.Words.{Store, view, write, onWords}
 use Rattle.store.specs.Stores.{onStore}
-use Rattle.store.specs.Named.{settingsOf, pointsOf, recordsOf}
 use Rattle.store.proofs.Storing.{view-writes, length-writes}
-use Rattle.reading.specs.declared.fill.Outcome.the-variants.{State}
-use Rattle.reading.specs.Fill.{ReadEnd, end, putPoint, putRecord, putJoin, placed, taken, turnOf, follow, run, fillOf}
-use Rattle.reading.specs.Read.{counted, withCounts, readOf}
+use Rattle.reading.specs.Fill.{putPoint, putRecord, putJoin, placed, turnOf, follow, run}
 use Rattle.acts.specs.Opened.{table}
 use Rattle.opening.proofs.Starting.{more}
 use Rattle.encoding.specs.Sheet.{bytesOf, allBytes, Sheet, pointField, recordField, segmentField, joinField}
-use Rattle.encoding.proofs.Fielding.{read-settings, read-point, read-record, read-segment, read-join}
+use Rattle.encoding.proofs.Fielding.{read-point, read-record, read-segment, read-join}
 
 -- every count is within its limit, and every number fits its bytes
 pub record SheetFits (t : Sheet) : Type 0 where

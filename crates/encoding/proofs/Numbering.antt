@@ -1,18 +1,16 @@
 -- Numbering ring by ring: which ring a number is of, and the places on a circle.
 use Prim.Native.Nat.{ℕ, zero, suc, _+_, _-_, _≤_, _<_}
-use mathlib.Core.Path.{_≡_, refl, ap, _∙_, sym, subst}
-use mathlib.Core.Logic.{_≢_}
+use mathlib.Core.Path.{_≡_, refl, ap, _∙_, sym}
 use mathlib.Core.Bool.{Bool, true, false, cond}
-use mathlib.Core.List.{List, [], _∷_, _++_, map}
+use mathlib.Core.List.{[], _∷_, _++_}
 use native.Mathlib.Omega.{arith}
 use native.Mathlib.Decide.{ℕ-discrete, decLt}
-use lib.Dec.{eqb, leb}
+use lib.Dec.{leb}
 use lib.ListN.{length, getD}
 use borrow.Author.Tests.{eq-eqb, ne-eqb, le-leb, lt-leb, leb-true, leb-false}
 use Rattle.rings.specs.Count.{one, occ, sumTo}
 use Rattle.rings.specs.Links.{Seg, Linked}
-use Rattle.rings.specs.Whole.{Whole}
-use Rattle.rings.proofs.Counting.{one-else, one-here}
+use Rattle.rings.proofs.Counting.{one-else}
 use Rattle.rings.proofs.Members.{one-is}
 use Rattle.order.specs.Demand3.{numbers}
 use Rattle.drawing.specs.Places.{nextPlace, prevPlace}

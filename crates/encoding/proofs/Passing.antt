@@ -1,12 +1,12 @@
 -- The words of a drawing that was written and read: rings one after the other, linked in their order; rows 4 to 8 pass.
-use Prim.Native.Nat.{ℕ, zero, suc, _+_, _-_, _*_, _/_, _%_, _≤_, _<_}
-use mathlib.Core.Path.{_≡_, refl, ap, _∙_, sym, subst}
+use Prim.Native.Nat.{ℕ, zero, suc, _+_, _-_, _*_, _%_, _≤_, _<_}
+use mathlib.Core.Path.{_≡_, refl, ap, _∙_, sym}
 use mathlib.Core.Logic.{_≢_, _⊎_, inl, inr}
 use mathlib.Core.Bool.{Bool, true, false, cond, not, _||_, _&&_}
 use mathlib.Core.List.{List, [], _∷_}
 use native.Mathlib.Omega.{arith}
 use native.Mathlib.Decide.{ℕ-discrete, decLt}
-use lib.Dec.{eqb, ltb, leb}
+use lib.Dec.{eqb, leb}
 use lib.ListN.{length, getD}
 use borrow.Author.Tests.{eq-eqb, ne-eqb, lt-ltb, le-ltb, lt-leb}
 use Rattle.rings.specs.Count.{occ}
@@ -34,7 +34,7 @@ use Rattle.drawing.proofs.Places.{next-place-low}
 use Rattle.encoding.specs.Encode.{noSpot, recordAt, lengthAt, firstNumber, itsRing, itsPlace, cornerAt, spotNumber, sheetOf}
 use Rattle.encoding.proofs.Sheets.{SheetRead}
 use Rattle.encoding.proofs.Numbering.{sum-up, prev-place-low, next-prev-place, prev-next-place, numbers-before, numbers-past, numbers-in, numbers-there, numbers-once, numbers-linked}
-use Rattle.encoding.proofs.Encodable.{SpotValid, Encodable, NumberAt, number-at, low-number, ring-at, place-at, spot-low}
+use Rattle.encoding.proofs.Encodable.{SpotValid, Encodable, number-at, low-number, ring-at, place-at, spot-low}
 
 -- the words hold the drawing, its points numbered ring by ring
 pub record HoldsDrawing (d : Drawing) (w : List ℕ) : Type 0 where

@@ -1,11 +1,9 @@
 -- A whole sheet is read back.
-use Prim.Native.Nat.{ℕ, zero, suc, _+_, _-_, _*_, _≤_, _<_}
+use Prim.Native.Nat.{ℕ, _+_, _*_, _≤_, _<_}
 use mathlib.Core.Path.{_≡_, refl, ap, _∙_, sym, subst}
-use mathlib.Core.Bool.{Bool, true, false, cond}
 use mathlib.Core.List.{List, [], _∷_, _++_, append-nil}
 use native.Mathlib.Omega.{arith}
-use lib.Dec.{eqb, ltb}
-use lib.ListN.{length, getD, drop, length-drop, length-append}
+use lib.ListN.{length, getD, length-drop, length-append}
 use borrow.Author.Tests.{ne-eqb}
 use Rattle.job.specs.Limits as limit
 use Rattle.job.specs.Job.{fresh, past}
@@ -13,18 +11,18 @@ use Rattle.job.specs.declared.Job.{Job}
 use Rattle.job.specs.declared.field.Field.{Field}
 use Rattle.job.specs.declared.field.Field.the-variants.{Settings, Point, Record, Segment, Join}
 use Rattle.store.specs.Field.{pt, rc, ct, X, Y, NEXT, PREV, REC, FLAGS, OWNER, FIRST, SETTINGS, POINTS, RECORDS, LENGTH}
-use Rattle.store.specs.Words.{Store, view, Write, write, onWords}
+use Rattle.store.specs.Words.{Store, view, write, onWords}
 use Rattle.store.specs.Stores.{onStore}
 use Rattle.store.specs.Named.{settingsOf, pointsOf, recordsOf}
 use Rattle.store.proofs.Storing.{view-writes, length-writes}
 use Rattle.reading.specs.declared.fill.Outcome.the-variants.{State}
-use Rattle.reading.specs.Fill.{ReadEnd, end, follow, run, fillOf}
+use Rattle.reading.specs.Fill.{end, run, fillOf}
 use Rattle.reading.specs.Needs.{Space}
 use Rattle.reading.specs.Read.{counted, withCounts, readOf}
 use Rattle.reading.proofs.Going.{over}
 use Rattle.acts.specs.Opened.{table}
 use Rattle.acts.proofs.Opening.{length-table}
-use Rattle.encoding.specs.Sheet.{bytesOf, allBytes, Sheet, pointField, recordField, segmentField, joinField, sheetFields, sheetBytes}
+use Rattle.encoding.specs.Sheet.{bytesOf, allBytes, Sheet, pointField, recordField, segmentField, joinField, sheetBytes}
 use Rattle.encoding.proofs.Fielding.{read-settings}
 use Rattle.encoding.proofs.Loading.{SheetFits, turn, onward, Got, ReadUpTo, points-read, records-read, segments-read, joins-read}
 

@@ -1,5 +1,5 @@
 -- One way to write a job.
-use Prim.Native.Nat.{ℕ, _+_, _*_, _≤_}
+use Prim.Native.Nat.{ℕ, _≤_}
 use mathlib.Core.Path.{_≡_, refl, ap, _∙_, sym, subst}
 use mathlib.Core.List.{List, [], _∷_, map}
 use mathlib.Core.Option.{Option, none, some}
@@ -24,7 +24,7 @@ use Rattle.deciding.specs.Decides.{LONGEST}
 use Rattle.deciding.proofs.Alike.{ReadWhole, fill-whole}
 use Rattle.drawing.specs.Drawing.{Drawn, Spot, Drawing, drawingOf, drawnFrom, drawingIn}
 use Rattle.drawing.proofs.Theorem.{drawing-finish}
-use Rattle.encoding.specs.Encode.{firstNumber, encode}
+use Rattle.encoding.specs.Encode.{encode}
 use Rattle.encoding.specs.OneWay.{rewritten, Agree, OneWay}
 use Rattle.encoding.proofs.Encodable.{Encodable}
 use Rattle.encoding.proofs.Again.{reads-back}
