@@ -39,4 +39,4 @@ pub record OneWay : Type 0 where
   -- as many bytes as the job has, so 41,988 at most; and bytes they are
   pub as-long : (a x : List ℕ) → rewritten a ≡ some x → length x ≡ length a
   pub never-longer : (a x : List ℕ) → rewritten a ≡ some x → length x ≤ LONGEST
-  pub bytes : (a x : List ℕ) → rewritten a ≡ some x → All (λ (b : ℕ). b < 256) x
+  pub bytes : (a x : List ℕ) → rewritten a ≡ some x → All (λ (r : ℕ). r < 256) x
