@@ -131,11 +131,11 @@ module _ (d : Drawing) (f : Encodable d) (n : ℕ) (long : LENGTH ≤ n) where
       let j = z .job in
       let w = z .words in
       let t = holds-drawing d j w (z .segs) (z .jons) (z .written) in
-      let a : Spots d f w t (z .segs) (j .segments) (d .segments) = λ i h. let b : i < length (d .segments) = omega (arith, z .written .segments) in (z .written .segment i b, f .segments i b) in
+      let a : Spots d f w t (z .segs) (j .segments) (d .segments) = λ i h. let b : i < length (d .segments) = omega (arith, z .written .segments) in (z .written .numbers .segments i b, f .segments i b) in
       let b : Spots d f w t (z .jons) (2 * j .joins) (d .joins) =
       evens (λ k. (getD (z .jons) k 0 ≡ spotNumber d (getD (d .joins) k noSpot)) × SpotValid d (getD (d .joins) k noSpot)) (j .joins)
-      (λ i h. (z .written .one i (omega (arith, z .written .joins)), f .joins (2 * i) (omega (arith, z .written .joins, f .pairs))))
-      (λ i h. (z .written .two i (omega (arith, z .written .joins)), f .joins (2 * i + 1) (omega (arith, z .written .joins, f .pairs)))) in
+      (λ i h. (z .written .numbers .joins .one i (omega (arith, z .written .joins)), f .joins (2 * i) (omega (arith, z .written .joins, f .pairs))))
+      (λ i h. (z .written .numbers .joins .two i (omega (arith, z .written .joins)), f .joins (2 * i + 1) (omega (arith, z .written .joins, f .pairs)))) in
       let p : rowsOf w (z .segs) (j .segments) (z .jons) (j .joins) ≡ Passed = rows-pass d f w t (z .segs) (j .segments) (z .jons) (j .joins) a b in
       let e : judged (readOf (sheetBytes (sheetOf d)) (replicate n 0) (replicate limit.SEGMENTS 0) (replicate JOIN-POINTS 0)) ≡ end (State j) w (z .segs) (z .jons) =
       ap judged (z .is) ∙ ap (λ (v : Verdict). end (answer v j) w (z .segs) (z .jons)) p in

@@ -17,7 +17,7 @@ use Rattle.drawing.specs.Places.{nextPlace, prevPlace}
 use Rattle.drawing.specs.Drawing.{Spot, Drawing}
 use Rattle.drawing.proofs.Places.{next-place-low}
 use Rattle.encoding.specs.Encode.{noSpot, recordAt, lengthAt, firstNumber, itsRing, itsPlace, cornerAt, spotNumber, sheetOf}
-use Rattle.encoding.proofs.Loading.{SheetFits}
+use Rattle.encoding.proofs.Numbers.{SheetFits}
 use Rattle.encoding.proofs.Numbering.{sum-up, ring-found, ring-is, prev-place-low}
 
 -- a spot of the drawing: on a closed ring

@@ -1,4 +1,5 @@
 -- The bytes of a drawing are read back as that drawing.
+pub mod Numbers
 pub mod Fielding
 pub mod Loading
 pub mod Sheets

@@ -15,34 +15,17 @@ use Rattle.job.specs.declared.Job.{Job}
 use Rattle.job.specs.declared.field.Field.{Field}
 use Rattle.job.specs.declared.field.Reading.the-variants.{Read}
 use Rattle.job.specs.Field.{fieldOf}
-use Rattle.store.specs.Field.{pt, rc, X, Y, NEXT, PREV, REC, FLAGS, OWNER, FIRST, POINTS, RECORDS, LENGTH}
+use Rattle.store.specs.Field.{pt, rc, X, Y, NEXT, PREV, REC, FLAGS, OWNER, FIRST, POINTS, RECORDS}
 use Rattle.store.specs.Words.{Store, view, write, onWords}
 use Rattle.store.specs.Stores.{onStore}
 use Rattle.store.proofs.Storing.{view-writes, length-writes}
+use Rattle.reading.specs.Needs.{Space}
 use Rattle.reading.specs.Fill.{putPoint, putRecord, putJoin, placed, turnOf, follow, run}
 use Rattle.acts.specs.Opened.{table}
 use Rattle.opening.proofs.Starting.{more}
 use Rattle.encoding.specs.Sheet.{bytesOf, allBytes, Sheet, pointField, recordField, segmentField, joinField}
+use Rattle.encoding.proofs.Numbers.{SheetFits, NumbersAs, points-kept, records-kept}
 use Rattle.encoding.proofs.Fielding.{read-point, read-record, read-segment, read-join}
-
--- every count is within its limit, and every number fits its bytes
-pub record SheetFits (t : Sheet) : Type 0 where
-  pub bits : t .bits ≤ 3
-  pub points : t .points ≤ limit.POINTS
-  pub records : t .records ≤ limit.RECORDS
-  pub segments : t .segments ≤ limit.SEGMENTS
-  pub joins : t .joins ≤ limit.JOINS
-  pub x : (k : ℕ) → k < t .points → t .x k ≤ 2 * limit.COORDINATE
-  pub y : (k : ℕ) → k < t .points → t .y k ≤ 2 * limit.COORDINATE
-  pub next : (k : ℕ) → k < t .points → t .next k < 65536
-  pub prev : (k : ℕ) → k < t .points → t .prev k < 65536
-  pub rec : (k : ℕ) → k < t .points → t .rec k < 65536
-  pub flags : (i : ℕ) → i < t .records → t .flags i ≤ 3
-  pub owner : (i : ℕ) → i < t .records → t .owner i < 65536
-  pub first : (i : ℕ) → i < t .records → t .first i < 65536
-  pub segment : (i : ℕ) → i < t .segments → t .segment i < 65536
-  pub one : (i : ℕ) → i < t .joins → t .one i < 65536
-  pub two : (i : ℕ) → i < t .joins → t .two i < 65536
 
 -- ---- one turn
 
@@ -74,20 +57,8 @@ module _ (t : Sheet) (bytes : List ℕ) where
     pub bits : j .bits ≡ t .bits
     pub some : 0 < j .last
     pub last : j .last ≤ tag
-    pub long : LENGTH ≤ length w
-    pub segments-long : limit.SEGMENTS ≤ length ss
-    pub joins-long : 2 * limit.JOINS ≤ length js
-    pub x : (k : ℕ) → k < j .points → view w (pt X) k ≡ t .x k
-    pub y : (k : ℕ) → k < j .points → view w (pt Y) k ≡ t .y k
-    pub next : (k : ℕ) → k < j .points → view w (pt NEXT) k ≡ t .next k
-    pub prev : (k : ℕ) → k < j .points → view w (pt PREV) k ≡ t .prev k
-    pub rec : (k : ℕ) → k < j .points → view w (pt REC) k ≡ t .rec k
-    pub flags : (i : ℕ) → i < j .records → view w (rc FLAGS) i ≡ t .flags i
-    pub owner : (i : ℕ) → i < j .records → view w (rc OWNER) i ≡ t .owner i
-    pub first : (i : ℕ) → i < j .records → view w (rc FIRST) i ≡ t .first i
-    pub segment : (i : ℕ) → i < j .segments → getD ss i 0 ≡ t .segment i
-    pub one : (i : ℕ) → i < j .joins → getD js (2 * i) 0 ≡ t .one i
-    pub two : (i : ℕ) → i < j .joins → getD js (2 * i + 1) 0 ≡ t .two i
+    pub space : Space w ss js
+    pub numbers : NumbersAs t (j .points) (j .records) (j .segments) (j .joins) w ss js
 
   -- where reading comes to
   pub record ReadUpTo (fuel : ℕ) (j₀ : Job) (w₀ ss₀ js₀ rest : List ℕ) (tag n p r s q : ℕ) : Type 0 where
@@ -133,28 +104,28 @@ module _ (t : Sheet) (bytes : List ℕ) where
         → Got (past (pointField t (j .points)) 17 j) (putPoint (j .points) (t .x (j .points)) (t .y (j .points)) (t .next (j .points)) (t .prev (j .points)) (t .rec (j .points)) w) ss js rest 2
     point-got j w ss js rest h g =
         let i = j .points in
+        let a = g .numbers .points in
         let l : i < limit.POINTS = omega (arith, f .points) in
         let xs = write (pt X) i (t .x i) ∷ write (pt Y) i (t .y i) ∷ write (pt NEXT) i (t .next i) ∷ write (pt PREV) i (t .prev i) ∷ write (pt REC) i (t .rec i) ∷ [] in
-        let v : view (onWords w xs) ≡ onStore (view w) xs = view-writes w xs (g .long) (l, (l, (l, (l, (l, tt))))) in
+        let v : view (onWords w xs) ≡ onStore (view w) xs = view-writes w xs (g .space .words) (l, (l, (l, (l, (l, tt))))) in
         record {
           here = onward bytes j w ss js (pointField t i) 17 rest (g .here) refl (omega arith);
           bits = g .bits;
           some = omega arith;
           last = omega arith;
-          long = omega (arith, g .long, length-writes w xs);
-          segments-long = g .segments-long;
-          joins-long = g .joins-long;
-          x = λ k b. ap (λ (s : Store). s (pt X) k) v ∙ column-more i (t .x i) (view w (pt X)) (t .x) (g .x) refl k b;
-          y = λ k b. ap (λ (s : Store). s (pt Y) k) v ∙ column-more i (t .y i) (view w (pt Y)) (t .y) (g .y) refl k b;
-          next = λ k b. ap (λ (s : Store). s (pt NEXT) k) v ∙ column-more i (t .next i) (view w (pt NEXT)) (t .next) (g .next) refl k b;
-          prev = λ k b. ap (λ (s : Store). s (pt PREV) k) v ∙ column-more i (t .prev i) (view w (pt PREV)) (t .prev) (g .prev) refl k b;
-          rec = λ k b. ap (λ (s : Store). s (pt REC) k) v ∙ column-more i (t .rec i) (view w (pt REC)) (t .rec) (g .rec) refl k b;
-          flags = λ k b. ap (λ (s : Store). s (rc FLAGS) k) v ∙ g .flags k b;
-          owner = λ k b. ap (λ (s : Store). s (rc OWNER) k) v ∙ g .owner k b;
-          first = λ k b. ap (λ (s : Store). s (rc FIRST) k) v ∙ g .first k b;
-          segment = g .segment;
-          one = g .one;
-          two = g .two;
+          space = record { words = omega (arith, g .space .words, length-writes w xs); segments = g .space .segments; joins = g .space .joins };
+          numbers = record {
+            points = record {
+              x = λ k b. ap (λ (s : Store). s (pt X) k) v ∙ column-more i (t .x i) (view w (pt X)) (t .x) (a .x) refl k b;
+              y = λ k b. ap (λ (s : Store). s (pt Y) k) v ∙ column-more i (t .y i) (view w (pt Y)) (t .y) (a .y) refl k b;
+              next = λ k b. ap (λ (s : Store). s (pt NEXT) k) v ∙ column-more i (t .next i) (view w (pt NEXT)) (t .next) (a .next) refl k b;
+              prev = λ k b. ap (λ (s : Store). s (pt PREV) k) v ∙ column-more i (t .prev i) (view w (pt PREV)) (t .prev) (a .prev) refl k b;
+              rec = λ k b. ap (λ (s : Store). s (pt REC) k) v ∙ column-more i (t .rec i) (view w (pt REC)) (t .rec) (a .rec) refl k b;
+            };
+            records = records-kept t (j .records) (view w) (view (onWords w xs)) (λ c k. ap (λ (s : Store). s (rc c) k) v) (g .numbers .records);
+            segments = g .numbers .segments;
+            joins = g .numbers .joins;
+          };
         }
 
     pub points-read : (m fuel : ℕ) (j : Job) (w ss js : List ℕ) (fs : List Field) → j .points + m ≡ t .points → m ≤ fuel → Got j w ss js (allBytes (table (pointField t) (j .points) m ++ fs)) 2
@@ -178,28 +149,26 @@ module _ (t : Sheet) (bytes : List ℕ) where
         → Got (past (recordField t (j .records)) 8 j) (putRecord (j .records) (t .flags (j .records)) (t .owner (j .records)) (t .first (j .records)) w) ss js rest 3
     record-got j w ss js rest h g =
         let i = j .records in
+        let a = g .numbers .records in
         let l : i < limit.RECORDS = omega (arith, f .records) in
         let xs = write (rc FLAGS) i (t .flags i) ∷ write (rc OWNER) i (t .owner i) ∷ write (rc FIRST) i (t .first i) ∷ [] in
-        let v : view (onWords w xs) ≡ onStore (view w) xs = view-writes w xs (g .long) (l, (l, (l, tt))) in
+        let v : view (onWords w xs) ≡ onStore (view w) xs = view-writes w xs (g .space .words) (l, (l, (l, tt))) in
         record {
           here = onward bytes j w ss js (recordField t i) 8 rest (g .here) refl (omega arith);
           bits = g .bits;
           some = omega arith;
           last = omega arith;
-          long = omega (arith, g .long, length-writes w xs);
-          segments-long = g .segments-long;
-          joins-long = g .joins-long;
-          x = λ k b. ap (λ (s : Store). s (pt X) k) v ∙ g .x k b;
-          y = λ k b. ap (λ (s : Store). s (pt Y) k) v ∙ g .y k b;
-          next = λ k b. ap (λ (s : Store). s (pt NEXT) k) v ∙ g .next k b;
-          prev = λ k b. ap (λ (s : Store). s (pt PREV) k) v ∙ g .prev k b;
-          rec = λ k b. ap (λ (s : Store). s (pt REC) k) v ∙ g .rec k b;
-          flags = λ k b. ap (λ (s : Store). s (rc FLAGS) k) v ∙ column-more i (t .flags i) (view w (rc FLAGS)) (t .flags) (g .flags) refl k b;
-          owner = λ k b. ap (λ (s : Store). s (rc OWNER) k) v ∙ column-more i (t .owner i) (view w (rc OWNER)) (t .owner) (g .owner) refl k b;
-          first = λ k b. ap (λ (s : Store). s (rc FIRST) k) v ∙ column-more i (t .first i) (view w (rc FIRST)) (t .first) (g .first) refl k b;
-          segment = g .segment;
-          one = g .one;
-          two = g .two;
+          space = record { words = omega (arith, g .space .words, length-writes w xs); segments = g .space .segments; joins = g .space .joins };
+          numbers = record {
+            points = points-kept t (j .points) (view w) (view (onWords w xs)) (λ c k. ap (λ (s : Store). s (pt c) k) v) (g .numbers .points);
+            records = record {
+              flags = λ k b. ap (λ (s : Store). s (rc FLAGS) k) v ∙ column-more i (t .flags i) (view w (rc FLAGS)) (t .flags) (a .flags) refl k b;
+              owner = λ k b. ap (λ (s : Store). s (rc OWNER) k) v ∙ column-more i (t .owner i) (view w (rc OWNER)) (t .owner) (a .owner) refl k b;
+              first = λ k b. ap (λ (s : Store). s (rc FIRST) k) v ∙ column-more i (t .first i) (view w (rc FIRST)) (t .first) (a .first) refl k b;
+            };
+            segments = g .numbers .segments;
+            joins = g .numbers .joins;
+          };
         }
 
     pub records-read : (m fuel : ℕ) (j : Job) (w ss js : List ℕ) (fs : List Field) → j .records + m ≡ t .records → m ≤ fuel → Got j w ss js (allBytes (table (recordField t) (j .records) m ++ fs)) 3
@@ -228,20 +197,13 @@ module _ (t : Sheet) (bytes : List ℕ) where
           bits = g .bits;
           some = omega arith;
           last = omega arith;
-          long = g .long;
-          segments-long = omega (arith, g .segments-long, length-set ss i (t .segment i));
-          joins-long = g .joins-long;
-          x = g .x;
-          y = g .y;
-          next = g .next;
-          prev = g .prev;
-          rec = g .rec;
-          flags = g .flags;
-          owner = g .owner;
-          first = g .first;
-          segment = listed-more i (t .segment i) ss (t .segment) (omega (arith, g .segments-long, f .segments)) (g .segment) refl;
-          one = g .one;
-          two = g .two;
+          space = record { words = g .space .words; segments = omega (arith, g .space .segments, length-set ss i (t .segment i)); joins = g .space .joins };
+          numbers = record {
+            points = g .numbers .points;
+            records = g .numbers .records;
+            segments = listed-more i (t .segment i) ss (t .segment) (omega (arith, g .space .segments, f .segments)) (g .numbers .segments) refl;
+            joins = g .numbers .joins;
+          };
         }
 
     pub segments-read : (m fuel : ℕ) (j : Job) (w ss js : List ℕ) (fs : List Field) → j .segments + m ≡ t .segments → m ≤ fuel → Got j w ss js (allBytes (table (segmentField t) (j .segments) m ++ fs)) 4
@@ -270,37 +232,30 @@ module _ (t : Sheet) (bytes : List ℕ) where
           bits = g .bits;
           some = omega arith;
           last = omega arith;
-          long = g .long;
-          segments-long = g .segments-long;
-          joins-long = omega (arith, g .joins-long, l, length-set (set js (2 * i) (t .one i)) (2 * i + 1) (t .two i));
-          x = g .x;
-          y = g .y;
-          next = g .next;
-          prev = g .prev;
-          rec = g .rec;
-          flags = g .flags;
-          owner = g .owner;
-          first = g .first;
-          segment = g .segment;
-          one = λ k b. firsts k b (ℕ-discrete k i);
-          two = λ k b. seconds k b (ℕ-discrete k i);
+          space = record { words = g .space .words; segments = g .space .segments; joins = omega (arith, g .space .joins, l, length-set (set js (2 * i) (t .one i)) (2 * i + 1) (t .two i)) };
+          numbers = record {
+            points = g .numbers .points;
+            records = g .numbers .records;
+            segments = g .numbers .segments;
+            joins = record { one = λ k b. firsts k b (ℕ-discrete k i); two = λ k b. seconds k b (ℕ-discrete k i) };
+          };
         }
       where
         fits : 2 * j .joins + 1 < length js
-        fits = omega (arith, g .joins-long, f .joins)
+        fits = omega (arith, g .space .joins, f .joins)
 
         firsts : (k : ℕ) → k < j .joins + 1 → Dec (k ≡ j .joins) → getD (set (set js (2 * j .joins) (t .one (j .joins))) (2 * j .joins + 1) (t .two (j .joins))) (2 * k) 0 ≡ t .one k
         firsts k b d = getD-set-other (set js (2 * j .joins) (t .one (j .joins))) (2 * j .joins + 1) (2 * k) (t .two (j .joins)) 0 (λ e. omega arith) ∙ go d
           where
             go : Dec (k ≡ j .joins) → getD (set js (2 * j .joins) (t .one (j .joins))) (2 * k) 0 ≡ t .one k
             go (yes e) = rw e (getD-set-same js (2 * j .joins) (t .one (j .joins)) 0 (omega (arith, fits)))
-            go (no e) = getD-set-other js (2 * j .joins) (2 * k) (t .one (j .joins)) 0 (λ z. e (omega arith)) ∙ g .one k (omega arith)
+            go (no e) = getD-set-other js (2 * j .joins) (2 * k) (t .one (j .joins)) 0 (λ z. e (omega arith)) ∙ g .numbers .joins .one k (omega arith)
 
         seconds : (k : ℕ) → k < j .joins + 1 → Dec (k ≡ j .joins) → getD (set (set js (2 * j .joins) (t .one (j .joins))) (2 * j .joins + 1) (t .two (j .joins))) (2 * k + 1) 0 ≡ t .two k
         seconds k b (yes e) = rw e (getD-set-same (set js (2 * j .joins) (t .one (j .joins))) (2 * j .joins + 1) (t .two (j .joins)) 0 (omega (arith, fits, length-set js (2 * j .joins) (t .one (j .joins)))))
         seconds k b (no e) =
             getD-set-other (set js (2 * j .joins) (t .one (j .joins))) (2 * j .joins + 1) (2 * k + 1) (t .two (j .joins)) 0 (λ z. e (omega arith))
-            ∙ getD-set-other js (2 * j .joins) (2 * k + 1) (t .one (j .joins)) 0 (λ z. omega arith) ∙ g .two k (omega arith)
+            ∙ getD-set-other js (2 * j .joins) (2 * k + 1) (t .one (j .joins)) 0 (λ z. omega arith) ∙ g .numbers .joins .two k (omega arith)
 
     pub joins-read : (m fuel : ℕ) (j : Job) (w ss js : List ℕ) (fs : List Field) → j .joins + m ≡ t .joins → m ≤ fuel → Got j w ss js (allBytes (table (joinField t) (j .joins) m ++ fs)) 5
         → ReadUpTo fuel j w ss js (allBytes fs) 5 m (j .points) (j .records) (j .segments) (t .joins)

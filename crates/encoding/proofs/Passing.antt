@@ -58,15 +58,15 @@ holds-drawing d j w ss js t =
       settings = t .settings;
       points = t .points;
       records = t .records;
-      x = λ i p h l. t .x (firstNumber d i + p) (low-number d i p h l) ∙ ap (λ (q : Spot). wordOf (cornerAt d (q .ring) (q .place) .x)) (spot i p h l);
-      y = λ i p h l. t .y (firstNumber d i + p) (low-number d i p h l) ∙ ap (λ (q : Spot). wordOf (cornerAt d (q .ring) (q .place) .y)) (spot i p h l);
-      next = λ i p h l. t .next (firstNumber d i + p) (low-number d i p h l) ∙ ap (λ (q : Spot). firstNumber d (q .ring) + nextPlace (q .place) (lengthAt d (q .ring))) (spot i p h l);
-      prev = λ i p h l. t .prev (firstNumber d i + p) (low-number d i p h l) ∙ ap (λ (q : Spot). firstNumber d (q .ring) + prevPlace (q .place) (lengthAt d (q .ring))) (spot i p h l);
-      rec = λ i p h l. t .rec (firstNumber d i + p) (low-number d i p h l) ∙ ring-at d i p h l;
-      flags = t .flags;
-      owner = t .owner;
-      first-none = λ i h e. t .first i h ∙ rw (eq-eqb (lengthAt d i) 0 e);
-      first-some = λ i h e. t .first i h ∙ rw (ne-eqb (lengthAt d i) 0 e);
+      x = λ i p h l. t .numbers .points .x (firstNumber d i + p) (low-number d i p h l) ∙ ap (λ (q : Spot). wordOf (cornerAt d (q .ring) (q .place) .x)) (spot i p h l);
+      y = λ i p h l. t .numbers .points .y (firstNumber d i + p) (low-number d i p h l) ∙ ap (λ (q : Spot). wordOf (cornerAt d (q .ring) (q .place) .y)) (spot i p h l);
+      next = λ i p h l. t .numbers .points .next (firstNumber d i + p) (low-number d i p h l) ∙ ap (λ (q : Spot). firstNumber d (q .ring) + nextPlace (q .place) (lengthAt d (q .ring))) (spot i p h l);
+      prev = λ i p h l. t .numbers .points .prev (firstNumber d i + p) (low-number d i p h l) ∙ ap (λ (q : Spot). firstNumber d (q .ring) + prevPlace (q .place) (lengthAt d (q .ring))) (spot i p h l);
+      rec = λ i p h l. t .numbers .points .rec (firstNumber d i + p) (low-number d i p h l) ∙ ring-at d i p h l;
+      flags = t .numbers .records .flags;
+      owner = t .numbers .records .owner;
+      first-none = λ i h e. t .numbers .records .first i h ∙ rw (eq-eqb (lengthAt d i) 0 e);
+      first-some = λ i h e. t .numbers .records .first i h ∙ rw (ne-eqb (lengthAt d i) 0 e);
     }
   where
     both : {a b c e : ℕ} → a ≡ b → c ≡ e → _≡_ {A = Spot} (record { ring = a; place = c }) (record { ring = b; place = e })

@@ -1,20 +1,19 @@
 -- A whole sheet is read back.
-use Prim.Native.Nat.{ℕ, _+_, _*_, _≤_, _<_}
+use Prim.Native.Nat.{ℕ, _+_, _≤_}
 use mathlib.Core.Path.{_≡_, refl, ap, _∙_, sym, subst}
 use mathlib.Core.List.{List, [], _∷_, _++_, append-nil}
 use native.Mathlib.Omega.{arith}
-use lib.ListN.{length, getD, length-drop, length-append}
+use lib.ListN.{length, length-drop, length-append}
 use borrow.Author.Tests.{ne-eqb}
-use Rattle.job.specs.Limits as limit
 use Rattle.job.specs.Job.{fresh, past}
 use Rattle.job.specs.declared.Job.{Job}
 use Rattle.job.specs.declared.field.Field.{Field}
 use Rattle.job.specs.declared.field.Field.the-variants.{Settings, Point, Record, Segment, Join}
-use Rattle.store.specs.Field.{pt, rc, ct, X, Y, NEXT, PREV, REC, FLAGS, OWNER, FIRST, SETTINGS, POINTS, RECORDS, LENGTH}
+use Rattle.store.specs.Field.{pt, rc, ct, SETTINGS, POINTS, RECORDS}
 use Rattle.store.specs.Words.{Store, view, write, onWords}
 use Rattle.store.specs.Stores.{onStore}
 use Rattle.store.specs.Named.{settingsOf, pointsOf, recordsOf}
-use Rattle.store.proofs.Storing.{view-writes, length-writes}
+use Rattle.store.proofs.Storing.{view-writes}
 use Rattle.reading.specs.declared.fill.Outcome.the-variants.{State}
 use Rattle.reading.specs.Fill.{end, run, fillOf}
 use Rattle.reading.specs.Needs.{Space}
@@ -24,7 +23,8 @@ use Rattle.acts.specs.Opened.{table}
 use Rattle.acts.proofs.Opening.{length-table}
 use Rattle.encoding.specs.Sheet.{bytesOf, allBytes, Sheet, pointField, recordField, segmentField, joinField, sheetBytes}
 use Rattle.encoding.proofs.Fielding.{read-settings}
-use Rattle.encoding.proofs.Loading.{SheetFits, turn, onward, Got, ReadUpTo, points-read, records-read, segments-read, joins-read}
+use Rattle.encoding.proofs.Numbers.{SheetFits, NumbersAs, points-kept, records-kept, counts-are}
+use Rattle.encoding.proofs.Loading.{turn, onward, Got, ReadUpTo, points-read, records-read, segments-read, joins-read}
 
 -- every field has bytes
 bytes-some : (f : Field) → 1 ≤ length (bytesOf f)
@@ -40,27 +40,7 @@ fields-few (f ∷ fs) = omega (arith, fields-few fs, bytes-some f, length-append
 
 -- a later tag may follow too
 raise : (t : Sheet) (bytes : List ℕ) (j : Job) (w ss js rest : List ℕ) (a b : ℕ) → a ≤ b → Got t bytes j w ss js rest a → Got t bytes j w ss js rest b
-raise t bytes j w ss js rest a b h g =
-    record {
-      here = g .here;
-      bits = g .bits;
-      some = g .some;
-      last = omega (arith, g .last);
-      long = g .long;
-      segments-long = g .segments-long;
-      joins-long = g .joins-long;
-      x = g .x;
-      y = g .y;
-      next = g .next;
-      prev = g .prev;
-      rec = g .rec;
-      flags = g .flags;
-      owner = g .owner;
-      first = g .first;
-      segment = g .segment;
-      one = g .one;
-      two = g .two;
-    }
+raise t bytes j w ss js rest a b h g = record { here = g .here; bits = g .bits; some = g .some; last = omega (arith, g .last); space = g .space; numbers = g .numbers }
 
 -- one after the other
 compose : (t : Sheet) (bytes : List ℕ) (fuel : ℕ) (j : Job) (w ss js rest more : List ℕ) (a b n p r s q : ℕ) (z : ReadUpTo t bytes fuel j w ss js rest a n p r s q) (m p′ r′ s′ q′ : ℕ)
@@ -105,20 +85,7 @@ pub record SheetRead (t : Sheet) (j : Job) (w ss js : List ℕ) : Type 0 where
   pub records : recordsOf w ≡ t .records
   pub segments : j .segments ≡ t .segments
   pub joins : j .joins ≡ t .joins
-  pub long : LENGTH ≤ length w
-  pub segments-long : limit.SEGMENTS ≤ length ss
-  pub joins-long : 2 * limit.JOINS ≤ length js
-  pub x : (k : ℕ) → k < t .points → view w (pt X) k ≡ t .x k
-  pub y : (k : ℕ) → k < t .points → view w (pt Y) k ≡ t .y k
-  pub next : (k : ℕ) → k < t .points → view w (pt NEXT) k ≡ t .next k
-  pub prev : (k : ℕ) → k < t .points → view w (pt PREV) k ≡ t .prev k
-  pub rec : (k : ℕ) → k < t .points → view w (pt REC) k ≡ t .rec k
-  pub flags : (i : ℕ) → i < t .records → view w (rc FLAGS) i ≡ t .flags i
-  pub owner : (i : ℕ) → i < t .records → view w (rc OWNER) i ≡ t .owner i
-  pub first : (i : ℕ) → i < t .records → view w (rc FIRST) i ≡ t .first i
-  pub segment : (i : ℕ) → i < t .segments → getD ss i 0 ≡ t .segment i
-  pub one : (i : ℕ) → i < t .joins → getD js (2 * i) 0 ≡ t .one i
-  pub two : (i : ℕ) → i < t .joins → getD js (2 * i + 1) 0 ≡ t .two i
+  pub numbers : NumbersAs t (t .points) (t .records) (t .segments) (t .joins) w ss js
 
 pub record ReadBack (t : Sheet) (w ss js : List ℕ) : Type 0 where
   pub job : Job
@@ -170,20 +137,13 @@ module _ (t : Sheet) (f : SheetFits t) (w ss js : List ℕ) (sp : Space w ss js)
         bits = refl;
         some = omega arith;
         last = omega arith;
-        long = sp .words;
-        segments-long = sp .segments;
-        joins-long = sp .joins;
-        x = λ k h. absurd (omega arith);
-        y = λ k h. absurd (omega arith);
-        next = λ k h. absurd (omega arith);
-        prev = λ k h. absurd (omega arith);
-        rec = λ k h. absurd (omega arith);
-        flags = λ k h. absurd (omega arith);
-        owner = λ k h. absurd (omega arith);
-        first = λ k h. absurd (omega arith);
-        segment = λ k h. absurd (omega arith);
-        one = λ k h. absurd (omega arith);
-        two = λ k h. absurd (omega arith);
+        space = sp;
+        numbers = record {
+          points = record { x = λ k h. absurd (omega arith); y = λ k h. absurd (omega arith); next = λ k h. absurd (omega arith); prev = λ k h. absurd (omega arith); rec = λ k h. absurd (omega arith) };
+          records = record { flags = λ k h. absurd (omega arith); owner = λ k h. absurd (omega arith); first = λ k h. absurd (omega arith) };
+          segments = λ k h. absurd (omega arith);
+          joins = record { one = λ k h. absurd (omega arith); two = λ k h. absurd (omega arith) };
+        };
       }
 
   first-turn : fillOf bytes w ss js ≡ run (length bytes) bytes j₀ w ss js
@@ -222,7 +182,7 @@ module _ (t : Sheet) (f : SheetFits t) (w ss js : List ℕ) (sp : Space w ss js)
   unfolding readOf
   ended j v ts ks e g pe re se je =
       let ws = write (ct SETTINGS) 0 (j .bits) ∷ write (ct POINTS) 0 (j .points) ∷ write (ct RECORDS) 0 (j .records) ∷ [] in
-      let c : view (onWords v ws) ≡ onStore (view v) ws = view-writes v ws (g .long) (omega arith, (omega arith, (omega arith, tt))) in
+      let c : view (onWords v ws) ≡ onStore (view v) ws = view-writes v ws (g .space .words) (omega arith, (omega arith, (omega arith, tt))) in
       record {
         job = j;
         words = counted j v;
@@ -235,20 +195,12 @@ module _ (t : Sheet) (f : SheetFits t) (w ss js : List ℕ) (sp : Space w ss js)
           records = ap (λ (s : Store). s (ct RECORDS) 0) c ∙ re;
           segments = se;
           joins = je;
-          long = omega (arith, g .long, length-writes v ws);
-          segments-long = g .segments-long;
-          joins-long = g .joins-long;
-          x = λ k h. ap (λ (s : Store). s (pt X) k) c ∙ g .x k (omega (arith, pe));
-          y = λ k h. ap (λ (s : Store). s (pt Y) k) c ∙ g .y k (omega (arith, pe));
-          next = λ k h. ap (λ (s : Store). s (pt NEXT) k) c ∙ g .next k (omega (arith, pe));
-          prev = λ k h. ap (λ (s : Store). s (pt PREV) k) c ∙ g .prev k (omega (arith, pe));
-          rec = λ k h. ap (λ (s : Store). s (pt REC) k) c ∙ g .rec k (omega (arith, pe));
-          flags = λ k h. ap (λ (s : Store). s (rc FLAGS) k) c ∙ g .flags k (omega (arith, re));
-          owner = λ k h. ap (λ (s : Store). s (rc OWNER) k) c ∙ g .owner k (omega (arith, re));
-          first = λ k h. ap (λ (s : Store). s (rc FIRST) k) c ∙ g .first k (omega (arith, re));
-          segment = λ k h. g .segment k (omega (arith, se));
-          one = λ k h. g .one k (omega (arith, je));
-          two = λ k h. g .two k (omega (arith, je));
+          numbers = counts-are t (counted j v) ts ks (j .points) (t .points) (j .records) (t .records) (j .segments) (t .segments) (j .joins) (t .joins) pe re se je (record {
+            points = points-kept t (j .points) (view v) (view (onWords v ws)) (λ f k. ap (λ (s : Store). s (pt f) k) c) (g .numbers .points);
+            records = records-kept t (j .records) (view v) (view (onWords v ws)) (λ f k. ap (λ (s : Store). s (rc f) k) c) (g .numbers .records);
+            segments = g .numbers .segments;
+            joins = g .numbers .joins;
+          });
         };
       }
 
