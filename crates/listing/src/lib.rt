@@ -29,7 +29,7 @@ fn text_agrees()
 {}
 
 // One byte, if there is room; answers where the next one goes.
-fn put(out: &mut [u8], at: usize, b: u8) -> usize
+pub fn put(out: &mut [u8], at: usize, b: u8) -> usize
     ensures { λ r. ⌜ poured r (now (out .exit)) ≡ pour (b ∷ []) at (now (out .entry)) ⌝ }
 {
     let n = out.len();
