@@ -26,6 +26,7 @@ fn constants() {
         ("WORK_WORDS", WORK_WORDS as u64),
         ("TRAY_BYTES", TRAY_BYTES as u64),
         ("JOB_BYTES", JOB_BYTES as u64),
+        ("REWRITTEN_BYTES", REWRITTEN_BYTES as u64),
         ("TEXT_BYTES", TEXT_BYTES as u64),
         ("RATE", u64::from(RATE)),
     ];
