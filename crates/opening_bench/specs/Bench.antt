@@ -1,5 +1,5 @@
 -- Jobs with joins and level segments as rows of one table: a job, and what opening answers. The answers are the real Rust's, by the oracle;
--- program `opened` runs the same jobs.
+-- program `opened_cases` runs the same jobs.
 use Prim.Native.Nat.{ℕ, suc, _+_, _-_, _%_, _/_}
 use mathlib.Core.Path.{_≡_}
 use mathlib.Core.List.{List, [], _∷_, _++_, map}

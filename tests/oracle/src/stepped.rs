@@ -1,4 +1,4 @@
-// Cases of the program crate `stepped`: stored jobs and jobs written by hand, stepped in rising order, in reverse, in turn, or by a list. README.md has the formats.
+// Cases of the program crate `stepped_cases`: stored jobs and jobs written by hand, stepped in rising order, in reverse, in turn, or by a list. README.md has the formats.
 use crate::answer::Answer;
 use crate::batch::{read_part, write_part};
 use crate::gen;
