@@ -29,7 +29,7 @@ fn text_agrees()
 {}
 
 // One byte, if there is room; answers where the next one goes.
-fn put(out: &mut [u8], at: usize, b: u8) -> usize
+pub fn put(out: &mut [u8], at: usize, b: u8) -> usize
     ensures { λ r. ⌜ poured r (now (out .exit)) ≡ pour (b ∷ []) at (now (out .entry)) ⌝ }
 {
     let n = out.len();
@@ -44,7 +44,7 @@ fn put(out: &mut [u8], at: usize, b: u8) -> usize
 }
 
 // A word.
-fn put_text(out: &mut [u8], at: usize, s: &[u8]) -> usize
+pub fn put_text(out: &mut [u8], at: usize, s: &[u8]) -> usize
     ensures { λ r. ⌜ poured r (now (out .exit)) ≡ pour (now (s .entry)) at (now (out .entry)) ⌝ }
 {
     let n = s.len();
@@ -58,7 +58,7 @@ fn put_text(out: &mut [u8], at: usize, s: &[u8]) -> usize
 }
 
 // A decimal number.
-fn put_decimal(out: &mut [u8], at: usize, n: u64) -> usize
+pub fn put_decimal(out: &mut [u8], at: usize, n: u64) -> usize
     ensures { λ r. ⌜ poured r (now (out .exit)) ≡ pour (decimal n) at (now (out .entry)) ⌝ }
 {
     if n < 10 {

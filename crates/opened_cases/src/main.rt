@@ -1,6 +1,5 @@
 // Opens the stored jobs on standard input, each after its length (four bytes, low byte first), and prints what the oracle's command `opened` prints: both counts
 // and each record's ring, or the refusal's number. The jobs are cases written by hand and the generator's; `tests/opened_cases ORACLE crates/opened_cases` makes both files.
-use job::Job;
 use job::refusal::Refusal;
 use libc::STDIN_FILENO;
 use libc::STDOUT_FILENO;
@@ -14,24 +13,14 @@ use test_text::first;
 use test_text::from;
 use test_text::further;
 use test_text::number_at;
+use test_text::ring::TEXT;
+use test_text::ring::put_ring;
 ghost use Prim.Native.Nat.{_≤_};
 ghost use lib.ListN.{length};
 ghost use Rattle.store.specs.Field.{LENGTH};
 
-const RAISE: usize = Job::COORDINATE as usize;
-
 fn print(n: usize) {
     io::print_decimal(STDOUT_FILENO, n as u64);
-}
-
-// A coordinate, by its word.
-fn print_coordinate(v: usize) {
-    if v < RAISE {
-        io::write_all(STDOUT_FILENO, b"-");
-        print(RAISE - v);
-        return;
-    }
-    print(v - RAISE);
 }
 
 fn print_owner(o: usize) {
@@ -42,61 +31,13 @@ fn print_owner(o: usize) {
     print(o);
 }
 
-// Point p by its number and value.
-fn print_point(w: &[u32], p: usize)
-    requires { ⌜ LENGTH ≤ length (now w) ⌝ }
-{
-    io::write_all(STDOUT_FILENO, b" ");
-    print(p);
-    io::write_all(STDOUT_FILENO, b":");
-    let x = read(w, Col::X, p);
-    print_coordinate(x);
-    io::write_all(STDOUT_FILENO, b",");
-    let y = read(w, Col::Y, p);
-    print_coordinate(y);
-}
-
-// How many points the ring from a on has.
-fn count(w: &[u32], a: usize) -> usize
-    requires { ⌜ LENGTH ≤ length (now w) ⌝ }
-{
-    let mut p = a;
-    let mut n: usize = 0;
-    while n < Job::POINTS {
-        p = read(w, Col::Next, p);
-        n += 1;
-        if p == a {
-            return n;
-        }
-    }
-    n
-}
-
-// n points from a on.
-fn print_points(w: &[u32], a: usize, n: usize)
-    requires { ⌜ LENGTH ≤ length (now w) ⌝ }
-{
-    let mut p = a;
-    let mut left = n;
-    while 0 < left {
-        print_point(w, p);
-        p = read(w, Col::Next, p);
-        left -= 1;
-    }
-}
-
+// The ring from a record's first point on, each point by its number and value.
 fn print_ring(w: &[u32], a: usize)
     requires { ⌜ LENGTH ≤ length (now w) ⌝ }
 {
-    if a == NONE {
-        io::write_all(STDOUT_FILENO, b" ring 0\n");
-        return;
-    }
-    let n = count(w, a);
-    io::write_all(STDOUT_FILENO, b" ring ");
-    print(n);
-    print_points(w, a, n);
-    io::write_all(STDOUT_FILENO, b"\n");
+    let mut text = [0u8; TEXT];
+    let n = put_ring(w, true, a, &mut text, 0);
+    io::write_all(STDOUT_FILENO, first(&text, n));
 }
 
 fn print_record(w: &[u32], i: usize)

@@ -1,19 +1,18 @@
 // What is printed: steps due and acts by the oracle's words, rings by value from the first point.
 use crate::progress::due_of;
 use geometry::Point;
-use job::Job;
 use job::refusal::Refusal;
 use libc::STDOUT_FILENO;
 use store::Col;
-use store::NONE;
 use store::read;
+use test_text::first;
+use test_text::ring::TEXT;
+use test_text::ring::put_ring;
 use turns::Act;
 use turns::Due;
 ghost use Prim.Native.Nat.{_≤_};
 ghost use lib.ListN.{length};
 ghost use Rattle.store.specs.Field.{LENGTH};
-
-const RAISE: usize = Job::COORDINATE as usize;
 
 fn say(text: &[u8]) {
     io::write_all(STDOUT_FILENO, text);
@@ -98,69 +97,13 @@ pub(crate) fn print_act(a: Act) {
     }
 }
 
-// A coordinate, by its word.
-fn print_coordinate(v: usize) {
-    if v < RAISE {
-        say(b"-");
-        print(RAISE - v);
-        return;
-    }
-    print(v - RAISE);
-}
-
-// Point p by value.
-fn print_point(w: &[u32], p: usize)
-    requires { ⌜ LENGTH ≤ length (now w) ⌝ }
-{
-    say(b" ");
-    let x = read(w, Col::X, p);
-    print_coordinate(x);
-    say(b",");
-    let y = read(w, Col::Y, p);
-    print_coordinate(y);
-}
-
-// How many points the ring from a on has.
-fn count(w: &[u32], a: usize) -> usize
-    requires { ⌜ LENGTH ≤ length (now w) ⌝ }
-{
-    let mut p = a;
-    let mut n: usize = 0;
-    while n < Job::POINTS {
-        p = read(w, Col::Next, p);
-        n += 1;
-        if p == a {
-            return n;
-        }
-    }
-    n
-}
-
-// n points from a on.
-fn print_points(w: &[u32], a: usize, n: usize)
-    requires { ⌜ LENGTH ≤ length (now w) ⌝ }
-{
-    let mut p = a;
-    let mut left = n;
-    while 0 < left {
-        print_point(w, p);
-        p = read(w, Col::Next, p);
-        left -= 1;
-    }
-}
-
+// The ring from a record's first point on, by value.
 fn print_ring(w: &[u32], a: usize)
     requires { ⌜ LENGTH ≤ length (now w) ⌝ }
 {
-    if a == NONE {
-        say(b" ring 0\n");
-        return;
-    }
-    let n = count(w, a);
-    say(b" ring ");
-    print(n);
-    print_points(w, a, n);
-    say(b"\n");
+    let mut text = [0u8; TEXT];
+    let n = put_ring(w, false, a, &mut text, 0);
+    say(first(&text, n));
 }
 
 fn print_record(w: &[u32], i: usize)

@@ -1,2 +1,3 @@
--- Laws of places past the end.
+-- Laws of places past the end, and of a ring's text.
 pub mod Past
+pub mod Ringing
