@@ -8,80 +8,23 @@ use geometry::Point;
 use job::Job;
 use libc::STDIN_FILENO;
 use libc::STDOUT_FILENO;
+use test_text::byte;
+use test_text::further;
+use test_text::words::digits;
+use test_text::words::end_of;
 ghost use Prim.Native.Nat.{_^_};
 ghost use Rattle.exact.specs.Num.{Within};
 ghost use Rattle.geometry.specs.Table.{InTable};
 ghost use Rattle.geometry.specs.Within.{Paired, MeetAt};
 
-// The byte at a place, and 0 past the end.
-fn byte(s: &[u8], at: usize) -> u8 {
-    if at < s.len() {
-        return s[at];
-    }
-    0
-}
-
-fn after(at: usize) -> usize {
-    if at < 131072 {
-        return at + 1;
-    }
-    at
-}
-
 // The place after the word at a place and the one byte that ends it.
 fn past_word(s: &[u8], at: usize) -> usize {
-    let mut i = at;
-    let mut left: u32 = 32;
-    while left > 0 {
-        let b = byte(s, i);
-        i = after(i);
-        if b <= b' ' {
-            return i;
-        }
-        left -= 1;
-    }
-    i
+    further(end_of(s, at, b' '), 1)
 }
 
-// The place after the line at a place: every line has fewer than 300 bytes.
+// The place after the line at a place.
 fn past_line(s: &[u8], at: usize) -> usize {
-    let mut i = at;
-    let mut left: u32 = 300;
-    while left > 0 {
-        if byte(s, i) == b'\n' {
-            return after(i);
-        }
-        i = after(i);
-        left -= 1;
-    }
-    i
-}
-
-// One digit more; the cases have fewer than 16.
-fn more(v: u64, b: u8) -> u64 {
-    if v < 1000000000000000 {
-        return v * 10 + (b % 16) as u64;
-    }
-    v
-}
-
-fn digits(s: &[u8], at: usize) -> u64 {
-    let mut i = at;
-    let mut v: u64 = 0;
-    let mut left: u32 = 16;
-    while left > 0 {
-        let b = byte(s, i);
-        if b < b'0' {
-            return v;
-        }
-        if b > b'9' {
-            return v;
-        }
-        v = more(v, b);
-        i = after(i);
-        left -= 1;
-    }
-    v
+    further(end_of(s, at, b'\n'), 1)
 }
 
 fn signed(v: u64, minus: bool) -> i64 {
@@ -97,7 +40,7 @@ fn signed(v: u64, minus: bool) -> i64 {
 
 fn number(s: &[u8], at: usize) -> i64 {
     if byte(s, at) == b'-' {
-        return signed(digits(s, after(at)), true);
+        return signed(digits(s, further(at, 1)), true);
     }
     signed(digits(s, at), false)
 }
@@ -282,7 +225,7 @@ fn agrees(s: &[u8], at: usize) -> bool {
         return four_agree(s, name, first);
     }
     if name == b'i' {
-        return three_agree(s, byte(s, after(after(after(at)))), first);
+        return three_agree(s, byte(s, further(at, 3)), first);
     }
     three_agree(s, name, first)
 }
