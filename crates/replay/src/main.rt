@@ -18,31 +18,15 @@ use test_text::from;
 use test_text::further;
 use test_text::number_at;
 use test_text::put;
+use test_text::words;
+use test_text::words::end_of;
 ghost use Prim.Native.Nat.{_<_};
-
-fn wide(x: u8) -> usize {
-    x as usize
-}
 
 fn back(at: usize, n: usize) -> usize {
     if n <= at {
         return at - n;
     }
     0
-}
-
-// The next place of a byte that is at most `stop`.
-fn end_of(s: &[u8], at: usize, stop: u8) -> usize {
-    let mut i = at;
-    let mut left: u32 = 100000;
-    while left > 0 {
-        if byte(s, i) <= stop {
-            return i;
-        }
-        i = further(i, 1);
-        left -= 1;
-    }
-    i
 }
 
 // Writes the first n bytes.
@@ -81,30 +65,6 @@ fn pair(s: &[u8], at: usize) -> u8 {
     let high = value(byte(s, at));
     let low = value(byte(s, further(at, 1)));
     high * 16 + low
-}
-
-fn more(v: usize, b: u8) -> usize {
-    if v < 1000 {
-        return further(v * 10, wide(value(b)));
-    }
-    v
-}
-
-// The decimal number at a place, of at most four digits.
-fn number(s: &[u8], at: usize) -> usize {
-    let mut i = at;
-    let mut v: usize = 0;
-    let mut left: u32 = 4;
-    while left > 0 {
-        let b = byte(s, i);
-        if b <= b' ' {
-            return v;
-        }
-        v = more(v, b);
-        i = further(i, 1);
-        left -= 1;
-    }
-    v
 }
 
 // The number of two bytes at a place, one higher.
@@ -169,7 +129,12 @@ fn taken(s: &[u8], at: usize, start: usize, job: &mut [u8], n: usize) -> usize {
         return n;
     }
     if b == b'+' {
-        return repeat(job, n, back(n, start), number(s, further(at, 1)));
+        return repeat(
+            job,
+            n,
+            back(n, start),
+            words::digits(s, further(at, 1)) as usize,
+        );
     }
     put(job, n, pair(s, at));
     further(n, 1)
