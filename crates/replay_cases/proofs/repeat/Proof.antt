@@ -1,9 +1,9 @@
--- `replay::repeat` ends, and keeps every length.
+-- `replay_cases::repeat` ends, and keeps every length.
 use borrow.Author.Needs.{needs}
 use mathlib.Core.Path.{_≡_, refl}
 use lib.ListN.{length}
-use Rattle.replay.proofs.repeat.Statement.{statement}
-use Rattle.replay.proofs.repeat.Tie as tie
+use Rattle.replay_cases.proofs.repeat.Statement.{statement}
+use Rattle.replay_cases.proofs.repeat.Tie as tie
 
 abbrev Inv-loop : tie.InvT-loop
 Inv-loop job₀ n size times at₀ left₀ job at left = length job ≡ length job₀

@@ -1,24 +1,26 @@
--- `replay::double` ends, and keeps every length.
+-- `replay_cases::decode` ends, and keeps every length.
 use borrow.Author.Needs.{needs}
 use mathlib.Core.Path.{_≡_, refl}
 use lib.ListN.{length}
-use Rattle.replay.proofs.double.Statement.{statement}
-use Rattle.replay.proofs.double.Tie as tie
+use Rattle.replay_cases.proofs.decode.Statement.{statement}
+use Rattle.replay_cases.proofs.decode.Tie as tie
 
 abbrev Inv-loop : tie.InvT-loop
-Inv-loop job₀ at size i₀ left₀ job i left = length job ≡ length job₀
+Inv-loop s at job₀ i₀ start₀ n₀ left₀ job i start n left = length job ≡ length job₀
 
 abbrev μ-loop : tie.MeasureT-loop
-μ-loop job₀ at size i₀ left₀ job i left = left
+μ-loop s at job₀ i₀ start₀ n₀ left₀ job i start n left = left
 
-pub double-spec : {M : Type 1} → statement M
-double-spec =
+pub decode-spec : {M : Type 1} → statement M
+decode-spec =
     tie.close
     (tie.spec
     Inv-loop
     μ-loop
     (λ c. refl)
     (λ c κs. search needs)
+    (λ c. search needs)
+    (λ c. search needs)
     (λ c κs. search needs)
     (λ c κs. search needs)
     (λ c κs. search needs)

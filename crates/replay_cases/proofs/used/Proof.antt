@@ -1,7 +1,7 @@
--- `replay::used` ends.
+-- `replay_cases::used` ends.
 use borrow.Author.Needs.{needs}
-use Rattle.replay.proofs.used.Statement.{statement}
-use Rattle.replay.proofs.used.Tie as tie
+use Rattle.replay_cases.proofs.used.Statement.{statement}
+use Rattle.replay_cases.proofs.used.Tie as tie
 
 abbrev Inv-loop : tie.InvT-loop
 Inv-loop tray at₀ left₀ at left = Unit {0}

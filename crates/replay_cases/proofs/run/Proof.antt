@@ -1,9 +1,9 @@
--- `replay::run` ends, and keeps every length.
+-- `replay_cases::run` ends, and keeps every length.
 use borrow.Author.Needs.{needs}
 use mathlib.Core.Path.{_≡_, refl}
 use lib.ListN.{length}
-use Rattle.replay.proofs.run.Statement.{statement}
-use Rattle.replay.proofs.run.Tie as tie
+use Rattle.replay_cases.proofs.run.Statement.{statement}
+use Rattle.replay_cases.proofs.run.Tie as tie
 
 abbrev Inv-loop : tie.InvT-loop
 Inv-loop s job₀ work₀ tray₀ text₀ at₀ left₀ job work tray text at left = (length job ≡ length job₀) × (length work ≡ length work₀) × (length tray ≡ length tray₀) × (length text ≡ length text₀)

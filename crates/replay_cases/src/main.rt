@@ -1,6 +1,6 @@
 // Replays the stored jobs on standard input through `list_job`, with no Rust at hand, and prints each case's name, listing and tray: first document 01's bench
 // examples, then the other stored answers, then the jobs at the limits, then those with a rate. A case is two lines, `case NAME` and `job HEX`; in the job a space
-// begins a field, and `+N` after it is N more of it (see `again`). Between the two a line `at "ARGUMENT"` may say the rate. `tests/replay ORACLE crates/replay` makes both files from what the real Rust answers.
+// begins a field, and `+N` after it is N more of it (see `again`). Between the two a line `at "ARGUMENT"` may say the rate. `tests/replay_cases ORACLE crates/replay_cases` makes both files from what the real Rust answers.
 use deciding::DECIDES;
 use job::Job;
 use job_listing::list_job;

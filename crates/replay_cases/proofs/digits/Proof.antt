@@ -1,9 +1,9 @@
--- `replay::digits` ends, and keeps every length.
+-- `replay_cases::digits` ends, and keeps every length.
 use borrow.Author.Needs.{needs}
 use mathlib.Core.Path.{_≡_, refl}
 use lib.ListN.{length}
-use Rattle.replay.proofs.digits.Statement.{statement}
-use Rattle.replay.proofs.digits.Tie as tie
+use Rattle.replay_cases.proofs.digits.Statement.{statement}
+use Rattle.replay_cases.proofs.digits.Tie as tie
 
 abbrev Inv-loop : tie.InvT-loop
 Inv-loop tray n line₀ i₀ at₀ left₀ line i at left = length line ≡ length line₀
