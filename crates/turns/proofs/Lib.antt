@@ -8,4 +8,5 @@ pub mod Sizes
 pub mod Decisions
 pub mod Ready
 pub mod Steps
+pub mod Gliding
 pub mod Looping

@@ -27,6 +27,7 @@ use Rattle.acts.proofs.Finishing.{settings-kept, finishes-step, words-fall, wor
 use Rattle.turns.specs.Form.{raised, geometryOf}
 use Rattle.turns.specs.Reads.{SoundWords}
 use Rattle.turns.specs.Takes.{isFull}
+use Rattle.turns.specs.Glide.{Glided, still, onward, Glides}
 use Rattle.turns.proofs.Ready.{laws}
 
 -- finishing record i of the words w₀ stands at w
@@ -71,7 +72,7 @@ module _ (w₀ : List ℕ) (i : ℕ) (w : List ℕ) (R : Running w₀ i w) where
         fell : wordsLeft (geometryOf (view w₀)) raised (stepW (geometryOf (view w₀)) raised w i) i < wordsLeft (geometryOf (view w₀)) raised w i
         fell = words-fall (geometryOf (view w₀)) raised (laws (preserveCollinear (view w₀))) w i (R .finishes) ok-says
 
-        pub next : Running w₀ i w′
+        next : Running w₀ i w′
         next = subst (Running w₀ i) words (go (R .fuel) (R .more ok-says) (R .is))
           where
             go : (n : ℕ) → wordsLeft (geometryOf (view w₀)) raised w i < n → finishRecord (geometryOf (view w₀)) raised w₀ i ≡ stepsByW (geometryOf (view w₀)) raised n (answerS (geometryOf (view w₀)) raised (view w) i) w i
@@ -88,10 +89,10 @@ module _ (w₀ : List ℕ) (i : ℕ) (w : List ℕ) (R : Running w₀ i w) where
                   is = q ∙ ap (λ (x : Answer). stepsByW (geometryOf (view w₀)) raised (suc n) x w i) ok-says;
                 }
 
-        pub fallen : wordsLeft (geometryOf (view w₀)) raised w′ i < wordsLeft (geometryOf (view w₀)) raised w i
+        fallen : wordsLeft (geometryOf (view w₀)) raised w′ i < wordsLeft (geometryOf (view w₀)) raised w i
         fallen = subst (λ (u : List ℕ). wordsLeft (geometryOf (view w₀)) raised u i < wordsLeft (geometryOf (view w₀)) raised w i) words fell
 
-      pub stop : b ≡ true → outcome a w′ ≡ finishRecord (geometryOf (view w₀)) raised w₀ i
+      stop : b ≡ true → outcome a w′ ≡ finishRecord (geometryOf (view w₀)) raised w₀ i
       unfolding stepW
       stop h = stepped ∙ go (R .fuel) (R .some) (answerS (geometryOf (view w₀)) raised (view w) i) (ap (λ (x : Answer). not (isOk x)) says ∙ sym eb ∙ h) ∙ sym (R .is)
         where
@@ -100,6 +101,28 @@ module _ (w₀ : List ℕ) (i : ℕ) (w : List ℕ) (R : Running w₀ i w) where
           go (suc n) z ok k = let y : _≡_ {A = ℕ} 0 1 = cc in absurd (omega arith)
           go (suc n) z full k = refl
           go (suc n) z outOfTurn k = refl
+
+-- steps that only move on, before one
+glide-running : (w₀ : List ℕ) (i : ℕ) (w u : List ℕ) → Running w₀ i w → Glided i w u → Running w₀ i u
+glide-running w₀ i w u R still = R
+glide-running w₀ i w u R (onward t v g e) = next w₀ i t (glide-running w₀ i w t R g) v ok e false refl refl
+
+glide-falls : (w₀ : List ℕ) (i : ℕ) (w u : List ℕ) → Running w₀ i w → Glided i w u → wordsLeft (geometryOf (view w₀)) raised u i ≤ wordsLeft (geometryOf (view w₀)) raised w i
+glide-falls w₀ i w u R still = omega arith
+glide-falls w₀ i w u R (onward t v g e) = omega (arith, glide-falls w₀ i w t R g, fallen w₀ i t (glide-running w₀ i w t R g) v ok e false refl refl)
+
+module _ (w₀ : List ℕ) (i : ℕ) (w : List ℕ) (R : Running w₀ i w) (u : List ℕ) (l : Bool) (g : Glides i w u l) (w′ : List ℕ) (a : Answer) (e : outcome a w′ ≡ stepWords (geometryOf (view u)) raised u i) (b : Bool) (eb : b ≡ not (isOk a)) where
+  there : Running w₀ i u
+  there = glide-running w₀ i w u R (g .glided)
+
+  pub next-on : b ≡ false → Running w₀ i w′
+  next-on h = next w₀ i u there w′ a e b eb h
+
+  pub fallen-on : b ≡ false → wordsLeft (geometryOf (view w₀)) raised w′ i < wordsLeft (geometryOf (view w₀)) raised w i
+  fallen-on h = omega (arith, glide-falls w₀ i w u R (g .glided), fallen w₀ i u there w′ a e b eb h)
+
+  pub stop-on : b ≡ true → outcome a w′ ≡ finishRecord (geometryOf (view w₀)) raised w₀ i
+  stop-on h = stop w₀ i u there w′ a e b eb h
 
 -- a number that is no record's: the step is out of turn, and finishing it changes nothing
 module _ (G : Geo Point) (w : List ℕ) where

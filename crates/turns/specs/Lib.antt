@@ -5,3 +5,4 @@ pub mod Reads
 pub mod Applies
 pub mod Decide
 pub mod Takes
+pub mod Glide

@@ -1,7 +1,8 @@
 // Finishing: one record, or all in rising order, stepped until done; it ends where a step is full.
 use crate::Answer;
 use crate::RingsEnd;
-use crate::step::step_record;
+use crate::glide::glide;
+use crate::step::step_if;
 use job::Job;
 use store::Col;
 use store::get;
@@ -42,7 +43,8 @@ pub fn finish_record(w: &mut [u32], i: usize) -> Answer
     ensures { λ r. ⌜ outcome (answerIs r) (now (w .exit)) ≡ finishRecord (geometryOf (view (now (w .entry)))) raised (now (w .entry)) i ⌝ }
 {
     loop {
-        let a = step_record(w, i);
+        let live = glide(w, i);
+        let a = step_if(w, i, live);
         let refused = is_refused(a);
         if refused {
             return a;

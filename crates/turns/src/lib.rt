@@ -38,5 +38,6 @@ pub enum RingsEnd {
 pub mod apply;
 pub mod decide;
 pub mod finish;
+pub mod glide;
 pub mod ring;
 pub mod step;

@@ -113,14 +113,22 @@ pub fn is_live(w: &[u32], i: usize) -> bool
     m < 4
 }
 
+// A step on a record number, once it is known whether it is an unfinished closed ring.
+pub fn step_if(w: &mut [u32], i: usize, unfinished: bool) -> Answer
+    requires { ⌜ SoundWords (now w) × (unfinished ≡ live (view (now w)) i) ⌝ }
+    ensures { λ r. ⌜ outcome (answerIs r) (now (w .exit)) ≡ stepWords (geometryOf (view (now (w .entry)))) raised (now (w .entry)) i ⌝ }
+{
+    if unfinished {
+        return step_ring(w, i);
+    }
+    Answer::OutOfTurn
+}
+
 // A step on any record number.
 pub fn step_record(w: &mut [u32], i: usize) -> Answer
     requires { ⌜ SoundWords (now w) ⌝ }
     ensures { λ r. ⌜ outcome (answerIs r) (now (w .exit)) ≡ stepWords (geometryOf (view (now (w .entry)))) raised (now (w .entry)) i ⌝ }
 {
     let live = is_live(w, i);
-    if live {
-        return step_ring(w, i);
-    }
-    Answer::OutOfTurn
+    step_if(w, i, live)
 }

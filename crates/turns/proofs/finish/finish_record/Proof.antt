@@ -1,9 +1,9 @@
--- `finish_record` meets its contract: each turn is a step that is carried out, and lowers the measure.
+-- `finish_record` meets its contract: each turn is steps that only move on, and then one more; they lower the measure.
 use borrow.Author.Needs.{needs}
 use Rattle.store.specs.Words.{view}
 use Rattle.acts.specs.Finishable.{wordsLeft}
 use Rattle.turns.specs.Form.{raised, geometryOf}
-use Rattle.turns.proofs.Looping.{Running, begun, sound-words, next, fallen, stop}
+use Rattle.turns.proofs.Looping.{Running, begun, sound-words, next-on, fallen-on, stop-on}
 use Rattle.turns.proofs.finish.finish_record.Statement.{statement}
 use Rattle.turns.proofs.finish.finish_record.Tie as tie
 
@@ -22,7 +22,8 @@ finish-record-spec =
     (λ c. search (begun, needs))
     (λ c κs. search (sound-words, needs))
     (λ c κs. search needs)
+    (λ c κs. search needs)
     (λ c. search needs)
-    (λ c. search stop)
-    (λ c. search fallen)
-    (λ c. search next))
+    (λ c. search stop-on)
+    (λ c. search fallen-on)
+    (λ c. search next-on))
