@@ -1,4 +1,5 @@
 // Reads the fields of a job, one after the other, into the work space and two lists.
+use crate::points::run_points;
 use job::Job;
 use job::field;
 use job::field::Field;
@@ -30,7 +31,7 @@ pub(crate) fn put(w: &mut [u32], c: Col, i: usize, v: u32)
     store::set(w, c, i, v as usize);
 }
 
-fn put_point(w: &mut [u32], i: usize, x: u32, y: u32, next: u32, prev: u32, rec: u32)
+pub(crate) fn put_point(w: &mut [u32], i: usize, x: u32, y: u32, next: u32, prev: u32, rec: u32)
     requires { ⌜ (LENGTH ≤ length (now w)) × (i < limit.POINTS) ⌝ }
     ensures { λ _. ⌜ now (w .exit) ≡ putPoint i x y next prev rec (now (w .entry)) ⌝ }
 {
@@ -121,7 +122,7 @@ fn turn(bytes: &[u8], j: Job, w: &mut [u32], segments: &mut [u32], joins: &mut [
     }
 }
 
-// The fields of a job, up to its end or the first refusal.
+// The fields of a job, up to its end or the first refusal; points in a row are read at once.
 pub(crate) fn fill(bytes: &[u8], w: &mut [u32], segments: &mut [u32], joins: &mut [u32]) -> Outcome
     requires { ⌜ Space (now w) (now segments) (now joins) ⌝ }
     ensures { λ r. ⌜ end r (now (w .exit)) (now (segments .exit)) (now (joins .exit)) ≡ fillOf (now (bytes .entry)) (now (w .entry)) (now (segments .entry)) (now (joins .entry)) ⌝ }
@@ -134,7 +135,7 @@ pub(crate) fn fill(bytes: &[u8], w: &mut [u32], segments: &mut [u32], joins: &mu
         let t = turn(bytes, j, w, segments, joins);
         match t {
             Outcome::State(n) => {
-                j = n;
+                j = run_points(bytes, n, w);
             }
             Outcome::Refused(x) => {
                 return Outcome::Refused(x);

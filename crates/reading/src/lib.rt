@@ -1,5 +1,6 @@
 // A job read into the work space.
 pub mod fill;
+mod points;
 
 use crate::fill::Outcome;
 use job::Job;
