@@ -6,7 +6,7 @@
 
 #define NONE 65535
 
-static uint8_t job[2 * OUTLINE_JOB_BYTES], tray[OUTLINE_TRAY_BYTES], text[OUTLINE_TEXT_BYTES];
+static uint8_t job[2 * OUTLINE_JOB_BYTES], tray[OUTLINE_TRAY_BYTES], text[OUTLINE_TEXT_BYTES], written[OUTLINE_REWRITTEN_BYTES];
 static uint32_t work[OUTLINE_WORK_WORDS];
 static size_t length;
 static int faults;
@@ -58,15 +58,15 @@ static void joins(uint32_t count) {
     for (; count > 0; count--) field(5, 4), number(0, 4);
 }
 
-/* As many points as there may be, on as many open rings. */
-static void largest(void) {
+/* As many points as there may be, on as many rings. */
+static void largest(uint32_t flags) {
     const uint32_t each = OUTLINE_POINTS / OUTLINE_RECORDS;
     settings();
     for (uint32_t i = 0; i < OUTLINE_POINTS; i++) {
         uint32_t first = i - i % each;
         point(i, i, first + (i + 1 - first) % each, first + (i + each - 1 - first) % each, i / each);
     }
-    for (uint32_t i = 0; i < OUTLINE_RECORDS; i++) record(1, NONE, each * i);
+    for (uint32_t i = 0; i < OUTLINE_RECORDS; i++) record(flags, NONE, each * i);
 }
 
 /* ---- what the calls say */
@@ -77,7 +77,7 @@ static uint32_t whole(void) { return finish(length, OUTLINE_WORK_WORDS, OUTLINE_
 
 static void lengths(void) {
     is("outline_work_words", outline_work_words(), OUTLINE_WORK_WORDS);
-    largest();
+    largest(1);
     is("the largest job", whole(), 0);
     is("its last path's tag", tray[OUTLINE_TRAY_BYTES - 3 - 8 * (OUTLINE_POINTS / OUTLINE_RECORDS)], 7);
     is("a word less", finish(length, OUTLINE_WORK_WORDS - 1, OUTLINE_TRAY_BYTES), OUTLINE_FULL);
@@ -95,7 +95,7 @@ static void counts(void) {
     settings();
     for (uint32_t i = 0; i <= OUTLINE_POINTS; i++) point(0, 0, i, i, 0);
     is("a point too many", whole(), OUTLINE_CROWDED);
-    largest();
+    largest(1);
     record(0, NONE, NONE);
     is("a record too many", whole(), OUTLINE_CROWDED);
     for (uint32_t more = 0; more < 2; more++) {
@@ -140,7 +140,7 @@ static uint32_t listed(uint32_t rate) {
 }
 
 static void listings(void) {
-    largest();
+    largest(1);
     is("no rate", listed(0), 0);
     is("the largest rate", listed(OUTLINE_RATE), 0);
     is("a larger rate", listed(OUTLINE_RATE + 1), OUTLINE_BAD_RATE);
@@ -153,9 +153,20 @@ static void listings(void) {
     is("the text then", text[0], 7);
 }
 
+static uint64_t rewritten(size_t words, size_t bytes) { return outline_rewrite(job, length, work, words, written, bytes); }
+
+static void rewriting(void) {
+    largest(0), segments(OUTLINE_SEGMENTS), joins(OUTLINE_JOINS);
+    is("the longest job, which would be a knot, written", rewritten(OUTLINE_WORK_WORDS, OUTLINE_REWRITTEN_BYTES), (uint64_t)OUTLINE_REWRITTEN_BYTES << 32);
+    is("its bytes, which were so", memcmp(written, job, length), 0);
+    is("a byte of its tray less", rewritten(OUTLINE_WORK_WORDS, OUTLINE_REWRITTEN_BYTES - 1), OUTLINE_SMALL_TRAY);
+    is("a word less, of it", rewritten(OUTLINE_WORK_WORDS - 1, OUTLINE_REWRITTEN_BYTES), OUTLINE_FULL);
+}
+
 int main(void) {
     lengths();
     listings();
+    rewriting();
     counts();
     coordinates();
     other_refusals();

@@ -42,14 +42,6 @@ class Job:
             self.points.append((x, y, base + (k + 1) % count, base + (k - 1) % count, record))
         self.records.append((flags, owner, base if count else NONE))
 
-    def ring(self, record):
-        """The places along next from a record's first point, as far as numbers name points and none comes twice."""
-        at, seen = self.records[record][2], {}
-        while at < len(self.points) and at not in seen:
-            seen[at] = self.points[at][:2]
-            at = self.points[at][2]
-        return list(seen.values())
-
 
 def read(data):
     """The fields that a job begins with, in order and of the right length; the rest is its tail."""

@@ -49,7 +49,7 @@ fn row(name: &str, bytes: &[u8]) {
     let mut lent = Lent::new();
     let job = read::read(bytes).expect("the job is read");
     let (closed, open) = real::paths(real::open_untested(&job));
-    let paths = Answer::Paths { closed, open }.tray();
+    let paths = Answer::Paths { closed, open, reversed: false }.tray();
     assert_eq!(lent.finish(bytes), Ok(()), "{name} is refused");
     assert!(
         lent.tray.starts_with(&paths) && lent.tray[paths.len()..].iter().all(|b| *b == 0),

@@ -68,6 +68,14 @@ extern "C" {
 /* The largest rate, in cents for a square decimetre; 0 is none. */
 #define OUTLINE_RATE 1000
 
+/* ---- a job written the one way */
+
+/* A tray of so many bytes has room for any accepted job. */
+#define OUTLINE_REWRITTEN_BYTES 41988
+#if OUTLINE_REWRITTEN_BYTES != OUTLINE_JOB_BYTES - 17
+#error "OUTLINE_REWRITTEN_BYTES is not what the limits make it"
+#endif
+
 /* ---- the answers: 0, or the refusal's number, the first that applies */
 
 enum outline_refusal {
@@ -81,7 +89,7 @@ enum outline_refusal {
     OUTLINE_OPEN_EDGE = 8,     /* a segment or a join names a point of an open ring */
     OUTLINE_KNOT = 9,          /* a join's second point is already the next of its first */
     OUTLINE_FULL = 10,         /* finishing needs more than 2,048 points or 512 records, or the work space is too short */
-    OUTLINE_SMALL_TRAY = 11,   /* the paths need more bytes than the tray has */
+    OUTLINE_SMALL_TRAY = 11,   /* the paths, or the job that is written, need more bytes than the tray has */
     OUTLINE_OUT_OF_TURN = 12,  /* a step on a record that has none to take, or writing out before every closed ring is done */
     OUTLINE_BAD_RATE = 13      /* more than one rate is given, or one that is not a whole number from 1 to 1,000 */
 };
@@ -100,6 +108,13 @@ uint32_t outline_finish(const uint8_t *job, size_t job_bytes, uint32_t *work, si
  * words and tray then stay as found. 0: the text has fewer than OUTLINE_TEXT_BYTES bytes; then every word and every byte is as found. */
 uint64_t outline_list(const uint8_t *job, size_t job_bytes, uint32_t *work, size_t work_words, uint8_t *tray, size_t tray_bytes, uint32_t rate,
                       uint8_t *text, size_t text_bytes);
+
+/* Writes a job the one way, without joining or finishing it: records in their order, each ring's points from its first point in walk order and numbered so,
+ * every point naming its ring's record, segments and joins by the new numbers. Two jobs give the same bytes exactly when they hold the same drawing.
+ * The low half of the answer, (uint32_t)answer, is 0 or the refusal's number: 10 for the work space's length, 1 to 8, or 11 if the tray is shorter than the
+ * written job; the high half, answer >> 32, is how many bytes that has. Refused: every word and every byte is 0. Else the tray holds the bytes, and past them
+ * every byte is 0; every word is 0 too. */
+uint64_t outline_rewrite(const uint8_t *job, size_t job_bytes, uint32_t *work, size_t work_words, uint8_t *tray, size_t tray_bytes);
 
 /* Opens a job: reads it and joins its rings. Refused: every word of the work space is 0. Else it holds the rings, each closed one at its start. */
 uint32_t outline_open(const uint8_t *job, size_t job_bytes, uint32_t *work, size_t work_words);

@@ -13,7 +13,7 @@ use Rattle.store.specs.Named.{pointsOf, recordsOf}
 use Rattle.store.proofs.Storing.{length-writes}
 use Rattle.audit.specs.Tests.{anyBelow, noSuch, noSuchOf}
 use Rattle.reading.specs.declared.fill.Outcome.{Outcome}
-use Rattle.reading.specs.declared.fill.Outcome.the-variants.{State, Refused}
+use Rattle.reading.specs.declared.fill.Outcome.the-variants.{Ok, Refused}
 use Rattle.reading.specs.Fill.{ReadEnd, end, fillOf}
 use Rattle.reading.specs.Needs.{Space}
 use Rattle.reading.specs.Read.{counted, withCounts, readOf}
@@ -35,12 +35,12 @@ pub record Whole (j : Job) (w ss js : List ℕ) : Type 0 where
   pub bits : Bits w
   pub space : Space w ss js
 
-pub read-whole : (bytes w ss js : List ℕ) → Space w ss js → (j : Job) (v ts ks : List ℕ) → readOf bytes w ss js ≡ end (State j) v ts ks → Whole j v ts ks
+pub read-whole : (bytes w ss js : List ℕ) → Space w ss js → (j : Job) (v ts ks : List ℕ) → readOf bytes w ss js ≡ end (Ok j) v ts ks → Whole j v ts ks
 unfolding readOf
 read-whole bytes w ss js s j v ts ks e = by (fillOf bytes w ss js) refl e (bits-of bytes w ss js (s .words) j v ts ks e)
   where
-    by : (T : ReadEnd) → fillOf bytes w ss js ≡ T → withCounts T ≡ end (State j) v ts ks → Bits v → Whole j v ts ks
-    by (end (State i) u us ls) f d q =
+    by : (T : ReadEnd) → fillOf bytes w ss js ≡ T → withCounts T ≡ end (Ok j) v ts ks → Bits v → Whole j v ts ks
+    by (end (Ok i) u us ls) f d q =
         let g = filled bytes i u us ls w ss js f in
         let a : i ≡ j = cc (d) in
         let b : counted i u ≡ v = cc (d) in
@@ -68,13 +68,13 @@ filled-of j w ss js g =
     }
 
 -- for the code of `accept`
-pub may-judge : (bytes w ss js v ts ks : List ℕ) (r : Outcome) (j : Job) → Space w ss js → end r v ts ks ≡ readOf bytes w ss js → r ≡ State j → Filled v ts (j .segments) ks (j .joins)
+pub may-judge : (bytes w ss js v ts ks : List ℕ) (r : Outcome) (j : Job) → Space w ss js → end r v ts ks ≡ readOf bytes w ss js → r ≡ Ok j → Filled v ts (j .segments) ks (j .joins)
 may-judge bytes w ss js v ts ks r j s e h =
-    let q : readOf bytes w ss js ≡ end (State j) v ts ks = cc in
+    let q : readOf bytes w ss js ≡ end (Ok j) v ts ks = cc in
     filled-of j v ts ks (read-whole bytes w ss js s j v ts ks q)
 
 module _ (bytes w ss js v ts ks : List ℕ) (r : Outcome) (e : end r v ts ks ≡ readOf bytes w ss js) where
-  pub was-judged : (j : Job) (o : Outcome) → r ≡ State j → o ≡ judgeOf j v ts ks → end o v ts ks ≡ acceptOf bytes w ss js
+  pub was-judged : (j : Job) (o : Outcome) → r ≡ Ok j → o ≡ judgeOf j v ts ks → end o v ts ks ≡ acceptOf bytes w ss js
   unfolding acceptOf
   was-judged j o h a = rw (a, ← e, h)
 
@@ -83,7 +83,7 @@ module _ (bytes w ss js v ts ks : List ℕ) (r : Outcome) (e : end r v ts ks ≡
   was-refused x h = rw (← e, h)
 
 -- THE LAW: an accepted job is ready to be joined
-pub accepted : (bytes w ss js : List ℕ) → Space w ss js → (j : Job) (v ts ks : List ℕ) → acceptOf bytes w ss js ≡ end (State j) v ts ks → Accepted j v ts ks
+pub accepted : (bytes w ss js : List ℕ) → Space w ss js → (j : Job) (v ts ks : List ℕ) → acceptOf bytes w ss js ≡ end (Ok j) v ts ks → Accepted j v ts ks
 unfolding acceptOf
 accepted bytes w ss js s j v ts ks e = by (readOf bytes w ss js) refl e
   where
@@ -104,7 +104,7 @@ accepted bytes w ss js s j v ts ks e = by (readOf bytes w ss js) refl e
           closed = c .edges;
         }
 
-    at : (i : Job) (u us ls : List ℕ) → Whole i u us ls → (x : Verdict) → rowsOf u us (i .segments) ls (i .joins) ≡ x → end (answer x i) u us ls ≡ end (State j) v ts ks → Accepted j v ts ks
+    at : (i : Job) (u us ls : List ℕ) → Whole i u us ls → (x : Verdict) → rowsOf u us (i .segments) ls (i .joins) ≡ x → end (answer x i) u us ls ≡ end (Ok j) v ts ks → Accepted j v ts ks
     at i u us ls g verdict.Passed p d =
         let a : i ≡ j = cc (d) in
         let b : u ≡ v = cc (d) in
@@ -113,6 +113,6 @@ accepted bytes w ss js s j v ts ks e = by (readOf bytes w ss js) refl e
         rw (← a, ← b, ← c, ← k) (of i u us ls g p)
     at i u us ls g (verdict.Refused x) p d = absurd (let z : _≡_ {A = ℕ} 0 1 = cc in omega arith)
 
-    by : (T : ReadEnd) → readOf bytes w ss js ≡ T → judged T ≡ end (State j) v ts ks → Accepted j v ts ks
-    by (end (State i) u us ls) f d = at i u us ls (read-whole bytes w ss js s i u us ls f) (rowsOf u us (i .segments) ls (i .joins)) refl d
+    by : (T : ReadEnd) → readOf bytes w ss js ≡ T → judged T ≡ end (Ok j) v ts ks → Accepted j v ts ks
+    by (end (Ok i) u us ls) f d = at i u us ls (read-whole bytes w ss js s i u us ls f) (rowsOf u us (i .segments) ls (i .joins)) refl d
     by (end (Refused x) u us ls) f d = absurd (let z : _≡_ {A = ℕ} 0 1 = cc in omega arith)

@@ -9,10 +9,11 @@ use Rattle.job.specs.Refusal.{numberOf}
 use Rattle.store.specs.Field.{LENGTH}
 use Rattle.store.specs.Words.{cell, put}
 use Rattle.audit.specs.Tests.{anyBelow}
-use Rattle.reading.specs.declared.fill.Outcome.the-variants.{State, Refused}
+use Rattle.reading.specs.declared.fill.Outcome.the-variants.{Ok, Refused}
 use Rattle.reading.specs.Fill.{ReadEnd, end, turnOf, run, fillOf}
 use Rattle.reading.specs.Read.{readOf}
-use Rattle.rows.specs.Owners.{endsIn, findIn}
+use Rattle.joins.specs.Resolve.{findIn}
+use Rattle.rows.specs.Owners.{endsIn}
 use Rattle.rings.specs.Walk as walk
 use Rattle.rows.specs.Rings.{anyIn}
 use Rattle.rows.specs.Rows.{rowsOf}
@@ -23,7 +24,7 @@ pub record Row : Type 0 where
   pub says : ℕ
 
 abbrev said : ReadEnd → ℕ
-said (end (State j) w ss js) = 0
+said (end (Ok j) w ss js) = 0
 said (end (Refused r) w ss js) = numberOf r
 
 abbrev row : List ℕ → ℕ → Row

@@ -15,7 +15,7 @@ fn judge(j: Job, w: &[u32], segments: &[u32], joins: &[u32]) -> Outcome
 {
     let v = rows::rows(w, segments, j.segments, joins, j.joins);
     match v {
-        Verdict::Passed => Outcome::State(j),
+        Verdict::Passed => Outcome::Ok(j),
         Verdict::Refused(x) => Outcome::Refused(x),
     }
 }
@@ -27,7 +27,7 @@ pub fn accept(bytes: &[u8], w: &mut [u32], segments: &mut [u32], joins: &mut [u3
 {
     let r = reading::read_job(bytes, w, segments, joins);
     match r {
-        Outcome::State(j) => judge(j, w, segments, joins),
+        Outcome::Ok(j) => judge(j, w, segments, joins),
         Outcome::Refused(x) => Outcome::Refused(x),
     }
 }

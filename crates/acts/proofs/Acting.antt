@@ -20,12 +20,13 @@ use Rattle.acts.proofs.CuttingAway.{plain-away, put-away}
 use Rattle.acts.proofs.Doubling.{double-steps}
 use Rattle.acts.proofs.Dropping.{drop-steps}
 use Rattle.acts.proofs.Offcuts.{offcut-steps, offcut-kept, CutAway}
-use Rattle.acts.proofs.Positions.{Loop, inLoop}
+use Rattle.acts.proofs.Positions.{Loop}
 use Rattle.acts.proofs.Progressing.{move-steps, to-first-steps, discard-steps}
 use Rattle.acts.proofs.Putting.{put-steps}
 use Rattle.acts.proofs.Representing.{ActDone}
 use Rattle.acts.specs.Apply.{Coding, takesRecord, ringWrites}
 use Rattle.acts.specs.Codes.{Codes, after}
+use Rattle.acts.specs.Rep.{inLoop}
 use Rattle.acts.specs.Value.{value}
 use Rattle.acts.specs.Writes.{moveWrites, toFirstWrites, discardWrites, dropWrites, cutWrites, cutPutWrites, offcutWrites}
 

@@ -102,7 +102,7 @@ module _ (W : Type 0) (v : W) (s : Store) (o : Sound s) (i : ℕ) (c : Closed s 
         points = omega arith;
         flags = refl;
         cut-from = refl;
-        start-in = λ l. l;
+        start-is = inr (record { known = c .known; same = refl; looped = λ k. (c, b .looping) });
         ring = λ h. lone-is (onStore s (cutWrites s i d)) i _ _ _ _ d positioned
             ∙ ap (λ (l : List ℕ). tidy (apply (λ (v : W). pts s) (cut v false false d) (record { circle = s (rc PRESENT) i ∷ l; first = b .far; start = place (s (rc START) i) (s (rc PRESENT) i ∷ l); due = d₀ }))) (sym e)
             ∙ ap (λ (R : Ring ℕ). tidy (apply (λ (v : W). pts s) (cut v false false d) R)) (sym (b .lone-is));

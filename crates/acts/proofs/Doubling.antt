@@ -156,7 +156,7 @@ module _ (W : Type 0) (v : W) (s : Store) (o : Sound s) (i : ℕ) (c : Closed s 
           points = omega arith;
           flags = refl;
           cut-from = refl;
-          start-in = λ l. omega arith;
+          start-is = inr (record { known = c .known; same = refl; looped = λ k. (c, b .looping) });
           ring = λ started. lone-is (onStore s (doubleWrites s i vx vy d)) i _ _ _ _ d positioned
               ∙ ap (λ (st : Option ℕ). tidyAt (s (rc PRESENT) i ∷ y ∷ r ++ (pts s ∷ [])) (b .far) st d) (aside (s (rc START) i) (started v refl))
               ∙ ap (λ (l : List ℕ). tidy (apply (λ (v : W). pts s) (double v d) (record { circle = s (rc PRESENT) i ∷ l; first = b .far; start = place (s (rc START) i) (s (rc PRESENT) i ∷ b .others); due = d₀ }))) (sym e)

@@ -105,7 +105,7 @@ module _ (W : Type 0) (s : Store) (o : Sound s) (i : ℕ) (c : Closed s i) (m : 
           points = omega arith;
           flags = refl;
           cut-from = refl;
-          start-in = λ l. rw (hit i (s (pt NEXT) (s (rc PRESENT) i)) (s (rc START) i), next-z) (whole₀ .below z (omega (arith, one-here z)));
+          start-is = inl (rw (hit i (s (pt NEXT) (s (rc PRESENT) i)) (s (rc START) i), next-z) (whole₀ .below z (omega (arith, one-here z))));
           ring = λ h. lone-is (onStore s (dropWrites s i)) i z (w ∷ r) _ _ removal positioned
               ∙ ap (λ (l : List ℕ). tidy (apply (λ (v : W). pts s) dropPoint (record { circle = s (rc PRESENT) i ∷ l; first = b .far; start = place (s (rc START) i) (s (rc PRESENT) i ∷ l); due = removal }))) (sym e)
               ∙ ap (λ (R : Ring ℕ). tidy (apply (λ (v : W). pts s) dropPoint R)) (sym (b .lone-is));

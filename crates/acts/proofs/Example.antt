@@ -10,7 +10,7 @@ use Rattle.rings.proofs.Counting.{one-le, one-else, in-all}
 use Rattle.rings.specs.Count.{occ}
 use Rattle.rings.specs.Progress.{Ring, atStart}
 use Rattle.rings.specs.Walk.{run}
-use Rattle.lone.specs.Forest.{Forest, closedRing, initial, runForest, at}
+use Rattle.lone.specs.Forest.{Forest, closedRing, initial, runForest, at, cutFrom}
 use Rattle.lone.specs.Lone.{Geo}
 use Rattle.lone.specs.Order.{machine}
 use Rattle.store.specs.Field.{pt, rc, ct, X, Y, NEXT, PREV, REC, FLAGS, OWNER, FIRST, MARK, PRESENT, START, CUT, SETTINGS, POINTS, RECORDS, NONE}
@@ -20,7 +20,8 @@ use Rattle.store.specs.Words.{Store}
 use Rattle.acts.proofs.Stepping.{run-is}
 use Rattle.acts.specs.Apply.{Coding}
 use Rattle.acts.specs.Laws.{Laws}
-use Rattle.acts.specs.Rep.{Shows, as-closed, Rep}
+use Rattle.acts.specs.InStep.{orNone, Holds, a-closed}
+use Rattle.acts.specs.Rep.{Rep}
 use Rattle.acts.specs.Value.{value}
 use Rattle.acts.specs.Run.{runS}
 
@@ -92,11 +93,15 @@ module _ {P : Type 0} (f : Coding P) where
 
   pub three-rep : Rep (f .of) three alone
   unfolding run
-  three-rep = record { sound = three-sound; points-are = refl; records-are = refl; shows = each }
+  three-rep = record { in-step = record { sound = three-sound; points-are = refl; records-are = refl; holds = each }; starts = λ i h. omega arith; cuts = cut }
     where
-      each : (i : ℕ) → i < 1 → Shows (f .of) three i (at (alone .entries) i)
-      each zero l = as-closed none (initial (atStart (map (value (f .of) three) (0 ∷ 1 ∷ 2 ∷ [])))) refl refl (omega arith) refl
+      each : (i : ℕ) → i < 1 → Holds (f .of) three i (at (alone .entries) i)
+      each zero l = a-closed none (initial (atStart (map (value (f .of) three) (0 ∷ 1 ∷ 2 ∷ [])))) refl refl refl
       each (suc i) l = absurd (omega arith)
+
+      cut : (i : ℕ) → i < 1 → three (rc CUT) i ≡ orNone (cutFrom (at (alone .entries) i))
+      cut zero l = refl
+      cut (suc i) l = absurd (omega arith)
 
   -- so it stays in step under every list of steps, whatever the geometry
   pub three-runs : (G : Geo P) → Laws G f → (is : List ℕ) → Rep (f .of) (runS G f three is) (runForest (machine G) 2048 512 alone is)

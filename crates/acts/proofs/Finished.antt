@@ -23,7 +23,7 @@ module _ {P : Type 0} (G : Geo P) (f : Coding P) (Λ : Laws G f) where
   steps-rep zero a w F i r = r
   steps-rep (suc n) ok w F i r =
       let r′ : RepW f (stepW G f w i) (stepForest (machine G) 2048 512 F i) = stepW-is G f Λ w F r i in
-      let e : answerS G f (view (stepW G f w i)) i ≡ answer (machine G) 2048 512 (stepForest (machine G) 2048 512 F i) i = answer-is G f (view (stepW G f w i)) (stepForest (machine G) 2048 512 F i) (r′ .rep) i in
+      let e : answerS G f (view (stepW G f w i)) i ≡ answer (machine G) 2048 512 (stepForest (machine G) 2048 512 F i) i = answer-is G f (view (stepW G f w i)) (stepForest (machine G) 2048 512 F i) (r′ .rep .in-step) i in
       subst (λ (b : Answer). RepW f (wordsOf (stepsByW G f n (answerS G f (view (stepW G f w i)) i) (stepW G f w i) i)) (stepsBy (machine G) 2048 512 n b (stepForest (machine G) 2048 512 F i) i)) e
       (steps-rep n (answerS G f (view (stepW G f w i)) i) (stepW G f w i) (stepForest (machine G) 2048 512 F i) i r′)
   steps-rep (suc n) full w F i r = r
@@ -32,7 +32,7 @@ module _ {P : Type 0} (G : Geo P) (f : Coding P) (Λ : Laws G f) where
   record-rep : (w : List ℕ) (F : Forest (Ring P) (List P)) (i : ℕ) → RepW f w F → RepW f (wordsOf (finishRecord G f w i)) (stepsOn (machine G) 2048 512 (enough 2048) F i)
   unfolding finishRecord stepsOn
   record-rep w F i r =
-      subst (λ (b : Answer). RepW f (wordsOf (stepsByW G f (enough 2048) (answerS G f (view w) i) w i)) (stepsBy (machine G) 2048 512 (enough 2048) b F i)) (answer-is G f (view w) F (r .rep) i)
+      subst (λ (b : Answer). RepW f (wordsOf (stepsByW G f (enough 2048) (answerS G f (view w) i) w i)) (stepsBy (machine G) 2048 512 (enough 2048) b F i)) (answer-is G f (view w) F (r .rep .in-step) i)
       (steps-rep (enough 2048) (answerS G f (view w) i) w F i r)
 
   from-rep : (m : ℕ) (w : List ℕ) (F : Forest (Ring P) (List P)) (i : ℕ) (w′ : List ℕ) → RepW f w F → finishFromW G f m w i ≡ ringsDone w′ → RepW f w′ (finishFrom (machine G) 2048 512 (enough 2048) m F i)

@@ -48,7 +48,7 @@ wordsOf (outcome a w) = w
 module _ {P : Type 0} (G : Geo P) (f : Coding P) (Λ : Laws G f) where
   pub settings-kept : (w : List ℕ) (i : ℕ) → MayFinish G f w → view (stepW G f w i) (ct SETTINGS) 0 ≡ view w (ct SETTINGS) 0
   unfolding stepS
-  settings-kept w i v = ap (λ (s : Store). s (ct SETTINGS) 0) (view-step G f Λ w i (v .rep .long) (v .rep .rep .sound)) ∙ by (answerS G f (view w) i)
+  settings-kept w i v = ap (λ (s : Store). s (ct SETTINGS) 0) (view-step G f Λ w i (v .rep .long) (v .rep .rep .in-step .sound)) ∙ by (answerS G f (view w) i)
     where
       by : (a : Answer) → stepAnswered G f (view w) i a (ct SETTINGS) 0 ≡ view w (ct SETTINGS) 0
       by ok = settings-after f (view w) i (actAt G f (view w) i)
@@ -60,13 +60,13 @@ module _ {P : Type 0} (G : Geo P) (f : Coding P) (Λ : Laws G f) where
 
   left-is : (w : List ℕ) (F : Forest (Ring P) (List P)) (i : ℕ) (q : Option ℕ) (L : State (Ring P)) → RepW f w F → at (F .entries) i ≡ closedRing q L → left G 2048 512 F i ≡ wordsLeft G f w i
   unfolding left leftOf wordsLeft
-  left-is w F i q L r e = rw (e, r .rep .points-are, here (f .of) G (view w) (view w) F (r .rep) i q L e .now-is)
+  left-is w F i q L r e = rw (e, r .rep .in-step .points-are, here (f .of) (view w) F (r .rep .in-step) i q L e .now-is)
 
   pub words-fall : (w : List ℕ) (i : ℕ) → MayFinish G f w → answerS G f (view w) i ≡ ok → wordsLeft G f (stepW G f w i) i < wordsLeft G f w i
   words-fall w i v e = go (lone.view (machine G) 2048 512 (v .forest) i)
     where
       says : answer (machine G) 2048 512 (v .forest) i ≡ ok
-      says = sym (answer-is G f (view w) (v .forest) (v .rep .rep) i) ∙ e
+      says = sym (answer-is G f (view w) (v .forest) (v .rep .rep .in-step) i) ∙ e
 
       go : Accepted (machine G) 2048 512 (v .forest) i ⊎ Refused (machine G) 2048 512 (v .forest) i → wordsLeft G f (stepW G f w i) i < wordsLeft G f w i
       go (inl g) =
@@ -79,7 +79,7 @@ module _ {P : Type 0} (G : Geo P) (f : Coding P) (Λ : Laws G f) where
   words-bound w i v e = go (lone.view (machine G) 2048 512 (v .forest) i)
     where
       says : answer (machine G) 2048 512 (v .forest) i ≡ ok
-      says = sym (answer-is G f (view w) (v .forest) (v .rep .rep) i) ∙ e
+      says = sym (answer-is G f (view w) (v .forest) (v .rep .rep .in-step) i) ∙ e
 
       go : Accepted (machine G) 2048 512 (v .forest) i ⊎ Refused (machine G) 2048 512 (v .forest) i → wordsLeft G f w i < enough 2048
       go (inl g) = subst (λ (n : ℕ). n < enough 2048) (left-is w (v .forest) i (g .who) (g .state) (v .rep) (g .here)) (bound G 2048 512 (v .forest) i (v .held))

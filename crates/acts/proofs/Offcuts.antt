@@ -25,7 +25,7 @@ use Rattle.store.specs.Good.{total, PointIn, Good, Sound}
 use Rattle.store.specs.Words.{Store}
 use Rattle.store.specs.Stores.{onStore}
 use Rattle.acts.proofs.Positions.{Positioned, Loop, lone-is, good-is, occ-from}
-use Rattle.acts.proofs.Representing.{ActDone}
+use Rattle.acts.proofs.Representing.{SameStart, ActDone}
 use Rattle.acts.specs.Writes.{offcutWrites}
 
 -- two neighbours that are on no ring
@@ -201,7 +201,7 @@ module _ (W : Type 0) (v : W) (s s₁ : Store) (o : Sound s) (i : ℕ) (c : Clos
         points = omega (arith, t .points, takes-is put);
         flags = N .records FLAGS i h₁ not-new ∙ t .flags;
         cut-from = N .records CUT i h₁ not-new ∙ t .cut-from;
-        start-in = λ l. rw (N .records START i h₁ not-new) (omega (arith, t .start-in l));
+        start-is = start (t .start-is);
         ring = λ started. lone-other s₁ (onStore s₁ (offcutWrites s₁ i (s (rc PRESENT) i) y vx vy)) (t .sound) (recs s₁) N i h₁ not-new (rw (t .flags) (c .closed)) ∙ t .ring (λ w h. started w (sym (new-same put) ∙ h));
         made = (
           ap suc (t .made),
@@ -212,5 +212,10 @@ module _ (W : Type 0) (v : W) (s s₁ : Store) (o : Sound s) (i : ℕ) (c : Clos
         );
       }
     where
+      start : (s₁ (rc START) i < pts s) ⊎ SameStart s s₁ i
+          → (onStore s₁ (offcutWrites s₁ i (s (rc PRESENT) i) y vx vy) (rc START) i < pts s) ⊎ SameStart s (onStore s₁ (offcutWrites s₁ i (s (rc PRESENT) i) y vx vy)) i
+      start (inl l) = inl (rw (N .records START i h₁ not-new) l)
+      start (inr k) = inr (record { known = c .known; same = N .records START i h₁ not-new ∙ k .same; looped = λ h. (c, b .looping) })
+
       circle-is : loneAt s i .circle ≡ s (rc PRESENT) i ∷ y ∷ z ∷ u ∷ r
       circle-is = ap (λ (R : Ring ℕ). R .circle) (b .lone-is) ∙ ap (λ (l : List ℕ). s (rc PRESENT) i ∷ l) e

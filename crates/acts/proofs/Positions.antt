@@ -2,7 +2,7 @@
 use Prim.Native.Nat.{ℕ, zero, suc, _≤_, _<_}
 use mathlib.Core.Path.{_≡_, refl, ap, _∙_, sym, subst}
 use mathlib.Core.Logic.{_⊎_}
-use mathlib.Core.Bool.{Bool, true, false}
+use mathlib.Core.Bool.{true, false}
 use mathlib.Core.List.{List, _∷_}
 use mathlib.Core.Option.{Option, none, some}
 use native.Mathlib.Omega.{arith}
@@ -24,6 +24,7 @@ use Rattle.store.specs.Field.{pt, rc, NEXT, PREV, OWNER, FIRST, MARK, PRESENT, 
 use Rattle.store.specs.Sound.{pts, recs, ringless, ringAt, dueAt, dueOf, markOf, Closed, looping, loneDue, loneAt}
 use Rattle.store.specs.Good.{PointIn, Good, Sound}
 use Rattle.store.specs.Words.{Store}
+use Rattle.acts.specs.Rep.{inLoop}
 
 pub due-mark : (d : Due) → dueOf (markOf d) ≡ d
 due-mark validity = refl
@@ -120,19 +121,13 @@ mark-due (suc (suc (suc (suc zero)))) d h e = ap markOf e
 mark-due (suc (suc (suc (suc (suc n))))) d h e = absurd (omega arith)
 
 -- and a record in a loop, before the act
-abbrev pub inLoop : Due → Bool
-inLoop validity = false
-inLoop removal = true
-inLoop triangle = false
-inLoop split = true
-inLoop done = false
-
 pub record Loop (s : Store) (i x : ℕ) (d : Due) : Type 0 where
   pub others : List ℕ
   pub far : ℕ
   pub whole : Whole (s (pt NEXT)) (s (pt PREV)) (pts s) (x ∷ others)
   pub occs : (k : ℕ) → occ k (ringAt s i) ≡ occ k (x ∷ others)
   pub first-at : place (s (rc FIRST) i) (x ∷ others) ≡ some far
+  pub looping : inLoop (dueAt s i) ≡ true
   pub lone-is : loneAt s i ≡ record { circle = x ∷ others; first = far; start = place (s (rc START) i) (x ∷ others); due = d }
 
 pub loop : (s : Store) → Sound s → (i x : ℕ) (d : Due) → Closed s i → s (rc PRESENT) i ≡ x → dueAt s i ≡ d → inLoop d ≡ true → Loop s i x d
@@ -141,7 +136,7 @@ loop s o i x d c px m h =
     let v : Seen (s (pt NEXT)) (s (pt PREV)) (pts s) (s (rc PRESENT) i ∷ t .others) (s (rc FIRST) i) =
     seen _ _ (pts s) (s (rc PRESENT) i ∷ t .others) (s (rc FIRST) i) (o .few-points) (t .whole) (rw (t .occs (s (rc FIRST) i)) (first-on s i (c .ringed))) in
     subst (λ (y : ℕ). Loop s i y d) px
-    (record { others = t .others; far = v .far; whole = t .whole; occs = λ k. sym (t .occs k); first-at = v .is; lone-is = rw (c .ringed, m) (go d h (t .others) (v .far) (t .walked) (v .is)) })
+    (record { others = t .others; far = v .far; whole = t .whole; occs = λ k. sym (t .occs k); first-at = v .is; looping = ap inLoop m ∙ h; lone-is = rw (c .ringed, m) (go d h (t .others) (v .far) (t .walked) (v .is)) })
   where
     going : (due : Due) → inLoop due ≡ true → isDone due ≡ false
     going validity e = refl

@@ -1,7 +1,7 @@
 -- The acts that write a record's progress only: move on, to the first point (a loop begins, or none does), discard.
 use Prim.Native.Nat.{ℕ, suc, _≤_, _<_}
 use mathlib.Core.Path.{_≡_, refl, ap, _∙_, sym, subst}
-use mathlib.Core.Logic.{_≢_, inr}
+use mathlib.Core.Logic.{_≢_, inl, inr}
 use mathlib.Core.Bool.{Bool, true, false}
 use mathlib.Core.List.{List, [], _∷_, _++_}
 use mathlib.Core.Option.{Option, some}
@@ -27,8 +27,9 @@ use Rattle.store.specs.Sound.{pts, recs, ringless, ringAt, dueAt, markOf, Close
 use Rattle.store.specs.Good.{PointIn, Good, Sound}
 use Rattle.store.specs.Words.{Store}
 use Rattle.store.specs.Stores.{onStore}
-use Rattle.acts.proofs.Positions.{Positioned, Loop, loop, inLoop, ringed, occ-from, lone-is, good-is}
+use Rattle.acts.proofs.Positions.{Positioned, Loop, loop, ringed, occ-from, lone-is, good-is}
 use Rattle.acts.proofs.Representing.{ActDone}
+use Rattle.acts.specs.Rep.{inLoop}
 use Rattle.acts.specs.Writes.{moveWrites, toFirstWrites, discardWrites}
 
 -- a store that differs from s in record i's columns only
@@ -121,7 +122,7 @@ module _ (W : Type 0) (s : Store) (o : Sound s) (i : ℕ) (c : Closed s i) where
           points = omega arith;
           flags = refl;
           cut-from = refl;
-          start-in = λ l. l;
+          start-is = inr (record { known = c .known; same = refl; looped = λ k. (c, b .looping) });
           ring = λ h. lone-is s′ i _ _ f st d a ∙ ap (λ (y : List ℕ). tidyAt y f st d) (sym (t .1)) ∙ ap (λ (r : Ring ℕ). tidy (apply (λ (v : W). pts s) (moveOn d) r)) (sym (b .lone-is));
           made = refl;
         }
@@ -151,7 +152,7 @@ module _ (W : Type 0) (s : Store) (o : Sound s) (i : ℕ) (c : Closed s i) where
           points = omega arith;
           flags = refl;
           cut-from = refl;
-          start-in = λ l. rw (hit i x (s (rc START) i)) (b .whole .below x (occ-head x (b .others)));
+          start-is = inl (rw (hit i x (s (rc START) i)) (b .whole .below x (occ-head x (b .others))));
           ring = λ h. lone-is s′ i _ _ 0 (some 0) d a ∙ ap (λ (r : Ring ℕ). tidy (apply (λ (v : W). pts s) (toFirst d) r)) (sym q);
           made = refl;
         }
@@ -179,7 +180,7 @@ module _ (W : Type 0) (s : Store) (o : Sound s) (i : ℕ) (c : Closed s i) where
         points = omega arith;
         flags = refl;
         cut-from = refl;
-        start-in = λ l. l;
+        start-is = inr (record { known = c .known; same = refl; looped = λ k. absurd (no-ring (k .0 .ringed) n) });
         ring = λ h. rw n refl;
         made = refl;
       }

@@ -137,7 +137,7 @@ module _ (W : Type 0) (v : W) (s : Store) (o : Sound s) (i : ℕ) (c : Closed s 
         points = omega arith;
         flags = refl;
         cut-from = refl;
-        start-in = λ l. omega arith;
+        start-is = inr (record { known = c .known; same = refl; looped = λ k. (c, b .looping) });
         ring = λ started. lone-is (onStore s (cutPutWrites s i vx vy d)) i _ _ _ _ d positioned
             ∙ ap (λ (st : Option ℕ). tidyAt (lastOf u r ∷ pts s ∷ z ∷ initOf u r) 0 st d) (place-cut true (pts s) (s (rc START) i) (s (rc PRESENT) i) y z u r (q .whole .once) (started v refl))
             ∙ ap (λ (l : List ℕ). tidy (apply (λ (v : W). pts s) (cut v true false d) (record { circle = s (rc PRESENT) i ∷ l; first = b .far; start = place (s (rc START) i) (s (rc PRESENT) i ∷ l); due = d₀ }))) (sym e)

@@ -2,9 +2,10 @@
 pub mod Writes
 pub mod Apply
 pub mod Codes
-pub mod Rep
 pub mod Value
 pub mod Step
+pub mod InStep
+pub mod Rep
 pub mod Run
 pub mod Opened
 pub mod Finish

@@ -1,6 +1,5 @@
 -- The laws of a step on a work space that others altered.
-pub mod Holding
-pub mod Stepping
+pub mod OwnForest
 pub mod Starts
 pub mod Theorem
 pub mod Needed

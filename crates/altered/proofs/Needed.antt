@@ -21,11 +21,12 @@ use Rattle.store.specs.Sound.{recs, loneAt}
 use Rattle.store.specs.Value.{wordOf}
 use Rattle.audit.specs.declared.Verdict.the-variants.{Passed}
 use Rattle.audit.specs.Tests.{anyBelow, reach, reachedBy, testsOf}
+use Rattle.acts.specs.InStep.{Holds, no-ring, an-open, a-closed}
 use Rattle.acts.specs.Step.{answerS, stepW}
 use Rattle.turns.specs.Form.{raised}
 use Rattle.finishing.specs.Step.{stepOf}
 use Rattle.finishing.specs.Run.{runOf}
-use Rattle.altered.specs.InStep.{Holds, no-ring, an-open, a-closed, forestOf}
+use Rattle.altered.specs.OwnForest.{forestOf}
 use Rattle.altered.specs.Altered.{HoldsForest, ringsOf}
 
 abbrev point : ℕ → ℕ → ℕ → ℕ → ℕ → List Write

@@ -19,17 +19,17 @@ use Rattle.audit.specs.Tests.{testsOf}
 use Rattle.audit.proofs.Agreeing.{passed-sound, sound-passed}
 use Rattle.acts.specs.Step.{answerS, stepW}
 use Rattle.acts.specs.Run.{stepS}
-use Rattle.acts.proofs.Stepping.{length-step, view-step}
+use Rattle.acts.specs.InStep.{InStep}
+use Rattle.acts.proofs.Stepping.{length-step, view-step, answer-is, step-is}
 use Rattle.turns.specs.Form.{raised, geometryOf}
 use Rattle.turns.proofs.Ready.{laws}
 use Rattle.finishing.specs.Step.{Left, left, steppedAs, stepBy, stepOf}
 use Rattle.finishing.specs.Run.{runOf}
 use Rattle.finishing.proofs.Entering.{long-step}
 use Rattle.order.proofs.Settings.{step-settings}
-use Rattle.altered.specs.InStep.{InStep, Settled}
+use Rattle.altered.specs.OwnForest.{Settled}
 use Rattle.altered.specs.Altered.{HoldsForest, StepIs, Altered}
-use Rattle.altered.proofs.Holding.{own-forest}
-use Rattle.altered.proofs.Stepping.{answer-is, step-is}
+use Rattle.altered.proofs.OwnForest.{own-forest}
 use Rattle.altered.proofs.Starts.{elsewhere, settled-step}
 
 module _ (w : List ℕ) (l : LENGTH ≤ length w) (o : Sound (view w)) (i : ℕ) where

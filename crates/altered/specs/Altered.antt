@@ -9,10 +9,11 @@ use Rattle.lone.specs.Forest.{Machine, Forest, answer, stepForest, runForest}
 use Rattle.lone.specs.Plane.{loneRing}
 use Rattle.store.specs.Words.{view}
 use Rattle.store.specs.Value.{preserveCollinear}
+use Rattle.acts.specs.InStep.{InStep, Elsewhere}
 use Rattle.turns.specs.Form.{raised, geometryOf}
 use Rattle.finishing.specs.Step.{steppedAs, stepOf}
 use Rattle.finishing.specs.Run.{runOf}
-use Rattle.altered.specs.InStep.{InStep, forestOf, Elsewhere, Settled}
+use Rattle.altered.specs.OwnForest.{forestOf, Settled}
 
 -- the words hold this forest
 abbrev pub HoldsForest : List ℕ → Forest (Ring Point) (List Point) → Type 0

@@ -4,5 +4,6 @@ pub mod Marking
 pub mod Reaching
 pub mod Saying
 pub mod Deciding
+pub mod Trying
 pub mod Agreeing
 mod Examples

@@ -75,6 +75,11 @@ module _ (w : List ℕ) (h : pointsOf w ≤ limit.POINTS) where
   unfolding pointsTested linksOf testsOf
   tested-is e = rw (e, any-marked-is Table, any-marked-is Numbers, any-marked-is Links, meets-is)
 
+-- before the walks no point is marked
+pub blank : (w : List ℕ) (k : ℕ) → isMarked (marksBy w 0) k ≡ false
+unfolding marksBy
+blank w k = none-marked .is k
+
 -- ---- as the code asks
 
 pub no-marks : (w : List ℕ) → replicate {A = ℕ} limit.POINTS 0 ≡ marksBy w 0

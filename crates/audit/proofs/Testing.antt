@@ -21,7 +21,7 @@ use Rattle.audit.specs.declared.Verdict.{Verdict}
 use Rattle.audit.specs.declared.Verdict.the-variants.{Passed, Refused}
 use Rattle.audit.specs.declared.PointTest.the-variants.{Table, Numbers, Links}
 use Rattle.audit.specs.Tests.{isIn, anyBelow, anyRecord, crowded, noSuchOf, misplaced, testsOf}
-use Rattle.audit.specs.Marks.{isMarked, markFrom, marksBy, meets, AllMarked, anyMarked, linksOf, pointsTested}
+use Rattle.audit.specs.Marks.{isMarked, markFrom, marksBy, meets, AllMarked, anyMarked, linksOf, passesOf, recordsOnly, pointsTested}
 
 -- ---- the first number below n that fails
 
@@ -178,17 +178,25 @@ module _ (w ms : List ℕ) (s a : Bool) (ea : a ≡ (anyMarked w ms Numbers || a
       unfolding linksOf
       says-passed h = rw (sym ea ∙ ha, sym eb ∙ hb, hs, sym ed ∙ h)
 
-module _ (w ms : List ℕ) (s a : Bool) (m : AllMarked w ms s) (ea : a ≡ anyMarked w ms Table) where
-  here : anyMarked w (marksBy w (recordsOf w)) Table ≡ a
-  here = sym (ea ∙ ap (λ (l : List ℕ). anyMarked w l Table) (m .marks))
+pub says-off : (w ms : List ℕ) (s a : Bool) → a ≡ anyMarked w ms Table → a ≡ true → Refused OffTheTable ≡ passesOf w ms s
+says-off w ms s a e h = rw (sym e ∙ h)
 
-  pub says-off : a ≡ true → Refused OffTheTable ≡ pointsTested w
-  unfolding pointsTested
-  says-off h = rw (here ∙ h)
+pub says-links : (w ms : List ℕ) (s a : Bool) (r : Verdict) → a ≡ anyMarked w ms Table → a ≡ false → r ≡ linksOf w ms s → r ≡ passesOf w ms s
+says-links w ms s a r e h g = rw (sym e ∙ h) g
 
-  pub says-links : (r : Verdict) → a ≡ false → r ≡ linksOf w ms s → r ≡ pointsTested w
-  unfolding pointsTested
-  says-links r h e = rw (here ∙ h) (e ∙ ap (λ (l : List ℕ). linksOf w l s) (m .marks) ∙ ap (linksOf w (marksBy w (recordsOf w))) (m .shares))
+module _ (w : List ℕ) (s a : Bool) (ea : a ≡ anyRecord w (noSuchOf w)) where
+  pub only-no-such : a ≡ true → Refused NoSuch ≡ recordsOnly w s
+  only-no-such h = rw (sym ea ∙ h)
+
+  pub only-shared : a ≡ false → s ≡ true → Refused Muddled ≡ recordsOnly w s
+  only-shared h k = rw (sym ea ∙ h, k)
+
+  module _ (ha : a ≡ false) (hs : s ≡ false) (d : Bool) (ed : d ≡ anyRecord w (misplaced w)) where
+    pub only-misplaced : d ≡ true → Refused Muddled ≡ recordsOnly w s
+    only-misplaced h = rw (sym ea ∙ ha, hs, sym ed ∙ h)
+
+    pub only-passed : d ≡ false → Passed ≡ recordsOnly w s
+    only-passed h = rw (sym ea ∙ ha, hs, sym ed ∙ h)
 
 pub says-crowded : (w : List ℕ) (b : Bool) → b ≡ crowded w → b ≡ true → Refused Crowded ≡ testsOf w
 unfolding testsOf

@@ -1,7 +1,7 @@
 -- The tests as the code goes through them: one mark for each point, set by the walks, and a test by its name.
 use Prim.Native.Nat.{ℕ, zero, suc, _≤_}
 use mathlib.Core.Path.{_≡_}
-use mathlib.Core.Bool.{Bool, cond, not, _&&_, _||_}
+use mathlib.Core.Bool.{Bool, true, false, cond, not, _&&_, _||_}
 use mathlib.Core.List.{List}
 use lib.Dec.{eqb, ltb}
 use lib.ListN.{length, getD, set, replicate}
@@ -44,12 +44,25 @@ meets w i = isMarked (marksBy w i) (firstOf w i)
 -- what `mark_all` leaves: the marks of every reached point, and whether two records share a ring
 pub record AllMarked (w ms : List ℕ) (r : Bool) : Type 0 where
   pub marks : ms ≡ marksBy w (recordsOf w)
-  pub shares : r ≡ anyBelow (recordsOf w) (meets w)
+  pub shares : r ≡ anyBelow (recordsOf w) (λ i. meets w i)
 
 abbrev pub fails : PointTest → List ℕ → ℕ → Bool
 fails Table w k = offTable w k
 fails Numbers w k = noSuch w k
 fails Links w k = loose w k
+
+-- a point fails one of the three
+abbrev pub faulty : List ℕ → ℕ → Bool
+faulty w k = offTable w k || (noSuch w k || loose w k)
+
+-- of the points that walks have marked, whether one is faulty: if none was found, none is
+pub record Tried (w ms ms′ : List ℕ) (r : Bool) : Type 0 where
+  pub good : r ≡ false → (k : ℕ) → isMarked ms′ k ≡ true → isMarked ms k ≡ false → faulty w k ≡ false
+
+-- what `mark_from` leaves
+pub record MarkedFrom (w ms : List ℕ) (a : ℕ) (ms′ : List ℕ) (r : Bool) : Type 0 where
+  pub marks : ms′ ≡ markFrom limit.POINTS (nextOf w) (pointsOf w) ms a
+  pub tried : Tried w ms ms′ r
 
 abbrev pub failsOf : RecordTest → List ℕ → ℕ → Bool
 failsOf Named w i = noSuchOf w i
@@ -62,11 +75,16 @@ anyMarked w ms t = anyBelow (pointsOf w) (λ k. isMarked ms k && fails t w k)
 -- the tests by the marks; whether records share a ring is known by then
 unfoldable pub linksOf : List ℕ → List ℕ → Bool → Verdict
 linksOf w ms shares =
-    cond (anyMarked w ms Numbers || anyRecord w (noSuchOf w)) (Refused NoSuch)
+    cond (anyMarked w ms Numbers || anyRecord w (λ i. noSuchOf w i)) (Refused NoSuch)
     (cond (anyMarked w ms Links) (Refused Loose)
-    (cond (shares || anyRecord w (misplaced w)) (Refused Muddled) Passed))
+    (cond (shares || anyRecord w (λ i. misplaced w i)) (Refused Muddled) Passed))
+
+abbrev pub passesOf : List ℕ → List ℕ → Bool → Verdict
+passesOf w ms shares = cond (anyMarked w ms Table) (Refused OffTheTable) (linksOf w ms shares)
+
+-- the same where no marked point fails a test
+abbrev pub recordsOnly : List ℕ → Bool → Verdict
+recordsOnly w shares = cond (anyRecord w (λ i. noSuchOf w i)) (Refused NoSuch) (cond (shares || anyRecord w (λ i. misplaced w i)) (Refused Muddled) Passed)
 
 unfoldable pub pointsTested : List ℕ → Verdict
-pointsTested w =
-    let ms : List ℕ = marksBy w (recordsOf w) in
-    cond (anyMarked w ms Table) (Refused OffTheTable) (linksOf w ms (anyRecord w (meets w)))
+pointsTested w = passesOf w (marksBy w (recordsOf w)) (anyRecord w (λ i. meets w i))

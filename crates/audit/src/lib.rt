@@ -14,7 +14,7 @@ ghost use Rattle.store.specs.Field.{LENGTH};
 ghost use Rattle.store.specs.Named.{pointsOf, recordsOf, nextOf, ringOf};
 ghost use Rattle.audit.specs.Tests.{isIn, anyBelow, offTable, noSuch, noSuchOf, namesNothing, loose, misplaced, crowded, anyRecord, testsOf};
 ghost use Rattle.audit.specs.declared.PointTest.the-variants.{Numbers};
-ghost use Rattle.audit.specs.Marks.{Counted, isMarked, markFrom, marksBy, AllMarked, fails, failsOf, anyMarked, linksOf, pointsTested};
+ghost use Rattle.audit.specs.Marks.{Counted, isMarked, markFrom, marksBy, AllMarked, fails, faulty, failsOf, Tried, MarkedFrom, anyMarked, linksOf, passesOf, recordsOnly, pointsTested};
 
 // The word of the largest coordinate.
 const FAR: usize = 2 * (Job::COORDINATE as usize);
@@ -58,45 +58,6 @@ fn is_marked(marks: &[u8; Job::POINTS], k: usize) -> bool
         return marks[k] != 0;
     }
     false
-}
-
-// Marks the points from a on, up to a number that names no point or to a marked one.
-fn mark_from(w: &[u32], marks: &mut [u8; Job::POINTS], a: usize)
-    requires { ⌜ Counted (now w) ⌝ }
-    ensures { λ _. ⌜ now (marks .exit) ≡ markFrom limit.POINTS (nextOf (now (w .entry))) (pointsOf (now (w .entry))) (now (marks .entry)) a ⌝ }
-{
-    let m = get(w, Col::Points, 0);
-    let mut p = a;
-    let mut left: usize = Job::POINTS;
-    while 0 < left {
-        if m <= p {
-            return;
-        }
-        if marks[p] != 0 {
-            return;
-        }
-        marks[p] = 1;
-        p = get(w, Col::Next, p);
-        left -= 1;
-    }
-}
-
-// Marks every reached point; answers whether a first point was marked from an earlier record's.
-fn mark_all(w: &[u32], marks: &mut [u8; Job::POINTS]) -> bool
-    requires { ⌜ Counted (now w) × (now marks ≡ marksBy (now w) 0) ⌝ }
-    ensures { λ r. ⌜ AllMarked (now (w .entry)) (now (marks .exit)) r ⌝ }
-{
-    let n = get(w, Col::Records, 0);
-    let mut shared = false;
-    let mut i: usize = 0;
-    while i < n {
-        let a = get(w, Col::First, i);
-        let met = is_marked(marks, a);
-        shared = shared | met;
-        mark_from(w, marks, a);
-        i += 1;
-    }
-    shared
 }
 
 // ---- the tests of a reached point
@@ -147,6 +108,73 @@ pub fn point_fails(w: &[u32], t: PointTest, k: usize) -> bool
         PointTest::Links => {
             return loose(w, k);
         }
+    }
+}
+
+// ---- the walks: points are marked, and tested as they are met
+
+// Whether a point fails one of the three tests.
+fn is_faulty(w: &[u32], k: usize) -> bool
+    requires { ⌜ LENGTH ≤ length (now w) ⌝ }
+    ensures { λ r. ⌜ r ≡ faulty (now (w .entry)) k ⌝ }
+{
+    let a = off_table(w, k);
+    let b = no_such(w, k);
+    let c = loose(w, k);
+    a | (b | c)
+}
+
+// Marks the points from a on, up to a number that names no point or to a marked one: does one of them fail a test?
+fn mark_from(w: &[u32], marks: &mut [u8; Job::POINTS], a: usize) -> bool
+    requires { ⌜ Counted (now w) ⌝ }
+    ensures { λ r. ⌜ MarkedFrom (now (w .entry)) (now (marks .entry)) a (now (marks .exit)) r ⌝ }
+{
+    let m = get(w, Col::Points, 0);
+    let mut bad = false;
+    let mut p = a;
+    let mut left: usize = Job::POINTS;
+    while 0 < left {
+        if m <= p {
+            return bad;
+        }
+        if marks[p] != 0 {
+            return bad;
+        }
+        marks[p] = 1;
+        let failed = is_faulty(w, p);
+        bad = bad | failed;
+        p = get(w, Col::Next, p);
+        left -= 1;
+    }
+    bad
+}
+
+// What the walks from all first points find: whether one was marked from an earlier record's, and whether a point fails a test.
+struct Walks {
+    shared: bool,
+    bad: bool,
+}
+
+// Marks every reached point.
+fn mark_all(w: &[u32], marks: &mut [u8; Job::POINTS]) -> Walks
+    requires { ⌜ Counted (now w) × (now marks ≡ marksBy (now w) 0) ⌝ }
+    ensures { λ r. ⌜ AllMarked (now (w .entry)) (now (marks .exit)) (r .shared) × Tried (now (w .entry)) (now (marks .entry)) (now (marks .exit)) (r .bad) ⌝ }
+{
+    let n = get(w, Col::Records, 0);
+    let mut shared = false;
+    let mut bad = false;
+    let mut i: usize = 0;
+    while i < n {
+        let a = get(w, Col::First, i);
+        let met = is_marked(marks, a);
+        shared = shared | met;
+        let failed = mark_from(w, marks, a);
+        bad = bad | failed;
+        i += 1;
+    }
+    Walks {
+        shared: shared,
+        bad: bad,
     }
 }
 
@@ -310,18 +338,48 @@ fn links_of(w: &[u32], marks: &[u8; Job::POINTS], shares: bool) -> Verdict
     Verdict::Passed
 }
 
-// The tests after the counts.
+// The tests after the counts, one after the other.
+fn passes_of(w: &[u32], marks: &[u8; Job::POINTS], shares: bool) -> Verdict
+    requires { ⌜ LENGTH ≤ length (now w) ⌝ }
+    ensures { λ r. ⌜ r ≡ passesOf (now (w .entry)) (now (marks .entry)) shares ⌝ }
+{
+    let a = any_marked(w, marks, PointTest::Table);
+    if a {
+        return Verdict::Refused(Refusal::OffTheTable);
+    }
+    links_of(w, marks, shares)
+}
+
+// The tests of the records, where no reached point fails one.
+fn records_of(w: &[u32], shares: bool) -> Verdict
+    requires { ⌜ LENGTH ≤ length (now w) ⌝ }
+    ensures { λ r. ⌜ r ≡ recordsOnly (now (w .entry)) shares ⌝ }
+{
+    let a = any_record(w, RecordTest::Named);
+    if a {
+        return Verdict::Refused(Refusal::NoSuch);
+    }
+    if shares {
+        return Verdict::Refused(Refusal::Muddled);
+    }
+    let d = any_record(w, RecordTest::Placed);
+    if d {
+        return Verdict::Refused(Refusal::Muddled);
+    }
+    Verdict::Passed
+}
+
+// The tests after the counts: where the walks met a point that fails one, all of them again, in their order.
 fn points_of(w: &[u32]) -> Verdict
     requires { ⌜ Counted (now w) ⌝ }
     ensures { λ r. ⌜ r ≡ pointsTested (now (w .entry)) ⌝ }
 {
     let mut marks = [0u8; Job::POINTS];
-    let shares = mark_all(w, &mut marks);
-    let a = any_marked(w, &marks, PointTest::Table);
-    if a {
-        return Verdict::Refused(Refusal::OffTheTable);
+    let walks = mark_all(w, &mut marks);
+    if walks.bad {
+        return passes_of(w, &marks, walks.shared);
     }
-    links_of(w, &marks, shares)
+    records_of(w, walks.shared)
 }
 
 // The tests of a work space that a step, or writing out after steps, is handed.

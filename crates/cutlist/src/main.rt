@@ -1,12 +1,12 @@
 // The listing of the job on standard input, on standard output, with the charge at the rate that is the program's argument, if there is one: `list_job` does the
 // work, and `main` only reads, calls and writes.
-use deciding::DECIDES;
 use job_listing::list_job;
 use libc::STDIN_FILENO;
 use libc::STDOUT_FILENO;
 use listing::Listed;
 use listing::TEXT;
 use paths::TRAY;
+use prefix::DECIDES;
 use rates::Rate;
 use rates::rate_of;
 use store::LENGTH;

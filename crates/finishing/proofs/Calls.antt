@@ -11,6 +11,7 @@ use Rattle.lone.specs.Forest.{Answer}
 use Rattle.store.specs.Field.{LENGTH}
 use Rattle.store.specs.Words.{view}
 use Rattle.store.specs.Sound.{recs}
+use Rattle.store.specs.Good.{SoundWords}
 use Rattle.audit.specs.declared.Verdict.{Verdict}
 use Rattle.audit.specs.declared.Verdict.the-variants as verdict
 use Rattle.audit.specs.Tests.{anyBelow, testsOf}
@@ -18,14 +19,12 @@ use Rattle.audit.proofs.Agreeing.{passed-sound}
 use Rattle.acts.specs.Run as acts
 use Rattle.acts.specs.Step.{outcome, live, answerS, stepW}
 use Rattle.turns.specs.Form.{raised, geometryOf}
-use Rattle.turns.specs.Reads.{SoundWords}
-use Rattle.turns.specs.declared.Answer as code
-use Rattle.turns.specs.declared.Answer.the-variants as answers
-use Rattle.turns.specs.Code.{answerIs}
+use Rattle.steps.specs.declared.Answer as code
+use Rattle.steps.specs.declared.Answer.the-variants as answers
+use Rattle.steps.specs.Code.{answerIs}
 use Rattle.paths.specs.declared.Written.{Written}
 use Rattle.paths.specs.declared.Written.the-variants as written
 use Rattle.paths.specs.Wrote.{wrote, buildPaths64}
-use Rattle.paths.specs.Walking.{Ready}
 use Rattle.finishing.specs.declared.Stepped.{Stepped}
 use Rattle.finishing.specs.declared.Stepped.the-variants.{Refused}
 use Rattle.finishing.specs.Tested.{Tested}
@@ -40,9 +39,6 @@ tested w v l e p = record { long = l; passed = sym e ∙ p }
 
 pub sound-words : (w : List ℕ) → Tested w → SoundWords w
 sound-words w t = record { long = t .long; sound = passed-sound w (t .passed) }
-
-pub ready-words : (w : List ℕ) → Tested w → Ready w
-ready-words w t = record { long = t .long; sound = passed-sound w (t .passed) }
 
 pub long-words : (w : List ℕ) → SoundWords w → LENGTH ≤ length w
 long-words w s = s .long

@@ -7,16 +7,16 @@ use Rattle.job.specs.declared.refusal.Refusal.{Refusal}
 use Rattle.job.specs.declared.refusal.Refusal.the-variants as refusal
 use Rattle.store.specs.Words.{view}
 use Rattle.store.specs.Value.{preserveCollinear}
+use Rattle.store.specs.Good.{SoundWords}
 use Rattle.acts.proofs.Finished.{finish-done}
 use Rattle.turns.specs.Form.{raised, geometryOf}
-use Rattle.turns.specs.declared.RingsEnd as code
-use Rattle.turns.specs.declared.RingsEnd.the-variants.{Done, Full}
-use Rattle.turns.specs.Code.{endIs}
+use Rattle.steps.specs.declared.RingsEnd as code
+use Rattle.steps.specs.declared.RingsEnd.the-variants.{Done, Full}
+use Rattle.steps.specs.Code.{endIs}
 use Rattle.turns.proofs.Ready.{laws}
 use Rattle.acts.specs.Finish.{RingsEnd, ringsDone, finishW}
 use Rattle.paths.specs.declared.Written.{Written}
 use Rattle.paths.specs.declared.Written.the-variants.{Paths, Refused}
-use Rattle.paths.specs.Walking.{Ready}
 use Rattle.paths.specs.Wrote.{Wrote, wrote, buildPaths64}
 use Rattle.finishing.specs.Opened.{OpeningLeft}
 use Rattle.finishing.specs.Finish.{finishRings}
@@ -46,18 +46,18 @@ module _ (w t t₁ : List ℕ) (r : Written) (e : wrote r t₁ ≡ buildPaths64 
 -- ---- the rings are finished
 
 -- rings that are done may be written out
-pub done-ready : (w w₁ : List ℕ) → OpeningLeft w → finishRings w ≡ ringsDone w₁ → Ready w₁
+pub done-ready : (w w₁ : List ℕ) → OpeningLeft w → finishRings w ≡ ringsDone w₁ → SoundWords w₁
 unfolding finishRings
 done-ready w w₁ o e =
     let r = finish-done (geometryOf (view w)) raised (laws (preserveCollinear (view w))) w _ w₁ (start-rep w o) e in
-    record { long = r .long; sound = r .rep .sound }
+    record { long = r .long; sound = r .rep .in-step .sound }
 
 module _ (w w₁ t : List ℕ) (a : code.RingsEnd) (e : endIs a w₁ ≡ finishW (geometryOf (view w)) raised w) where
   stepped-as : afterSteps (endIs a w₁) t ≡ afterSteps (finishRings w) t
   unfolding finishRings
   stepped-as = ap (λ (o : RingsEnd). afterSteps o t) e
 
-  pub may-write : OpeningLeft w → a ≡ Done → Ready w₁
+  pub may-write : OpeningLeft w → a ≡ Done → SoundWords w₁
   unfolding finishRings
   may-write o h = done-ready w w₁ o (sym e ∙ ap (λ (b : code.RingsEnd). endIs b w₁) h)
 

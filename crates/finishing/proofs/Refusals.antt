@@ -63,7 +63,7 @@ JudgedTo m verdict.Passed = Unit {0}
 JudgedTo m (verdict.Refused x) = numberOf x ≤ m
 
 abbrev FilledTo : ℕ → fill.ReadEnd → Type 0
-FilledTo m (fill.end (outcome.State j) w ss js) = Unit {0}
+FilledTo m (fill.end (outcome.Ok j) w ss js) = Unit {0}
 FilledTo m (fill.end (outcome.Refused x) w ss js) = numberOf x ≤ m
 
 field-rows : (j : Job) (s : List ℕ) → ReadTo 8 (fieldOf j s)
@@ -91,7 +91,7 @@ taken-rows (reading.Read f n) j w ss js h = placed-rows f n j w ss js
 taken-rows (reading.Refused x) j w ss js h = h
 
 follow-rows : (f : Job → List ℕ → List ℕ → List ℕ → fill.ReadEnd) → ((j : Job) (w ss js : List ℕ) → FilledTo 8 (f j w ss js)) → (e : fill.ReadEnd) → FilledTo 8 e → FilledTo 8 (follow f e)
-follow-rows f g (fill.end (outcome.State j) w ss js) h = g j w ss js
+follow-rows f g (fill.end (outcome.Ok j) w ss js) h = g j w ss js
 follow-rows f g (fill.end (outcome.Refused x) w ss js) h = h
 
 run-rows : (k : ℕ) (bytes : List ℕ) (j : Job) (w ss js : List ℕ) → FilledTo 8 (run k bytes j w ss js)
@@ -101,7 +101,7 @@ run-rows (suc k) bytes j w ss js =
     go (ltb (j .at) (length bytes)) (follow (run k bytes) (turnOf bytes j w ss js))
     (follow-rows (run k bytes) (run-rows k bytes) (turnOf bytes j w ss js) (taken-rows (fieldOf j (drop (j .at) bytes)) j w ss js (field-rows j (drop (j .at) bytes))))
   where
-    go : (b : Bool) (e : fill.ReadEnd) → FilledTo 8 e → FilledTo 8 (cond b e (fill.end (outcome.State j) w ss js))
+    go : (b : Bool) (e : fill.ReadEnd) → FilledTo 8 e → FilledTo 8 (cond b e (fill.end (outcome.Ok j) w ss js))
     go true e h = h
     go false e h = tt
 
@@ -114,7 +114,7 @@ fill-rows bytes w ss js = go (eqb (length bytes) 0) (run (suc (length bytes)) by
     go false e h = h
 
 count-rows : (e : fill.ReadEnd) → FilledTo 8 e → FilledTo 8 (withCounts e)
-count-rows (fill.end (outcome.State j) w ss js) h = tt
+count-rows (fill.end (outcome.Ok j) w ss js) h = tt
 count-rows (fill.end (outcome.Refused x) w ss js) h = h
 
 rows-rows : (w ss : List ℕ) (m : ℕ) (js : List ℕ) (n : ℕ) → JudgedTo 8 (rowsOf w ss m js n)
@@ -131,7 +131,7 @@ rows-rows w ss m js n = go (offTheTable w) (noSuchNumber w ss m js n) (looseLink
     go false false false false false = tt
 
 judged-rows : (e : fill.ReadEnd) → FilledTo 8 e → FilledTo 8 (judged e)
-judged-rows (fill.end (outcome.State j) w ss js) h = go (rowsOf w ss (j .segments) js (j .joins)) (rows-rows w ss (j .segments) js (j .joins))
+judged-rows (fill.end (outcome.Ok j) w ss js) h = go (rowsOf w ss (j .segments) js (j .joins)) (rows-rows w ss (j .segments) js (j .joins))
   where
     go : (v : Verdict) → JudgedTo 8 v → FilledTo 8 (fill.end (answer v j) w ss js)
     go verdict.Passed k = tt
@@ -154,7 +154,7 @@ segments-rows (made (converted.Joins k) w js) = joins-rows (processHorzJoins k j
 segments-rows (made converted.Full w js) = omega arith
 
 stages-rows : (e : fill.ReadEnd) → FilledTo 8 e → OpenedTo 10 (afterRows e)
-stages-rows (fill.end (outcome.State j) w ss js) h = segments-rows (convertHorzSegsToJoins w (j .segments) ss js (j .joins))
+stages-rows (fill.end (outcome.Ok j) w ss js) h = segments-rows (convertHorzSegsToJoins w (j .segments) ss js (j .joins))
 stages-rows (fill.end (outcome.Refused x) w ss js) h = omega (arith, h)
 
 settled-rows : (n : ℕ) (e : End) → OpenedTo 10 e → OpenedTo 10 (settled n e)

@@ -19,7 +19,8 @@ use Rattle.store.specs.Sound.{pts, recs, ringAt, dueAt, loneDue, loneAt}
 use Rattle.store.specs.Sound as store
 use Rattle.store.proofs.Soundness.{whole, from-first}
 use Rattle.acts.specs.Opened.{records}
-use Rattle.acts.specs.Rep.{Shows, as-ringless, as-open, as-closed, RepW}
+use Rattle.acts.specs.InStep.{Holds, no-ring, an-open, a-closed}
+use Rattle.acts.specs.Rep.{RepW}
 use Rattle.acts.specs.Value.{value}
 use Rattle.acts.specs.Finishable.{MayFinish}
 use Rattle.acts.proofs.Opening.{opening-rep}
@@ -43,24 +44,24 @@ module _ (w : List ℕ) (o : OpeningLeft w) where
     held-ring [] h = record { on-ring = (omega arith, tt); has-start = tt; short = omega arith }
     held-ring (x ∷ c) h = record { on-ring = (omega arith, tt); has-start = tt; short = rw (length-map c (value (raised .of) (view w))) h }
 
-    held-lone : Held (pts (view w)) (mapRing (value (raised .of) (view w)) (loneAt (view w) i))
-    held-lone = go (store.ringless (view w) i) refl
+    held-lone : store.isOpen (view w) i ≡ false → Held (pts (view w)) (mapRing (value (raised .of) (view w)) (loneAt (view w) i))
+    held-lone shut = go (store.ringless (view w) i) refl
       where
         go : (b : Bool) → store.ringless (view w) i ≡ b → Held (pts (view w)) (mapRing (value (raised .of) (view w)) (cond b gone (loneDue (view w) i (dueAt (view w) i))))
         go true e = record { on-ring = (omega arith, tt); has-start = tt; short = omega arith }
-        go false e = rw (o .fresh i l .mark-is) (held-ring (walk (view w (pt NEXT)) (view w (rc FIRST) i)) (subst (λ (c : List ℕ). length c ≤ pts (view w)) (from-first (view w) i e) short))
+        go false e = rw (o .fresh i l .mark-is e shut) (held-ring (walk (view w (pt NEXT)) (view w (rc FIRST) i)) (subst (λ (c : List ℕ). length c ≤ pts (view w)) (from-first (view w) i e) short))
 
-    held-shown : (e : Entry (Ring Point) (List Point)) → Shows (raised .of) (view w) i e → OfClosed (Held (pts (view w))) e
-    held-shown e (as-ringless a b) = tt
-    held-shown e (as-open c a b d) = tt
-    held-shown e (as-closed q L a b t m) = subst (Held (pts (view w))) (sym m) held-lone
+    held-shown : (e : Entry (Ring Point) (List Point)) → Holds (raised .of) (view w) i e → OfClosed (Held (pts (view w))) e
+    held-shown e (no-ring a) = tt
+    held-shown e (an-open c a d) = tt
+    held-shown e (a-closed q L a b m) = subst (Held (pts (view w))) (sym m) (held-lone a)
 
   pub held : HeldIn POINTS F₀
   held = record { within = o .sound .few-points; every = λ i. each i (decLt i (recs (view w))) }
     where
       each : (i : ℕ) → Dec (i < recs (view w)) → OfClosed (Held (pts (view w))) (at (F₀ .entries) i)
-      each i (yes l) = held-shown i l (at (F₀ .entries) i) (start-rep .rep .shows i l)
-      each i (no n) = rw (List·getD-eq-default (F₀ .entries) ringless {n = i} (omega (arith, start-rep .rep .records-are))) tt
+      each i (yes l) = held-shown i l (at (F₀ .entries) i) (start-rep .rep .in-step .holds i l)
+      each i (no n) = rw (List·getD-eq-default (F₀ .entries) ringless {n = i} (omega (arith, start-rep .rep .in-step .records-are))) tt
 
   pub finishes : MayFinish (geometryOf (view w)) raised w
   finishes = record { forest = F₀; rep = start-rep; held = held }

@@ -5,12 +5,12 @@ use opening::open::Opened;
 use opening::open::open;
 use paths::Written;
 use paths::build_paths64;
-use turns::RingsEnd;
-use turns::finish::finish_records;
+use steps::RingsEnd;
+use steps::finish::finish_records;
 ghost use mathlib.Core.Path.{_≡_};
 ghost use lib.ListN.{length};
 ghost use Rattle.store.specs.Words.{view};
-ghost use Rattle.paths.specs.Walking.{Ready};
+ghost use Rattle.store.specs.Good.{SoundWords};
 ghost use Rattle.paths.specs.Wrote.{buildPaths64};
 ghost use Rattle.finishing.specs.Opened.{OpeningLeft};
 ghost use Rattle.finishing.specs.Finish.{finishRings};
@@ -27,7 +27,7 @@ fn refuse(x: Refusal, work: &mut [u32], tray: &mut [u8]) -> Written
 
 // The paths of rings that are done.
 fn write_finished(work: &mut [u32], tray: &mut [u8]) -> Written
-    requires { ⌜ Ready (now work) ⌝ }
+    requires { ⌜ SoundWords (now work) ⌝ }
     ensures { λ r. ⌜ finished r (now (work .exit)) (now (tray .exit)) ≡ afterWriting (now (work .entry)) (buildPaths64 (view (now (work .entry))) (now (tray .entry)) .answer) (buildPaths64 (view (now (work .entry))) (now (tray .entry)) .tray) ⌝ }
 {
     let r = build_paths64(work, tray);

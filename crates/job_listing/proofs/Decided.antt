@@ -4,8 +4,8 @@ use mathlib.Core.List.{List}
 use Prim.Native.Nat.{ℕ}
 use lib.ListN.{take}
 use Rattle.rates.specs.declared.Rate.{Rate}
-use Rattle.deciding.specs.Decides.{DECIDES}
-use Rattle.deciding.proofs.Decided.{finish-decided}
+use Rattle.prefix.specs.Decides.{DECIDES}
+use Rattle.prefix.proofs.Decided.{finish-decided}
 use Rattle.job_listing.specs.Cutlist.{listedFrom, cutlistOf}
 
 pub cutlist-decided : (rate : Rate) (bytes : List ℕ) (n : ℕ) (t : List ℕ) → cutlistOf rate (take DECIDES bytes) n t ≡ cutlistOf rate bytes n t

@@ -1,7 +1,8 @@
 -- A job's listing has at most `TEXT` bytes: so a program that lends as many always has room for it.
 use Prim.Native.Nat.{ℕ, _≤_}
-use mathlib.Core.Path.{_≡_, refl, sym, ap, _∙_, subst}
-use mathlib.Core.List.{List, _++_}
+use mathlib.Core.Path.{_≡_, refl, sym, ap, subst}
+use mathlib.Core.Bool.{Bool}
+use mathlib.Core.List.{List}
 use native.Mathlib.Omega.{arith}
 use lib.ListN.{length, take, drop, length-append, length-take, length-drop}
 use borrow.Author.Tests.{le-leb}
@@ -11,36 +12,36 @@ use Rattle.rates.specs.declared.Rate.{Rate}
 use Rattle.rates.specs.declared.Rate.the-variants.{NoRate, Cents, Bad}
 use Rattle.rates.specs.Rate.{asked}
 use Rattle.store.specs.Words.{view}
+use Rattle.store.specs.Value.{reverseSolution}
 use Rattle.store.specs.Good.{Sound}
 use Rattle.acts.specs.Finish.{RingsEnd, ringsDone, ringsFull}
 use Rattle.paths.specs.declared.Written.{Written}
 use Rattle.paths.specs.declared.Written.the-variants.{Paths, Refused}
-use Rattle.paths.specs.Wrote.{Wrote, wrote, buildPaths64}
+use Rattle.paths.specs.Wrote.{wrote, buildPaths64}
 use Rattle.opening.specs.declared.open.Opened.the-variants.{Accepted}
 use Rattle.opening.specs.declared.open.Opened.the-variants as opened
 use Rattle.opening.specs.Open.{End, end, openOf}
 use Rattle.finishing.specs.Opened.{OpeningLeft}
 use Rattle.finishing.specs.Finish.{finishRings}
-use Rattle.finishing.specs.InOneCall.{Finished, afterWriting, afterSteps, afterOpening, finishOf}
+use Rattle.finishing.specs.InOneCall.{afterWriting, afterSteps, afterOpening, finishOf}
 use Rattle.finishing.proofs.InOneCall.{done-ready, opening-left}
 use Rattle.listing.specs.declared.Listed.{Listed}
-use Rattle.listing.specs.declared.Listed.the-variants.{Bytes}
 use Rattle.listing.specs.Lines.{refusedLine}
 use Rattle.listing.specs.Room.{TEXT}
-use Rattle.listing.specs.Told.{Told, told, answerAt, tell}
+use Rattle.listing.specs.Told.{Told, told, tell}
 use Rattle.listing.specs.Needs.{Whole}
 use Rattle.listing.proofs.Answers.{written-out}
 use Rattle.listing.proofs.Room.{listing-le, charged-le, refusal-le}
 use Rattle.job_listing.specs.Cutlist.{pathsAt, listedFrom, cutlistOf, ListedJob, listedJob, listedBy, listJobOf}
 
 module _ (rate : Rate) (t : List ℕ) where
-  at-rate : (q : Rate) (c o : ℕ) (w u : List ℕ) → Sound (view w) → wrote (Paths c o) u ≡ buildPaths64 (view w) t → length (pathsAt q c o u) ≤ TEXT
-  at-rate NoRate c o w u s e = let p = written-out (view w) c o t u e in rw (p .closed, p .opened, p .tray) (listing-le (view w) s (length t))
-  at-rate (Cents n) c o w u s e = let p = written-out (view w) c o t u e in rw (p .closed, p .opened, p .tray) (charged-le (view w) s (length t) n)
-  at-rate Bad c o w u s e = refusal-le (numberOf BadRate)
+  at-rate : (q : Rate) (rev : Bool) (c o : ℕ) (w u : List ℕ) → Sound (view w) → wrote (Paths c o) u ≡ buildPaths64 (view w) t → length (pathsAt q rev c o u) ≤ TEXT
+  at-rate NoRate rev c o w u s e = let p = written-out (view w) c o t u e in rw (p .closed, p .opened, p .tray) (listing-le (view w) rev s (length t))
+  at-rate (Cents n) rev c o w u s e = let p = written-out (view w) c o t u e in rw (p .closed, p .opened, p .tray) (charged-le (view w) rev s (length t) n)
+  at-rate Bad rev c o w u s e = refusal-le (numberOf BadRate)
 
   after-writing : (w : List ℕ) → Sound (view w) → (r : Written) (u : List ℕ) → wrote r u ≡ buildPaths64 (view w) t → length (listedFrom rate (afterWriting w r u)) ≤ TEXT
-  after-writing w s (Paths c o) u e = at-rate rate c o w u s e
+  after-writing w s (Paths c o) u e = at-rate rate (reverseSolution (view w)) c o w u s e
   after-writing w s (Refused x) u e = refusal-le (numberOf x)
 
   after-steps : (w : List ℕ) → OpeningLeft w → (r : RingsEnd) → finishRings w ≡ r → length (listedFrom rate (afterSteps r t)) ≤ TEXT

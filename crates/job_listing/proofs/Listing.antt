@@ -1,6 +1,7 @@
 -- What finishing in one call answers can be listed, and the listing is the job's.
 use Prim.Native.Nat.{ℕ, _≤_}
 use mathlib.Core.Path.{_≡_, refl, sym, ap, _∙_, subst}
+use mathlib.Core.Bool.{Bool}
 use mathlib.Core.List.{List}
 use native.Mathlib.Omega.{arith}
 use lib.ListN.{length}
@@ -11,11 +12,13 @@ use Rattle.rates.specs.declared.Rate.{Rate}
 use Rattle.rates.specs.declared.Rate.the-variants.{NoRate, Cents, Bad}
 use Rattle.rates.specs.Rate.{LARGEST, asked}
 use Rattle.rates.proofs.Digits.{asked-twice, cents-low}
+use Rattle.store.specs.Field.{LENGTH}
 use Rattle.store.specs.Words.{view}
-use Rattle.store.specs.Good.{Sound}
+use Rattle.store.specs.Value.{reverseSolution}
 use Rattle.acts.specs.Finish.{RingsEnd, ringsDone, ringsFull}
 use Rattle.paths.specs.declared.Written.{Written}
 use Rattle.paths.specs.declared.Written.the-variants.{Paths, Refused}
+use Rattle.store.specs.Good.{SoundWords}
 use Rattle.paths.specs.Wrote.{Wrote, wrote, buildPaths64}
 use Rattle.opening.specs.declared.open.Opened.the-variants.{Accepted}
 use Rattle.opening.specs.declared.open.Opened.the-variants as opened
@@ -38,58 +41,60 @@ never c o x w t w′ t′ e =
     let z : _≡_ {A = ℕ} 0 1 = cc in
     absurd (omega arith)
 
--- the tray that writing out left, from a sound store
-record From (c o : ℕ) (t′ : List ℕ) : Type 0 where
-  words : List ℕ
-  sound : Sound (view words)
+-- the words are ready to be written out, and the tray is what writing them out left
+record From (c o : ℕ) (w′ t′ : List ℕ) : Type 0 where
+  ready : SoundWords w′
   before : List ℕ
-  is : wrote (Paths c o) t′ ≡ buildPaths64 (view words) before
+  is : wrote (Paths c o) t′ ≡ buildPaths64 (view w′) before
 
 module _ (c o : ℕ) (w′ t′ t : List ℕ) where
-  after-writing : (w : List ℕ) → Sound (view w) → (b : Wrote) → buildPaths64 (view w) t ≡ b → finished (Paths c o) w′ t′ ≡ afterWriting w (b .answer) (b .tray) → From c o t′
-  after-writing w s b h e = go (b .answer) refl e
+  after-writing : (w : List ℕ) → SoundWords w → (b : Wrote) → buildPaths64 (view w) t ≡ b → finished (Paths c o) w′ t′ ≡ afterWriting w (b .answer) (b .tray) → From c o w′ t′
+  after-writing w d b h e = go (b .answer) refl e
     where
-      go : (r : Written) → b .answer ≡ r → finished (Paths c o) w′ t′ ≡ afterWriting w r (b .tray) → From c o t′
+      go : (r : Written) → b .answer ≡ r → finished (Paths c o) w′ t′ ≡ afterWriting w r (b .tray) → From c o w′ t′
       go (Paths c₁ o₁) f g =
           let p : Paths c o ≡ Paths c₁ o₁ = ap (λ (z : Finished). z .answer) g in
           let q : t′ ≡ b .tray = ap (λ (z : Finished). z .tray) g in
           let y : wrote (Paths c o) t′ ≡ wrote (b .answer) (b .tray) = cc (p, q, f) in
-          record { words = w; sound = s; before = t; is = y ∙ sym h }
+          subst (λ (u : List ℕ). From c o u t′) (sym (ap (λ (z : Finished). z .words) g)) (record { ready = d; before = t; is = y ∙ sym h })
       go (Refused x) f g = never c o x _ _ _ _ g
 
-  after-steps : (w : List ℕ) → OpeningLeft w → (r : RingsEnd) → finishRings w ≡ r → finished (Paths c o) w′ t′ ≡ afterSteps r t → From c o t′
-  after-steps w l (ringsDone w₁) h e = after-writing w₁ (done-ready w w₁ l h .sound) (buildPaths64 (view w₁) t) refl e
+  after-steps : (w : List ℕ) → OpeningLeft w → (r : RingsEnd) → finishRings w ≡ r → finished (Paths c o) w′ t′ ≡ afterSteps r t → From c o w′ t′
+  after-steps w l (ringsDone w₁) h e = after-writing w₁ (done-ready w w₁ l h) (buildPaths64 (view w₁) t) refl e
   after-steps w l (ringsFull w₁) h e = never c o _ _ _ _ _ e
 
-  finish-from : (bytes : List ℕ) (n : ℕ) → finished (Paths c o) w′ t′ ≡ finishOf bytes n t → From c o t′
+  finish-from : (bytes : List ℕ) (n : ℕ) → finished (Paths c o) w′ t′ ≡ finishOf bytes n t → From c o w′ t′
   unfolding finishOf
   finish-from bytes n e = go (openOf bytes n) refl e
     where
-      go : (r : End) → openOf bytes n ≡ r → finished (Paths c o) w′ t′ ≡ afterOpening r t → From c o t′
+      go : (r : End) → openOf bytes n ≡ r → finished (Paths c o) w′ t′ ≡ afterOpening r t → From c o w′ t′
       go (end Accepted w) h g = after-steps w (opening-left bytes n w h) (finishRings w) refl g
       go (end (opened.Refused x) w) h g = never c o x _ _ _ _ g
 
 module _ (bytes : List ℕ) (n : ℕ) (t w′ t′ : List ℕ) (r : Written) (e : finished r w′ t′ ≡ finishOf bytes n t) where
   module _ (c o : ℕ) (h : r ≡ Paths c o) where
-    from : From c o t′
+    from : From c o w′ t′
     from = finish-from c o w′ t′ t bytes n (subst (λ (z : Written). finished z w′ t′ ≡ finishOf bytes n t) h e)
 
-    -- what finishing leaves in the tray can be listed, and charged
+    -- what finishing leaves in the tray can be listed, and charged; the words are long enough to tell the setting
     pub may-list : Listable c o t′
-    may-list = let f = from in answer-listable (view (f .words)) c o (f .before) t′ (f .sound) (f .is)
+    may-list = let f = from in answer-listable (view w′) c o (f .before) t′ (f .ready .sound) (f .is)
 
     pub may-charge : Summable t′ c
-    may-charge = let f = from in answer-summable (view (f .words)) c o (f .before) t′ (f .sound) (f .is)
+    may-charge = let f = from in answer-summable (view w′) c o (f .before) t′ (f .ready .sound) (f .is)
+
+    pub may-ask : LENGTH ≤ length w′
+    may-ask = from .ready .long
 
   module _ (rate : Rate) (out out′ : List ℕ) (a : Listed) where
-    as-listed : (text : List ℕ) → listedAs rate r t′ ≡ text → told a out′ ≡ tell text out → listedJob (told a out′) w′ t′ ≡ listedOut rate (finishOf bytes n t) out
+    as-listed : (text : List ℕ) → listedAs rate r w′ t′ ≡ text → told a out′ ≡ tell text out → listedJob (told a out′) w′ t′ ≡ listedOut rate (finishOf bytes n t) out
     as-listed text h g = ap (λ (x : Told). listedJob x w′ t′) (g ∙ ap (λ (s : List ℕ). tell s out) (sym h)) ∙ ap (λ (f : Finished). listedOut rate f out) e
 
-    pub paths-listed : (c o : ℕ) → r ≡ Paths c o → told a out′ ≡ tell (pathsAt rate c o t′) out → listedJob (told a out′) w′ t′ ≡ listedOut rate (finishOf bytes n t) out
-    paths-listed c o h g = as-listed (pathsAt rate c o t′) (ap (λ (z : Written). listedAs rate z t′) h) g
+    pub paths-listed : (c o : ℕ) (rev : Bool) → r ≡ Paths c o → rev ≡ reverseSolution (view w′) → told a out′ ≡ tell (pathsAt rate rev c o t′) out → listedJob (told a out′) w′ t′ ≡ listedOut rate (finishOf bytes n t) out
+    paths-listed c o rev h i g = as-listed (pathsAt rate rev c o t′) (ap (λ (z : Written). listedAs rate z w′ t′) h ∙ ap (λ (b : Bool). pathsAt rate b c o t′) (sym i)) g
 
     pub refusal-listed : (x : Refusal) → r ≡ Refused x → told a out′ ≡ tell (refusedLine (numberOf x)) out → listedJob (told a out′) w′ t′ ≡ listedOut rate (finishOf bytes n t) out
-    refusal-listed x h g = as-listed (refusedLine (numberOf x)) (ap (λ (z : Written). listedAs rate z t′) h) g
+    refusal-listed x h g = as-listed (refusedLine (numberOf x)) (ap (λ (z : Written). listedAs rate z w′ t′) h) g
 
 -- the line of a refusal, by its number
 pub line-is : (x : Refusal) (k : ℕ) (out out′ : List ℕ) (a : Listed) → k ≡ numberOf x → told a out′ ≡ tell (refusedLine k) out → told a out′ ≡ tell (refusedLine (numberOf x)) out
@@ -97,17 +102,17 @@ line-is x k out out′ a e g = g ∙ ap (λ (m : ℕ). tell (refusedLine m) out)
 
 -- ---- by the rate
 
-module _ (rate : Rate) (c o : ℕ) (t out out′ : List ℕ) (a : Listed) where
-  at-rate : (q : Rate) → rate ≡ q → told a out′ ≡ tell (pathsAt q c o t) out → told a out′ ≡ tell (pathsAt rate c o t) out
-  at-rate q e g = g ∙ ap (λ (p : Rate). tell (pathsAt p c o t) out) (sym e)
+module _ (rate : Rate) (rev : Bool) (c o : ℕ) (t out out′ : List ℕ) (a : Listed) where
+  at-rate : (q : Rate) → rate ≡ q → told a out′ ≡ tell (pathsAt q rev c o t) out → told a out′ ≡ tell (pathsAt rate rev c o t) out
+  at-rate q e g = g ∙ ap (λ (p : Rate). tell (pathsAt p rev c o t) out) (sym e)
 
-  pub none-told : rate ≡ NoRate → told a out′ ≡ tell (listingOf c o t) out → told a out′ ≡ tell (pathsAt rate c o t) out
+  pub none-told : rate ≡ NoRate → told a out′ ≡ tell (listingOf rev c o t) out → told a out′ ≡ tell (pathsAt rate rev c o t) out
   none-told e g = at-rate NoRate e g
 
-  pub cents-told : (n : ℕ) → rate ≡ Cents n → told a out′ ≡ tell (chargedOf n c o t) out → told a out′ ≡ tell (pathsAt rate c o t) out
+  pub cents-told : (n : ℕ) → rate ≡ Cents n → told a out′ ≡ tell (chargedOf rev n c o t) out → told a out′ ≡ tell (pathsAt rate rev c o t) out
   cents-told n e g = at-rate (Cents n) e g
 
-  pub bad-told : rate ≡ Bad → told a out′ ≡ tell (refusedLine (numberOf BadRate)) out → told a out′ ≡ tell (pathsAt rate c o t) out
+  pub bad-told : rate ≡ Bad → told a out′ ≡ tell (refusedLine (numberOf BadRate)) out → told a out′ ≡ tell (pathsAt rate rev c o t) out
   bad-told e g = at-rate Bad e g
 
 module _ (rate q : Rate) (e : q ≡ asked rate) (bytes w t out out′ w′ t′ : List ℕ) (a : Listed) where

@@ -1,4 +1,4 @@
--- Document 01's listing in one piece, by computing: the job's bytes give the three lines.
+-- Document 01's listing in one piece, by computing: the job's bytes give the three lines; and the same job with `reverse_solution`.
 use Prim.Native.Nat.{ℕ}
 use mathlib.Core.Path.{_≡_, refl}
 use mathlib.Core.List.{List, [], _∷_, _++_}
@@ -17,7 +17,8 @@ use Rattle.store.specs.Value.{wordOf}
 use Rattle.audit.specs.Tests.{anyBelow}
 use Rattle.reading.specs.Fill.{turnOf, run, fillOf}
 use Rattle.reading.specs.Read.{readOf}
-use Rattle.rows.specs.Owners.{endsIn, findIn}
+use Rattle.joins.specs.Resolve.{findIn}
+use Rattle.rows.specs.Owners.{endsIn}
 use Rattle.rows.specs.Rings.{anyIn}
 use Rattle.rows.specs.Rows.{rowsOf}
 use Rattle.accepting.specs.Accept.{acceptOf}
@@ -39,10 +40,10 @@ use Rattle.listing.specs.Fields.{pointIn}
 use Rattle.listing.specs.Lines.{listingOf}
 use Rattle.job_listing.specs.Cutlist.{cutlistOf}
 
--- "settings 0, points (0,0) (10,10) (10,0) (0,12) linked in that order, all of record 0, closed, no owner, first point 0"
-abbrev job : List ℕ
-job =
-    (1 ∷ 1 ∷ 0 ∷ 0 ∷ [])
+-- "points (0,0) (10,10) (10,0) (0,12) linked in that order, all of record 0, closed, no owner, first point 0", under these settings
+abbrev job : ℕ → List ℕ
+job settings =
+    (1 ∷ 1 ∷ 0 ∷ settings ∷ [])
     ++ (2 ∷ 14 ∷ 0 ∷ 0 ∷ 0 ∷ 0 ∷ 0 ∷ 0 ∷ 0 ∷ 0 ∷ 0 ∷ 1 ∷ 0 ∷ 3 ∷ 0 ∷ 0 ∷ 0 ∷ [])
     ++ (2 ∷ 14 ∷ 0 ∷ 10 ∷ 0 ∷ 0 ∷ 0 ∷ 10 ∷ 0 ∷ 0 ∷ 0 ∷ 2 ∷ 0 ∷ 0 ∷ 0 ∷ 0 ∷ 0 ∷ [])
     ++ (2 ∷ 14 ∷ 0 ∷ 10 ∷ 0 ∷ 0 ∷ 0 ∷ 0 ∷ 0 ∷ 0 ∷ 0 ∷ 3 ∷ 0 ∷ 1 ∷ 0 ∷ 0 ∷ 0 ∷ [])
@@ -58,7 +59,26 @@ text =
     ++ (112 ∷ 105 ∷ 101 ∷ 99 ∷ 101 ∷ 32 ∷ 51 ∷ 32 ∷ 54 ∷ 48 ∷ 32 ∷ 53 ∷ 44 ∷ 53 ∷ 32 ∷ 48 ∷ 44 ∷ 49 ∷ 50 ∷ 32 ∷ 48 ∷ 44 ∷ 48 ∷ 10 ∷ [])
     ++ (104 ∷ 111 ∷ 108 ∷ 101 ∷ 32 ∷ 51 ∷ 32 ∷ 45 ∷ 53 ∷ 48 ∷ 32 ∷ 49 ∷ 48 ∷ 44 ∷ 49 ∷ 48 ∷ 32 ∷ 49 ∷ 48 ∷ 44 ∷ 48 ∷ 32 ∷ 53 ∷ 44 ∷ 53 ∷ 10 ∷ [])
 
--- in a tray that holds sevens
-pub paper : cutlistOf NoRate job LENGTH (replicate 64 7) ≡ text
+-- closed 2 open 0
+-- piece 3 -60 0,0 0,12 5,5
+-- hole 3 50 5,5 10,0 10,10
+abbrev reversedText : List ℕ
+reversedText =
+    (99 ∷ 108 ∷ 111 ∷ 115 ∷ 101 ∷ 100 ∷ 32 ∷ 50 ∷ 32 ∷ 111 ∷ 112 ∷ 101 ∷ 110 ∷ 32 ∷ 48 ∷ 10 ∷ [])
+    ++ (112 ∷ 105 ∷ 101 ∷ 99 ∷ 101 ∷ 32 ∷ 51 ∷ 32 ∷ 45 ∷ 54 ∷ 48 ∷ 32 ∷ 48 ∷ 44 ∷ 48 ∷ 32 ∷ 48 ∷ 44 ∷ 49 ∷ 50 ∷ 32 ∷ 53 ∷ 44 ∷ 53 ∷ 10 ∷ [])
+    ++ (104 ∷ 111 ∷ 108 ∷ 101 ∷ 32 ∷ 51 ∷ 32 ∷ 53 ∷ 48 ∷ 32 ∷ 53 ∷ 44 ∷ 53 ∷ 32 ∷ 49 ∷ 48 ∷ 44 ∷ 48 ∷ 32 ∷ 49 ∷ 48 ∷ 44 ∷ 49 ∷ 48 ∷ 10 ∷ [])
+
+-- the definitions that a listing computes with: `unfolding computing` opens them all
+unfoldable computing : Unit {0}
 unfolding cutlistOf finishOf openOf stagesOf acceptOf readOf fillOf run turnOf fieldOf bodyOf rowsOf endsIn findIn anyIn walk.run anyBelow cell put convertHorzSegsToJoins pairsOf sortedSegments segmentsOf updateFrom sorted outerFrom joinsFrom startRings startTo startRing finishRings finishW finishRecord answerS stepW wordOf samePoint isCollinear dotProductThreePoints areaTriangle areaOutpt ptsReallyClose isVerySmallTriangle removable strictlyWithin segmentsIntersect fractionOf crossing coordinateAt getSegmentIntersectPt removalTurn doSplitOp splitTurn decide actOf buildPath64FromOutpt pointAt pathAt pathIf pointBytes pathField fieldsOf buildPaths64 toSigned add ofInt mul listingOf digits pointIn
+computing = tt
+
+-- in a tray that holds sevens
+pub paper : cutlistOf NoRate (job 0) LENGTH (replicate 64 7) ≡ text
+unfolding computing
 paper = refl
+
+-- with bit 1 of the settings the piece is a piece and the hole a hole
+pub paper-reversed : cutlistOf NoRate (job 2) LENGTH (replicate 64 7) ≡ reversedText
+unfolding computing
+paper-reversed = refl

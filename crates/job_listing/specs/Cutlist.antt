@@ -1,5 +1,6 @@
--- The listing of a job: document 01, "The listing", of what finishing it in one call answers and writes; with document 02's charge, at a rate.
+-- The listing of a job: document 01, "The listing", of what finishing it in one call answers, writes and leaves; with document 02's charge, at a rate.
 use Prim.Native.Nat.{ℕ}
+use mathlib.Core.Bool.{Bool}
 use mathlib.Core.List.{List}
 use lib.ListN.{length}
 use Rattle.job.specs.Refusal.{numberOf}
@@ -7,6 +8,8 @@ use Rattle.job.specs.declared.refusal.Refusal.the-variants.{BadRate}
 use Rattle.rates.specs.declared.Rate.{Rate}
 use Rattle.rates.specs.declared.Rate.the-variants.{NoRate, Cents, Bad}
 use Rattle.rates.specs.Rate.{asked}
+use Rattle.store.specs.Words.{view}
+use Rattle.store.specs.Value.{reverseSolution}
 use Rattle.paths.specs.declared.Written.{Written}
 use Rattle.paths.specs.declared.Written.the-variants.{Paths, Refused}
 use Rattle.listing.specs.Lines.{listingOf, refusedLine}
@@ -14,19 +17,19 @@ use Rattle.listing.specs.Charge.{chargedOf}
 use Rattle.listing.specs.Told.{Told, tell}
 use Rattle.finishing.specs.InOneCall.{Finished, finishOf}
 
--- of an accepted job's paths: "Without an argument the listing has no such line"
-abbrev pub pathsAt : Rate → ℕ → ℕ → List ℕ → List ℕ
-pathsAt NoRate closed open′ t = listingOf closed open′ t
-pathsAt (Cents n) closed open′ t = chargedOf n closed open′ t
-pathsAt Bad closed open′ t = refusedLine (numberOf BadRate)
+-- of an accepted job's paths under a setting of `reverse_solution`: "Without an argument the listing has no such line"
+abbrev pub pathsAt : Rate → Bool → ℕ → ℕ → List ℕ → List ℕ
+pathsAt NoRate rev closed open′ t = listingOf rev closed open′ t
+pathsAt (Cents n) rev closed open′ t = chargedOf rev n closed open′ t
+pathsAt Bad rev closed open′ t = refusedLine (numberOf BadRate)
 
--- of the answer and the tray: "A refusal prints `refused` and its number only"
-abbrev pub listedAs : Rate → Written → List ℕ → List ℕ
-listedAs rate (Paths closed open′) t = pathsAt rate closed open′ t
-listedAs rate (Refused x) t = refusedLine (numberOf x)
+-- of the answer, the words and the tray: the setting is the one that the words hold. "A refusal prints `refused` and its number only"
+abbrev pub listedAs : Rate → Written → List ℕ → List ℕ → List ℕ
+listedAs rate (Paths closed open′) w t = pathsAt rate (reverseSolution (view w)) closed open′ t
+listedAs rate (Refused x) w t = refusedLine (numberOf x)
 
 abbrev pub listedFrom : Rate → Finished → List ℕ
-listedFrom rate f = listedAs rate (f .answer) (f .tray)
+listedFrom rate f = listedAs rate (f .answer) (f .words) (f .tray)
 
 -- of the job's bytes, in a work space of n words and a tray t, at a rate that is not bad
 unfoldable pub cutlistOf : Rate → List ℕ → ℕ → List ℕ → List ℕ

@@ -4,6 +4,7 @@ use job::refusal::Refusal;
 use listing::Listed;
 use listing::charge::charged;
 use paths::Written;
+use paths::reverse_solution;
 use rates::Rate;
 use rates::asked;
 ghost use mathlib.Core.Path.{_≡_};
@@ -24,19 +25,26 @@ fn refused(x: Refusal, out: &mut [u8]) -> Listed
     listing::refusal(k, out)
 }
 
-// The lines of an accepted job's tray, at a rate that is as asked.
-fn list_paths(tray: &[u8], closed: usize, opened: usize, rate: Rate, out: &mut [u8]) -> Listed
+// The lines of an accepted job's tray, under a setting of `reverse_solution`, at a rate that is as asked.
+fn list_paths(
+    tray: &[u8],
+    closed: usize,
+    opened: usize,
+    rev: bool,
+    rate: Rate,
+    out: &mut [u8],
+) -> Listed
     requires { ⌜ Listable closed opened (now tray) ⌝ ∗ ⌜ Summable (now tray) closed ⌝ ∗ ⌜ asked rate ≡ rate ⌝ }
-    ensures { λ r. ⌜ told r (now (out .exit)) ≡ tell (pathsAt rate closed opened (now (tray .entry))) (now (out .entry)) ⌝ }
+    ensures { λ r. ⌜ told r (now (out .exit)) ≡ tell (pathsAt rate rev closed opened (now (tray .entry))) (now (out .entry)) ⌝ }
 {
     match rate {
-        Rate::NoRate => listing::listing(tray, closed, opened, out),
-        Rate::Cents(n) => charged(tray, closed, opened, n, out),
+        Rate::NoRate => listing::listing(tray, closed, opened, rev, out),
+        Rate::Cents(n) => charged(tray, closed, opened, rev, n, out),
         Rate::Bad => refused(Refusal::BadRate, out),
     }
 }
 
-// The job finished in one call, and listed.
+// The job finished in one call, and listed under the setting that finishing left in the work space.
 fn list_finished(
     bytes: &[u8],
     rate: Rate,
@@ -49,13 +57,16 @@ fn list_finished(
 {
     let r = finish(bytes, work, tray);
     match r {
-        Written::Paths { closed, open } => list_paths(tray, closed, open, rate, out),
+        Written::Paths { closed, open } => {
+            let rev = reverse_solution(work);
+            list_paths(tray, closed, open, rev, rate, out)
+        }
         Written::Refused(x) => refused(x, out),
     }
 }
 
 // The listing of a job, in a lent slice: the answer, every word and every byte left. `listing::TEXT` bytes are always room enough (`cutlist-fits`), and the first
-// `deciding::DECIDES` bytes of an input are enough (`cutlist-decided`). A bad rate is refused before the job is looked at.
+// `prefix::DECIDES` bytes of an input are enough (`cutlist-decided`). A bad rate is refused before the job is looked at.
 pub fn list_job(
     bytes: &[u8],
     rate: Rate,

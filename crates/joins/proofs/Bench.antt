@@ -11,7 +11,7 @@ use Rattle.store.specs.Sound.{ringAt}
 use Rattle.rings.specs.Walk.{run}
 use Rattle.job.specs.declared.refusal.Refusal.{Refusal}
 use Rattle.job.specs.Refusal.{numberOf}
-use Rattle.joins.specs.Resolve.{realOf, getRealOutrec, homeOf}
+use Rattle.joins.specs.Resolve.{findIn}
 use Rattle.joins.specs.Join.{JoinEnd, end, refusalOf, relinkOf, newOutRec, nameAll, fixOutrecPts, moveFirst, splitRing, splitOf, mergeOf, byRecords, joinOf, joinsFrom, processHorzJoins}
 use Rattle.joins.specs.AsRings.{goes, stays, seenFrom, firstLeft, spliced}
 
@@ -98,7 +98,7 @@ examples =
     ∷ []
 
 pub bench : RowsHold examples
-unfolding examples answered joinsFrom joinOf byRecords splitOf splitRing moveFirst fixOutrecPts nameAll newOutRec relinkOf mergeOf homeOf getRealOutrec realOf run cell put
+unfolding examples answered joinsFrom joinOf byRecords splitOf splitRing moveFirst fixOutrecPts nameAll newOutRec relinkOf mergeOf findIn run cell put
 bench = (refl, (refl, (refl, (refl, (refl, (refl, (refl, (refl, (refl, tt)))))))))
 
 -- ---- the same by lists alone: what goes, what stays, what is spliced

@@ -19,8 +19,7 @@ use Rattle.joins.proofs.Homes.{home-of}
 
 -- resolving is a function of the words
 pub real-res : (w : List ℕ) → Ready w → (r q : ℕ) → Resolves (view w) r q → getRealOutrec w r ≡ q
-unfolding getRealOutrec
-real-res w o r q z = real-is (firstOf w) (ownerOf w) (suc limit.RECORDS) r (z .via) q (z .path) (z .some) (omega (arith, res-short (view w) r q z, o .resolved .few-records))
+real-res w o r q z = real-is (firstOf w) (ownerOf w) limit.RECORDS r (z .via) q (recordsOf w) (z .path) (z .some) (z .real) (z .low) (omega (arith, o .resolved .few-records)) (omega (arith, res-short (view w) r q z, o .resolved .few-records))
 
 pub record Going (w : List ℕ) (r q f : ℕ) : Type 0 where
   pub at : Resolving w q
@@ -48,14 +47,14 @@ module _ (w : List ℕ) (q p : ℕ) (z : Resolving w q) (e : firstOf w q ≡ NON
       let g : All (λ x. x < recordsOf w) (q ∷ h .0) = rw (h .1) at (z .res .low) in
       rw d (record { via = h .0; path = h .2; low = g .1; real = z .res .real; some = z .res .some })
 
-  fewer : hops (firstOf w) (ownerOf w) (suc limit.RECORDS) p < hops (firstOf w) (ownerOf w) (suc limit.RECORDS) q
+  fewer : hops (firstOf w) (ownerOf w) limit.RECORDS p < hops (firstOf w) (ownerOf w) limit.RECORDS q
   fewer =
       let h = hop (firstOf w) (ownerOf w) q (z .to) (z .res .via) (z .res .path) (z .res .some) e in
       let s = res-short (view w) q (z .to) (z .res) in
       let k : recordsOf w ≤ limit.RECORDS = z .ready .resolved .few-records in
-      let a = hops-is (firstOf w) (ownerOf w) (suc limit.RECORDS) q (z .res .via) (z .to) (z .res .path) (z .res .some) (omega arith) in
+      let a = hops-is (firstOf w) (ownerOf w) limit.RECORDS q (z .res .via) (z .to) (z .res .path) (z .res .some) (omega arith) in
       let n : length (z .res .via) ≡ suc (length (h .0)) = ap length (h .1) in
-      let b = hops-is (firstOf w) (ownerOf w) (suc limit.RECORDS) (ownerOf w q) (h .0) (z .to) (h .2) (z .res .some) (omega arith) in
+      let b = hops-is (firstOf w) (ownerOf w) limit.RECORDS (ownerOf w q) (h .0) (z .to) (h .2) (z .res .some) (omega arith) in
       rw d (omega arith)
 
 module _ (w : List ℕ) (r q f p : ℕ) (g : Going w r q f) (e : f ≡ NONE) (d : p ≡ ownerOf w q) where
@@ -69,7 +68,7 @@ module _ (w : List ℕ) (r q f p : ℕ) (g : Going w r q f) (e : f ≡ NONE) (d 
   unfolding next
   again h i = record { at = next; is = i; goal = g .goal }
 
-  pub falls : hops (firstOf w) (ownerOf w) (suc limit.RECORDS) p < hops (firstOf w) (ownerOf w) (suc limit.RECORDS) q
+  pub falls : hops (firstOf w) (ownerOf w) limit.RECORDS p < hops (firstOf w) (ownerOf w) limit.RECORDS q
   falls = fewer w q p (g .at) (sym (g .is) ∙ e) d
 
 pub going-low : (w : List ℕ) (r q f : ℕ) → Going w r q f → q < limit.RECORDS
@@ -96,11 +95,9 @@ point-res w p r t e =
     rw e (record { ready = t .ready; to = z .0; res = z .1 .res })
 
 pub point-home : (w : List ℕ) (p r q : ℕ) → r ≡ recOf w p → q ≡ getRealOutrec w r → q ≡ homeOf w p
-unfolding homeOf
 point-home w p r q e f = cc
 
 pub at-home : (w : List ℕ) → Ready w → (k i : ℕ) → k < pointsOf w → i ≡ homeOf w k → Lives (view w) i k
-unfolding homeOf
 at-home w o k i h f =
     let z = home-of (view w) (o .resolved) k h in
     let q : getRealOutrec w (recOf w k) ≡ z .0 = real-res w o (recOf w k) (z .0) (z .1 .res) in

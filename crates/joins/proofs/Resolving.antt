@@ -15,7 +15,7 @@ use Rattle.rings.proofs.Counting.{one-else, one-le, in-all, pigeon}
 use Rattle.store.specs.Field.{rc, OWNER, FIRST, NONE}
 use Rattle.store.specs.Words.{Store}
 use Rattle.store.specs.Sound.{recs}
-use Rattle.joins.specs.Resolve.{realOf}
+use Rattle.joins.specs.Resolve.{findIn}
 use Rattle.joins.specs.Paths.{Path, Resolves}
 
 module _ (first owner : ℕ → ℕ) where
@@ -54,11 +54,23 @@ module _ (first owner : ℕ → ℕ) where
       let z = h .0 (a .1) in
       (a .0, z .0, subst (λ (y : ℕ). Path first′ owner′ y l q) (sym (z .1)) (path-kept first′ owner′ (owner x) l q (h .1) (a .2)))
 
-  pub real-is : (f r : ℕ) (l : List ℕ) (q : ℕ) → Path first owner r l q → first q ≢ NONE → length l < f → realOf f first owner r ≡ q
-  unfolding realOf
-  real-is zero r l q a h s = absurd (omega arith)
-  real-is (suc f) r [] q a h s = rw (a, ne-eqb (first q) NONE h)
-  real-is (suc f) r (x ∷ l) q a h s = rw (a .0, eq-eqb (first x) NONE (a .1)) (real-is f (owner x) l q (a .2) h (omega arith))
+  -- a path along numbers below b starts below b
+  path-low : (b r : ℕ) (l : List ℕ) (q : ℕ) → Path first owner r l q → q < b → All (λ x. x < b) l → r < b
+  path-low b r [] q a h u = rw a h
+  path-low b r (x ∷ l) q a h u = rw (a .0) (u .0)
+
+  pub real-is : (f r : ℕ) (l : List ℕ) (q b : ℕ) → Path first owner r l q → first q ≢ NONE → q < b → All (λ x. x < b) l → b ≤ NONE → length l < f → findIn f first owner r ≡ q
+  unfolding findIn
+  real-is zero r l q b a h m u g s = absurd (omega arith)
+  real-is (suc f) r [] q b a h m u g s = rw (a, ne-eqb (first q) NONE h)
+  real-is (suc f) r (x ∷ l) q b a h m u g s =
+      let k : owner x < b = path-low b (owner x) l q (a .2) m (u .1) in
+      rw (a .0, eq-eqb (first x) NONE (a .1), ne-eqb (owner x) NONE (λ e. omega arith)) (real-is f (owner x) l q b (a .2) h m (u .1) g (omega arith))
+
+  -- where it comes to has points, so it is not on the way
+  path-end : (r : ℕ) (l : List ℕ) (q : ℕ) → Path first owner r l q → first q ≢ NONE → occ q l ≡ 0
+  path-end r [] q a h = refl
+  path-end r (x ∷ l) q a h = omega (arith, one-else q x (λ e. h (ap first (sym e) ∙ a .1)), path-end (owner x) l q (a .2) h)
 
   -- how far it is: a loop's measure
   unfoldable pub hops : ℕ → ℕ → ℕ
@@ -75,12 +87,18 @@ module _ (s : Store) where
   pub res-same : (r q t : ℕ) → Resolves s r q → Resolves s r t → q ≡ t
   res-same r q t a b = path-same (s (rc FIRST)) (s (rc OWNER)) r (a .via) (b .via) q t (a .path) (a .some) (b .path) (b .some) .0
 
-  pub res-short : (r q : ℕ) (a : Resolves s r q) → length (a .via) ≤ recs s
-  res-short r q a = pigeon (recs s) (a .via) (path-once (s (rc FIRST)) (s (rc OWNER)) r (a .via) q (a .path) (a .some)) (λ k o. in-all (λ x. x < recs s) (a .via) k (a .low) o)
+  pub res-short : (r q : ℕ) (a : Resolves s r q) → length (a .via) < recs s
+  res-short r q a = pigeon (recs s) (q ∷ a .via) once low
+    where
+      once : (k : ℕ) → occ k (q ∷ a .via) ≤ 1
+      once k = go (ℕ-discrete q k)
+        where
+          go : Dec (q ≡ k) → occ k (q ∷ a .via) ≤ 1
+          go (yes e) = omega (arith, one-le k q, subst (λ (y : ℕ). occ y (a .via) ≡ 0) e (path-end (s (rc FIRST)) (s (rc OWNER)) r (a .via) q (a .path) (a .some)))
+          go (no d) = omega (arith, one-else k q d, path-once (s (rc FIRST)) (s (rc OWNER)) r (a .via) q (a .path) (a .some) k)
+
+      low : (k : ℕ) → 0 < occ k (q ∷ a .via) → k < recs s
+      low k o = in-all (λ x. x < recs s) (q ∷ a .via) k (a .real, a .low) o
 
   pub res-low : (r q : ℕ) → Resolves s r q → r < recs s
-  res-low r q z = go (z .via) (z .path) (z .low)
-    where
-      go : (l : List ℕ) → Path (s (rc FIRST)) (s (rc OWNER)) r l q → All (λ x. x < recs s) l → r < recs s
-      go [] p h = rw p (z .real)
-      go (x ∷ l) p h = rw (p .0) (h .0)
+  res-low r q z = path-low (s (rc FIRST)) (s (rc OWNER)) (recs s) r (z .via) q (z .path) (z .real) (z .low)

@@ -7,15 +7,17 @@ use Rattle.job.specs.Limits as limit
 use Rattle.store.specs.Field.{NONE}
 use Rattle.store.specs.Named.{firstOf, ownerOf, recOf}
 
--- the first with points among r and its owners, f of them looked at at most. On an owner chain that ends every record comes once, so that one more than all records is never looked at
-unfoldable pub realOf : ℕ → (ℕ → ℕ) → (ℕ → ℕ) → ℕ → ℕ
-realOf zero first owner r = r
-realOf (suc f) first owner r = cond (eqb (first r) NONE) (realOf f first owner (owner r)) r
+-- the first with points among r and its owners, or none, within f records
+unfoldable pub findIn : ℕ → (ℕ → ℕ) → (ℕ → ℕ) → ℕ → ℕ
+findIn zero first owner r = NONE
+findIn (suc f) first owner r =
+    let on : ℕ = findIn f first owner (owner r) in
+    cond (eqb (first r) NONE) (cond (eqb (owner r) NONE) NONE on) r
 
--- get_real_outrec
-unfoldable pub getRealOutrec : List ℕ → ℕ → ℕ
-getRealOutrec w r = realOf (suc limit.RECORDS) (firstOf w) (ownerOf w) r
+-- get_real_outrec, or none: an owner chain that ends has no more records than there may be
+abbrev pub getRealOutrec : List ℕ → ℕ → ℕ
+getRealOutrec w r = findIn limit.RECORDS (firstOf w) (ownerOf w) r
 
--- the record that a point resolves to
-unfoldable pub homeOf : List ℕ → ℕ → ℕ
+-- the record that a point resolves to, or none
+abbrev pub homeOf : List ℕ → ℕ → ℕ
 homeOf w p = getRealOutrec w (recOf w p)

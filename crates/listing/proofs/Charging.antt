@@ -1,6 +1,7 @@
 -- The sum of the closed paths' doubled areas stays within 2^53; and the charge line.
 use Prim.Native.Nat.{ℕ, zero, suc, _+_, _-_, _*_, _/_, _≤_, _<_, _^_}
-use mathlib.Core.Path.{_≡_, refl, sym, ap, _∙_, subst}
+use mathlib.Core.Path.{_≡_, sym, ap, _∙_, subst}
+use mathlib.Core.Bool.{Bool}
 use mathlib.Core.List.{List, [], _∷_, _++_}
 use native.Mathlib.Omega.{arith}
 use lib.IntN.{ℤ, pos, natAbs, _+ℤ_, +ℤ-assoc, +ℤ-idl, +ℤ-idr}
@@ -12,16 +13,14 @@ use Rattle.exact.specs.Num.{Within}
 use Rattle.exact.proofs.Size.{fits-size, size-add}
 use Rattle.rates.specs.declared.Charge.{Charge}
 use Rattle.rates.specs.Charge.{chargeOf}
-use Rattle.geometry.specs.declared.Point.{Point}
 use Rattle.geometry.specs.Plane.{areaOutpt}
-use Rattle.geometry.specs.Table.{AllInTable}
 use Rattle.geometry.proofs.Circles.{area-within}
 use Rattle.listing.specs.Pour.{poured, pour}
 use Rattle.listing.specs.Text.{SPACE, NEWLINE, decimal, CHARGE}
 use Rattle.listing.specs.Fields.{pointsIn, valueLength, nextField, pathIn, pathsIn}
 use Rattle.listing.specs.Lines.{listingOf}
-use Rattle.listing.specs.Charge.{netArea, chargeText, chargedOf, pointCount}
-use Rattle.listing.specs.Needs.{Sized, FieldIn, FieldsIn, Summable, Netting}
+use Rattle.listing.specs.Charge.{netArea, chargeText, chargedOf}
+use Rattle.listing.specs.Needs.{Sized, FieldIn, FieldsIn, Summable, Netting, pointCount}
 use Rattle.listing.proofs.Pouring.{pour-more}
 use Rattle.listing.proofs.Runs.{less}
 use Rattle.listing.proofs.Heads.{field-sized}
@@ -115,9 +114,9 @@ charge-poured c k a b d e g o₁ o₂ o₃ o₄ o₅ o₆ h i j l m =
     l)
     m
 
-pub charged-poured : (rate closed open′ : ℕ) (t o₁ o₂ o₃ : List ℕ) (a b : ℕ) (c : Charge) → c ≡ chargeOf (natAbs (netArea (pathsIn t closed 0))) rate → poured a o₂ ≡ pour (listingOf closed open′ t) 0 o₁
-    → poured b o₃ ≡ pour (chargeText c) a o₂ → poured b o₃ ≡ pour (chargedOf rate closed open′ t) 0 o₁
+pub charged-poured : (rev : Bool) (rate closed open′ : ℕ) (t o₁ o₂ o₃ : List ℕ) (a b : ℕ) (c : Charge) → c ≡ chargeOf (natAbs (netArea (pathsIn t closed 0))) rate → poured a o₂ ≡ pour (listingOf rev closed open′ t) 0 o₁
+    → poured b o₃ ≡ pour (chargeText c) a o₂ → poured b o₃ ≡ pour (chargedOf rev rate closed open′ t) 0 o₁
 unfolding chargedOf
-charged-poured rate closed open′ t o₁ o₂ o₃ a b c e f g =
-    pour-more (listingOf closed open′ t) (chargeText c) o₁ o₂ o₃ 0 a b f g
-    ∙ ap (λ (x : Charge). pour (listingOf closed open′ t ++ chargeText x) 0 o₁) e
+charged-poured rev rate closed open′ t o₁ o₂ o₃ a b c e f g =
+    pour-more (listingOf rev closed open′ t) (chargeText c) o₁ o₂ o₃ 0 a b f g
+    ∙ ap (λ (x : Charge). pour (listingOf rev closed open′ t ++ chargeText x) 0 o₁) e

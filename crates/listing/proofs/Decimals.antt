@@ -1,10 +1,11 @@
 -- Laws of decimal digits.
-use Prim.Native.Nat.{ℕ, zero, suc, _+_, _/_, _%_, _^_, _≤_, _<_}
-use mathlib.Core.Path.{_≡_, sym, ap, _∙_}
+use Prim.Native.Nat.{ℕ, zero, suc, _+_, _-_, _*_, _/_, _%_, _^_, _≤_, _<_}
+use mathlib.Core.Path.{_≡_, refl, sym, ap, _∙_}
 use mathlib.Core.List.{List, [], _∷_, _++_}
 use native.Mathlib.Omega.{arith}
 use native.Mathlib.Decide.{decLt}
 use borrow.Author.Tests.{lt-ltb, le-ltb}
+use Rattle.rates.specs.Rate.{numberFrom}
 use Rattle.listing.specs.Pour.{poured, pour}
 use Rattle.listing.specs.Text.{digit, digits, decimal}
 use Rattle.listing.proofs.Pouring.{pour-more}
@@ -29,6 +30,26 @@ last-digit n h = rw (le-ltb n 10 h)
 
 pub decimal-more : (n : ℕ) → 10 ≤ n → n < 2 ^ 64 → decimal n ≡ decimal (n / 10) ++ (digit (n % 10) ∷ [])
 decimal-more n h l = last-digit n h ∙ ap (λ (x : List ℕ). x ++ (digit (n % 10) ∷ [])) (digits-more 18 (n / 10) (omega arith))
+
+-- ---- read as a number, a number's digits are the number
+
+one-digit : (v : ℕ) (a : List ℕ) (b : ℕ) → numberFrom v (a ++ (b ∷ [])) ≡ 10 * numberFrom v a + (b - 48)
+one-digit v [] b = refl
+one-digit v (x ∷ a) b = one-digit (10 * v + (x - 48)) a b
+
+digits-back : (f n : ℕ) → n < 10 ^ suc f → numberFrom 0 (digits (suc f) n) ≡ n
+unfolding digits
+digits-back zero n h = rw (lt-ltb n 10 (omega arith)) (omega arith)
+digits-back (suc f) n h = go (decLt n 10) (digits-back f (n / 10))
+  where
+    go : Dec (n < 10) → (n / 10 < 10 ^ suc f → numberFrom 0 (digits (suc f) (n / 10)) ≡ n / 10) → numberFrom 0 (digits (suc (suc f)) n) ≡ n
+    go (yes l) r = rw (lt-ltb n 10 l) (omega arith)
+    go (no l) r = rw (le-ltb n 10 (omega arith)) (omega (arith, one-digit 0 (digits (suc f) (n / 10)) (digit (n % 10)), r (omega arith)))
+
+pub decimal-back : (n : ℕ) → n < 2 ^ 64 → numberFrom 0 (decimal n) ≡ n
+decimal-back n h = digits-back 19 n (omega arith)
+
+-- ---- poured
 
 pub small-poured : (n at r : ℕ) (t u : List ℕ) → n < 10 → poured r u ≡ pour ((48 + n) ∷ []) at t → poured r u ≡ pour (decimal n) at t
 small-poured n at r t u h e = e ∙ ap (λ (x : List ℕ). pour x at t) (sym (decimal-small n h))

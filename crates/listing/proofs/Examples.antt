@@ -1,12 +1,14 @@
--- Document 01's listing, whole, from the tray's bytes; the same with the charge; and a refusal's line. By evaluation.
+-- Document 01's listing, whole, from the tray's bytes; the same with the charge; the words under `reverse_solution`; and a refusal's line. By evaluation.
 use Prim.Native.Nat.{ℕ}
 use mathlib.Core.Path.{_≡_, refl}
+use mathlib.Core.Bool.{Bool, true, false}
 use mathlib.Core.List.{List, [], _∷_, _++_}
+use lib.IntN.{pos, negsuc}
 use Rattle.rates.specs.Charge.{chargeOf}
 use Rattle.geometry.specs.Plane.{areaOutpt}
-use Rattle.listing.specs.Text.{digits}
+use Rattle.listing.specs.Text.{digits, PIECE, HOLE, FLAT}
 use Rattle.listing.specs.Fields.{pointIn}
-use Rattle.listing.specs.Lines.{listingOf, refusedLine}
+use Rattle.listing.specs.Lines.{wordOf, listingOf, refusedLine}
 use Rattle.listing.specs.Charge.{chargedOf}
 
 -- closed 5,5 0,12 0,0, then closed 10,10 10,0 5,5
@@ -24,14 +26,24 @@ text =
     ++ (112 ∷ 105 ∷ 101 ∷ 99 ∷ 101 ∷ 32 ∷ 51 ∷ 32 ∷ 54 ∷ 48 ∷ 32 ∷ 53 ∷ 44 ∷ 53 ∷ 32 ∷ 48 ∷ 44 ∷ 49 ∷ 50 ∷ 32 ∷ 48 ∷ 44 ∷ 48 ∷ 10 ∷ [])
     ++ (104 ∷ 111 ∷ 108 ∷ 101 ∷ 32 ∷ 51 ∷ 32 ∷ 45 ∷ 53 ∷ 48 ∷ 32 ∷ 49 ∷ 48 ∷ 44 ∷ 49 ∷ 48 ∷ 32 ∷ 49 ∷ 48 ∷ 44 ∷ 48 ∷ 32 ∷ 53 ∷ 44 ∷ 53 ∷ 10 ∷ [])
 
-paper : listingOf 2 0 tray ≡ text
+paper : listingOf false 2 0 tray ≡ text
 unfolding listingOf digits pointIn areaOutpt tray text
 paper = refl
 
 -- charge 0 10000: 60 less 50, times 1,000
-charged : chargedOf 1000 2 0 tray ≡ text ++ (99 ∷ 104 ∷ 97 ∷ 114 ∷ 103 ∷ 101 ∷ 32 ∷ 48 ∷ 32 ∷ 49 ∷ 48 ∷ 48 ∷ 48 ∷ 48 ∷ 10 ∷ [])
+charged : chargedOf false 1000 2 0 tray ≡ text ++ (99 ∷ 104 ∷ 97 ∷ 114 ∷ 103 ∷ 101 ∷ 32 ∷ 48 ∷ 32 ∷ 49 ∷ 48 ∷ 48 ∷ 48 ∷ 48 ∷ 10 ∷ [])
 unfolding chargedOf chargeOf listingOf digits pointIn areaOutpt tray text
 charged = refl
+
+-- with the setting -60 is a piece and 50 a hole; zero is flat under either
+reversed-piece : wordOf true (negsuc 59) ≡ PIECE
+reversed-piece = refl
+
+reversed-hole : wordOf true (pos 50) ≡ HOLE
+reversed-hole = refl
+
+flat : (rev : Bool) → wordOf rev (pos 0) ≡ FLAT
+flat rev = refl
 
 -- refused 12
 refused : refusedLine 12 ≡ 114 ∷ 101 ∷ 102 ∷ 117 ∷ 115 ∷ 101 ∷ 100 ∷ 32 ∷ 49 ∷ 50 ∷ 10 ∷ []

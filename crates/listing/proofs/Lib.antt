@@ -6,6 +6,7 @@ pub mod Points
 pub mod Runs
 pub mod Heads
 pub mod Charging
+pub mod Senses
 pub mod Telling
 pub mod Examples
 pub mod Trays

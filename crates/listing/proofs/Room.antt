@@ -23,8 +23,8 @@ use Rattle.rates.specs.Charge.{chargeOf}
 use Rattle.listing.specs.Text.{SPACE, COMMA, NEWLINE, digit, digits, decimal, signedText, CLOSED, OPEN, LINE, REFUSED, CHARGE}
 use Rattle.listing.specs.Fields.{pathsIn}
 use Rattle.listing.specs.Lines.{wordOf, pointText, pointsText, headOf, lineOf, linesOf, firstLine, listingOf, refusedLine}
-use Rattle.listing.specs.Charge.{netArea, chargeText, chargedOf, pointCount}
-use Rattle.listing.specs.Needs.{Summable}
+use Rattle.listing.specs.Charge.{netArea, chargeText, chargedOf}
+use Rattle.listing.specs.Needs.{Summable, pointCount}
 use Rattle.listing.specs.Room.{TEXT}
 use Rattle.listing.proofs.Trays.{written-closed, written-listable, written-listing}
 
@@ -43,10 +43,12 @@ signed-le : (z : ℤ) → length (signedText z) ≤ 21
 signed-le (pos n) = omega (arith, digits-le 20 n)
 signed-le (negsuc n) = omega (arith, digits-le 20 (suc n))
 
-word-le : (z : ℤ) → length (wordOf z) ≤ 5
-word-le (pos zero) = omega arith
-word-le (pos (suc n)) = omega arith
-word-le (negsuc n) = omega arith
+word-le : (rev : Bool) (z : ℤ) → length (wordOf rev z) ≤ 5
+word-le rev (pos zero) = omega arith
+word-le true (pos (suc n)) = omega arith
+word-le false (pos (suc n)) = omega arith
+word-le true (negsuc n) = omega arith
+word-le false (negsuc n) = omega arith
 
 -- ---- lines
 
@@ -60,9 +62,9 @@ points-le : (path : List Point) → length (pointsText path) ≤ 44 * length pat
 points-le [] = omega arith
 points-le (p ∷ ps) = omega (arith, length-append (pointText p) (pointsText ps), point-le p, points-le ps)
 
-head-le : (o : Bool) (path : List Point) → length (headOf o path) ≤ 48
-head-le false path =
-    let w = wordOf (areaOutpt path) in
+head-le : (rev o : Bool) (path : List Point) → length (headOf rev o path) ≤ 48
+head-le rev false path =
+    let w = wordOf rev (areaOutpt path) in
     let d = decimal (length path) in
     omega (
       arith,
@@ -70,18 +72,18 @@ head-le false path =
       length-append (w ++ (SPACE ∷ []) ++ d) (SPACE ∷ []),
       length-append (w ++ (SPACE ∷ [])) d,
       length-append w (SPACE ∷ []),
-      word-le (areaOutpt path),
+      word-le rev (areaOutpt path),
       digits-le 20 (length path),
       signed-le (areaOutpt path),
     )
-head-le true path = omega (arith, length-append (LINE ++ (SPACE ∷ [])) (decimal (length path)), digits-le 20 (length path))
+head-le rev true path = omega (arith, length-append (LINE ++ (SPACE ∷ [])) (decimal (length path)), digits-le 20 (length path))
 
-line-le : (o : Bool) (path : List Point) → length (lineOf o path) ≤ 49 + 44 * length path
-line-le o path = omega (arith, length-append (headOf o path ++ pointsText path) (NEWLINE ∷ []), length-append (headOf o path) (pointsText path), head-le o path, points-le path)
+line-le : (rev o : Bool) (path : List Point) → length (lineOf rev o path) ≤ 49 + 44 * length path
+line-le rev o path = omega (arith, length-append (headOf rev o path ++ pointsText path) (NEWLINE ∷ []), length-append (headOf rev o path) (pointsText path), head-le rev o path, points-le path)
 
-lines-append : (o : Bool) (a b : List (List Point)) → length (linesOf o (a ++ b)) ≡ length (linesOf o a) + length (linesOf o b)
-lines-append o [] b = omega arith
-lines-append o (p ∷ a) b = omega (arith, length-append (lineOf o p) (linesOf o (a ++ b)), length-append (lineOf o p) (linesOf o a), lines-append o a b)
+lines-append : (rev o : Bool) (a b : List (List Point)) → length (linesOf rev o (a ++ b)) ≡ length (linesOf rev o a) + length (linesOf rev o b)
+lines-append rev o [] b = omega arith
+lines-append rev o (p ∷ a) b = omega (arith, length-append (lineOf rev o p) (linesOf rev o (a ++ b)), length-append (lineOf rev o p) (linesOf rev o a), lines-append rev o a b)
 
 first-le : (c o : ℕ) → length (firstLine c o) ≤ 54
 first-le c o =
@@ -122,44 +124,44 @@ count-listed (some p) = omega arith
 
 -- ---- the paths of a store: a record has one line at most
 
-line-of : (o : Bool) (x : Option (List Point)) → length (linesOf o (listed x)) ≤ 49 + 44 * sizeOf x
-line-of o none = omega arith
-line-of o (some p) = omega (arith, length-append (lineOf o p) [], line-le o p)
+line-of : (rev o : Bool) (x : Option (List Point)) → length (linesOf rev o (listed x)) ≤ 49 + 44 * sizeOf x
+line-of rev o none = omega arith
+line-of rev o (some p) = omega (arith, length-append (lineOf rev o p) [], line-le rev o p)
 
-module _ (s : Store) where
-  none-of : (o : Bool) (i : ℕ) → Bool·beq (isOpen s i) o ≡ false → length (linesOf o (listed (pathIf s o i))) ≡ 0
+module _ (s : Store) (rev : Bool) where
+  none-of : (o : Bool) (i : ℕ) → Bool·beq (isOpen s i) o ≡ false → length (linesOf rev o (listed (pathIf s o i))) ≡ 0
   unfolding pathIf
   none-of o i e = rw e
 
-  one-line : (i : ℕ) → length (linesOf false (listed (pathIf s false i))) + length (linesOf true (listed (pathIf s true i))) ≤ 49 + 44 * length (ringAt s i)
+  one-line : (i : ℕ) → length (linesOf rev false (listed (pathIf s false i))) + length (linesOf rev true (listed (pathIf s true i))) ≤ 49 + 44 * length (ringAt s i)
   one-line i = go (isOpen s i) refl
     where
-      go : (b : Bool) → isOpen s i ≡ b → length (linesOf false (listed (pathIf s false i))) + length (linesOf true (listed (pathIf s true i))) ≤ 49 + 44 * length (ringAt s i)
-      go true e = omega (arith, none-of false i (rw e), line-of true (pathIf s true i), size-le s true i)
-      go false e = omega (arith, none-of true i (rw e), line-of false (pathIf s false i), size-le s false i)
+      go : (b : Bool) → isOpen s i ≡ b → length (linesOf rev false (listed (pathIf s false i))) + length (linesOf rev true (listed (pathIf s true i))) ≤ 49 + 44 * length (ringAt s i)
+      go true e = omega (arith, none-of false i (rw e), line-of rev true (pathIf s true i), size-le s true i)
+      go false e = omega (arith, none-of true i (rw e), line-of rev false (pathIf s false i), size-le s false i)
 
-  all-lines : (n : ℕ) → length (linesOf false (pathsBelow n false s)) + length (linesOf true (pathsBelow n true s)) ≤ 49 * n + 44 * sumTo n (λ i. length (ringAt s i))
+  all-lines : (n : ℕ) → length (linesOf rev false (pathsBelow n false s)) + length (linesOf rev true (pathsBelow n true s)) ≤ 49 * n + 44 * sumTo n (λ i. length (ringAt s i))
   all-lines zero = omega arith
   all-lines (suc n) =
       omega (
         arith,
         all-lines n,
         one-line n,
-        lines-append false (pathsBelow n false s) (listed (pathIf s false n)),
-        lines-append true (pathsBelow n true s) (listed (pathIf s true n)),
+        lines-append rev false (pathsBelow n false s) (listed (pathIf s false n)),
+        lines-append rev true (pathsBelow n true s) (listed (pathIf s true n)),
       )
 
   module _ (o : Sound s) (n : ℕ) where
-    short : length (listingOf (length (closedPaths s)) (length (openPaths s)) (padded n (fieldsOf s))) + 49 ≤ TEXT
+    short : length (listingOf rev (length (closedPaths s)) (length (openPaths s)) (padded n (fieldsOf s))) + 49 ≤ TEXT
     short =
         let c = closedPaths s in
         let p = openPaths s in
         let a = firstLine (length c) (length p) in
         omega (
           arith,
-          ap length (written-listing s o n),
-          length-append (a ++ linesOf false c) (linesOf true p),
-          length-append a (linesOf false c),
+          ap length (written-listing s o n rev),
+          length-append (a ++ linesOf rev false c) (linesOf rev true p),
+          length-append a (linesOf rev false c),
           first-le (length c) (length p),
           all-lines (recs s),
           rings-few s o,
@@ -167,17 +169,18 @@ module _ (s : Store) where
           o .few-points,
         )
 
-    pub listing-le : length (listingOf (length (closedPaths s)) (length (openPaths s)) (padded n (fieldsOf s))) ≤ TEXT
+    pub listing-le : length (listingOf rev (length (closedPaths s)) (length (openPaths s)) (padded n (fieldsOf s))) ≤ TEXT
     listing-le = omega (arith, short)
 
-    pub charged-le : (rate : ℕ) → length (chargedOf rate (length (closedPaths s)) (length (openPaths s)) (padded n (fieldsOf s))) ≤ TEXT
+    pub charged-le : (rate : ℕ) → length (chargedOf rev rate (length (closedPaths s)) (length (openPaths s)) (padded n (fieldsOf s))) ≤ TEXT
     unfolding chargedOf
     charged-le rate =
         let c = chargeOf (natAbs (netArea (pathsIn (padded n (fieldsOf s)) (length (closedPaths s)) 0))) rate in
-        omega (arith, short, length-append (listingOf (length (closedPaths s)) (length (openPaths s)) (padded n (fieldsOf s))) (chargeText c), charge-le c)
+        omega (arith, short, length-append (listingOf rev (length (closedPaths s)) (length (openPaths s)) (padded n (fieldsOf s))) (chargeText c), charge-le c)
 
-  -- ---- the points of the closed paths are no more than a job has
+-- ---- the points of the closed paths are no more than a job has
 
+module _ (s : Store) where
   points-below : (o : Bool) (n : ℕ) → pointCount (pathsBelow n o s) ≤ sumTo n (λ i. length (ringAt s i))
   points-below o zero = omega arith
   points-below o (suc n) = omega (arith, points-below o n, count-append (pathsBelow n o s) (listed (pathIf s o n)), count-listed (pathIf s o n), size-le s o n)

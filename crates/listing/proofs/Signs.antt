@@ -1,7 +1,7 @@
 -- Signed numbers as the code holds them, and their text.
 use Prim.Native.Nat.{ℕ, zero, suc, _+_, _^_}
 use mathlib.Core.Path.{_≡_, refl, sym, ap, _∙_}
-use mathlib.Core.Bool.{true, false, false≢true, true≢false}
+use mathlib.Core.Bool.{Bool, true, false, cond, not, false≢true, true≢false}
 use mathlib.Core.List.{List, [], _∷_, _++_}
 use native.Mathlib.Omega.{arith}
 use native.Mathlib.Nat.{zero-add}
@@ -79,29 +79,37 @@ module _ (z : ℤ) (h : Within (2 ^ 62) z) (n at : ℕ) (t : List ℕ) (d : n �
 
 -- ---- the word
 
-hole-is : (z : ℤ) → ltZ z (pos 0) ≡ true → HOLE ≡ wordOf z
-hole-is (pos n) e = absurd (omega (arith, ltb-true n 0 e))
-hole-is (negsuc n) e = refl
+negative-is : (rev : Bool) (z : ℤ) → ltZ z (pos 0) ≡ true → cond rev PIECE HOLE ≡ wordOf rev z
+negative-is rev (pos n) e = absurd (omega (arith, ltb-true n 0 e))
+negative-is rev (negsuc n) e = refl
 
-piece-is : (z : ℤ) → ltZ (pos 0) z ≡ true → PIECE ≡ wordOf z
-piece-is (pos zero) e = absurd (omega (arith, ltb-true 0 0 e))
-piece-is (pos (suc n)) e = refl
-piece-is (negsuc n) e = absurd (false≢true e)
+positive-is : (rev : Bool) (z : ℤ) → ltZ (pos 0) z ≡ true → cond (not rev) PIECE HOLE ≡ wordOf rev z
+positive-is rev (pos zero) e = absurd (omega (arith, ltb-true 0 0 e))
+positive-is true (pos (suc n)) e = refl
+positive-is false (pos (suc n)) e = refl
+positive-is rev (negsuc n) e = absurd (false≢true e)
 
-flat-is : (z : ℤ) → ltZ z (pos 0) ≡ false → ltZ (pos 0) z ≡ false → FLAT ≡ wordOf z
-flat-is (pos zero) e f = refl
-flat-is (pos (suc n)) e f = absurd (omega (arith, ltb-false 0 (suc n) f))
-flat-is (negsuc n) e f = absurd (true≢false e)
+flat-is : (rev : Bool) (z : ℤ) → ltZ z (pos 0) ≡ false → ltZ (pos 0) z ≡ false → FLAT ≡ wordOf rev z
+flat-is rev (pos zero) e f = refl
+flat-is rev (pos (suc n)) e f = absurd (omega (arith, ltb-false 0 (suc n) f))
+flat-is rev (negsuc n) e f = absurd (true≢false e)
 
-module _ (z : ℤ) (h : Within (2 ^ 62) z) (at r : ℕ) (t v : List ℕ) where
-  word : (x : List ℕ) → x ≡ wordOf z → poured r v ≡ pour (x ++ (SPACE ∷ [])) at t → poured r v ≡ pour (wordOf z ++ (SPACE ∷ [])) at t
+-- what `put_sense` puts
+pub piece-poured : (piece : Bool) (at r : ℕ) (t v : List ℕ) → piece ≡ true → poured r v ≡ pour (PIECE ++ (SPACE ∷ [])) at t → poured r v ≡ pour (cond piece PIECE HOLE ++ (SPACE ∷ [])) at t
+piece-poured piece at r t v e f = f ∙ ap (λ (x : Bool). pour (cond x PIECE HOLE ++ (SPACE ∷ [])) at t) (sym e)
+
+pub hole-poured : (piece : Bool) (at r : ℕ) (t v : List ℕ) → piece ≡ false → poured r v ≡ pour (HOLE ++ (SPACE ∷ [])) at t → poured r v ≡ pour (cond piece PIECE HOLE ++ (SPACE ∷ [])) at t
+hole-poured piece at r t v e f = f ∙ ap (λ (x : Bool). pour (cond x PIECE HOLE ++ (SPACE ∷ [])) at t) (sym e)
+
+module _ (rev : Bool) (z : ℤ) (h : Within (2 ^ 62) z) (at r : ℕ) (t v : List ℕ) where
+  word : (x : List ℕ) → x ≡ wordOf rev z → poured r v ≡ pour (x ++ (SPACE ∷ [])) at t → poured r v ≡ pour (wordOf rev z ++ (SPACE ∷ [])) at t
   word x e f = f ∙ ap (λ (y : List ℕ). pour (y ++ (SPACE ∷ [])) at t) e
 
-  pub hole-poured : ltZ (toZ w64 (ofZ w64 z)) (pos 0) ≡ true → poured r v ≡ pour (HOLE ++ (SPACE ∷ [])) at t → poured r v ≡ pour (wordOf z ++ (SPACE ∷ [])) at t
-  hole-poured e f = word HOLE (hole-is z (rw (back z h) at e)) f
+  pub negative-poured : ltZ (toZ w64 (ofZ w64 z)) (pos 0) ≡ true → poured r v ≡ pour (cond rev PIECE HOLE ++ (SPACE ∷ [])) at t → poured r v ≡ pour (wordOf rev z ++ (SPACE ∷ [])) at t
+  negative-poured e f = word (cond rev PIECE HOLE) (negative-is rev z (rw (back z h) at e)) f
 
-  pub piece-poured : ltZ (pos 0) (toZ w64 (ofZ w64 z)) ≡ true → poured r v ≡ pour (PIECE ++ (SPACE ∷ [])) at t → poured r v ≡ pour (wordOf z ++ (SPACE ∷ [])) at t
-  piece-poured e f = word PIECE (piece-is z (rw (back z h) at e)) f
+  pub positive-poured : ltZ (pos 0) (toZ w64 (ofZ w64 z)) ≡ true → poured r v ≡ pour (cond (not rev) PIECE HOLE ++ (SPACE ∷ [])) at t → poured r v ≡ pour (wordOf rev z ++ (SPACE ∷ [])) at t
+  positive-poured e f = word (cond (not rev) PIECE HOLE) (positive-is rev z (rw (back z h) at e)) f
 
-  pub flat-poured : ltZ (toZ w64 (ofZ w64 z)) (pos 0) ≡ false → ltZ (pos 0) (toZ w64 (ofZ w64 z)) ≡ false → poured r v ≡ pour (FLAT ++ (SPACE ∷ [])) at t → poured r v ≡ pour (wordOf z ++ (SPACE ∷ [])) at t
-  flat-poured e g f = word FLAT (flat-is z (rw (back z h) at e) (rw (back z h) at g)) f
+  pub flat-poured : ltZ (toZ w64 (ofZ w64 z)) (pos 0) ≡ false → ltZ (pos 0) (toZ w64 (ofZ w64 z)) ≡ false → poured r v ≡ pour (FLAT ++ (SPACE ∷ [])) at t → poured r v ≡ pour (wordOf rev z ++ (SPACE ∷ [])) at t
+  flat-poured e g f = word FLAT (flat-is rev z (rw (back z h) at e) (rw (back z h) at g)) f

@@ -23,10 +23,10 @@ use Rattle.listing.proofs.Runs.{less}
 
 -- ---- lines
 
-pub going-begins : (t : List ℕ) (from count : ℕ) (o : Bool) (at : ℕ) (out : List ℕ) → FieldsIn t count from → Going t from count o at out out at from count
-going-begins t from count o at out r = record { rest = r; done = []; is = pour-none out at; all = refl; after = refl }
+pub going-begins : (t : List ℕ) (from count : ℕ) (rev o : Bool) (at : ℕ) (out : List ℕ) → FieldsIn t count from → Going t from count rev o at out out at from count
+going-begins t from count rev o at out r = record { rest = r; done = []; is = pour-none out at; all = refl; after = refl }
 
-module _ (t : List ℕ) (from count : ℕ) (o : Bool) (at : ℕ) (out₀ out : List ℕ) (k f left : ℕ) (s : Going t from count o at out₀ out k f left) where
+module _ (t : List ℕ) (from count : ℕ) (rev o : Bool) (at : ℕ) (out₀ out : List ℕ) (k f left : ℕ) (s : Going t from count rev o at out₀ out k f left) where
   pub going-length : length out ≡ length out₀
   going-length = pour-length (s .done) out₀ out at k (s .is)
 
@@ -36,11 +36,11 @@ module _ (t : List ℕ) (from count : ℕ) (o : Bool) (at : ℕ) (out₀ out : L
   pub going-after : left ≤ 0 → f ≡ fieldAfter t count from
   going-after h = ap (λ (m : ℕ). fieldAfter t m f) (sym (none-left h)) ∙ s .after
 
-  pub going-ends : left ≤ 0 → poured k out ≡ pour (linesOf o (pathsIn t count from)) at out₀
+  pub going-ends : left ≤ 0 → poured k out ≡ pour (linesOf rev o (pathsIn t count from)) at out₀
   going-ends h =
       s .is
       ∙ ap (λ (x : List ℕ). pour x at out₀)
-      (sym (append-nil (s .done)) ∙ ap (λ (m : ℕ). s .done ++ linesOf o (pathsIn t m f)) (sym (none-left h)) ∙ s .all)
+      (sym (append-nil (s .done)) ∙ ap (λ (m : ℕ). s .done ++ linesOf rev o (pathsIn t m f)) (sym (none-left h)) ∙ s .all)
 
   module _ (h : 0 < left) where
     fields : FieldIn t f × FieldsIn t (left - 1) (nextField t f)
@@ -49,16 +49,16 @@ module _ (t : List ℕ) (from count : ℕ) (o : Bool) (at : ℕ) (out₀ out : L
     pub going-field : FieldIn t f
     going-field = fields .0
 
-    pub going-on : (k′ v : ℕ) (out′ : List ℕ) → poured k′ out′ ≡ pour (lineOf o (pathIn t f)) k out → v ≡ valueLength t f → Going t from count o at out₀ out′ k′ (f + 3 + v) (left - 1)
+    pub going-on : (k′ v : ℕ) (out′ : List ℕ) → poured k′ out′ ≡ pour (lineOf rev o (pathIn t f)) k out → v ≡ valueLength t f → Going t from count rev o at out₀ out′ k′ (f + 3 + v) (left - 1)
     going-on k′ v out′ e g =
         rw g
         (record {
           rest = fields .1;
-          done = s .done ++ lineOf o (pathIn t f);
-          is = pour-more (s .done) (lineOf o (pathIn t f)) out₀ out out′ at k k′ (s .is) e;
+          done = s .done ++ lineOf rev o (pathIn t f);
+          is = pour-more (s .done) (lineOf rev o (pathIn t f)) out₀ out out′ at k k′ (s .is) e;
           all =
-              append-assoc (s .done) (lineOf o (pathIn t f)) (linesOf o (pathsIn t (left - 1) (nextField t f)))
-              ∙ ap (λ (m : ℕ). s .done ++ linesOf o (pathsIn t m f)) (sym (less left h))
+              append-assoc (s .done) (lineOf rev o (pathIn t f)) (linesOf rev o (pathsIn t (left - 1) (nextField t f)))
+              ∙ ap (λ (m : ℕ). s .done ++ linesOf rev o (pathsIn t m f)) (sym (less left h))
               ∙ s .all;
           after = ap (λ (m : ℕ). fieldAfter t m f) (sym (less left h)) ∙ s .after;
         })
@@ -122,12 +122,12 @@ pub no-room : (at : ℕ) (u : List ℕ) → length u < at → NoRoom ≡ answerA
 no-room at u h = rw (lt-leb at (length u) h)
 
 -- the listing: counts, closed lines, open lines
-pub listing-poured : (c o a b d : ℕ) (t o₁ o₂ o₃ o₄ : List ℕ) (f : ℕ) → poured a o₂ ≡ pour (firstLine c o) 0 o₁ → poured b o₃ ≡ pour (linesOf false (pathsIn t c 0)) a o₂ → f ≡ fieldAfter t c 0
-    → poured d o₄ ≡ pour (linesOf true (pathsIn t o f)) b o₃ → poured d o₄ ≡ pour (listingOf c o t) 0 o₁
+pub listing-poured : (rev : Bool) (c o a b d : ℕ) (t o₁ o₂ o₃ o₄ : List ℕ) (f : ℕ) → poured a o₂ ≡ pour (firstLine c o) 0 o₁ → poured b o₃ ≡ pour (linesOf rev false (pathsIn t c 0)) a o₂ → f ≡ fieldAfter t c 0
+    → poured d o₄ ≡ pour (linesOf rev true (pathsIn t o f)) b o₃ → poured d o₄ ≡ pour (listingOf rev c o t) 0 o₁
 unfolding listingOf
-listing-poured c o a b d t o₁ o₂ o₃ o₄ f e g h i =
-    pour-more (firstLine c o ++ linesOf false (pathsIn t c 0)) (linesOf true (pathsIn t o f)) o₁ o₃ o₄ 0 b d (pour-more (firstLine c o) (linesOf false (pathsIn t c 0)) o₁ o₂ o₃ 0 a b e g) i
-    ∙ ap (λ (x : ℕ). pour (firstLine c o ++ linesOf false (pathsIn t c 0) ++ linesOf true (pathsIn t o x)) 0 o₁) h
+listing-poured rev c o a b d t o₁ o₂ o₃ o₄ f e g h i =
+    pour-more (firstLine c o ++ linesOf rev false (pathsIn t c 0)) (linesOf rev true (pathsIn t o f)) o₁ o₃ o₄ 0 b d (pour-more (firstLine c o) (linesOf rev false (pathsIn t c 0)) o₁ o₂ o₃ 0 a b e g) i
+    ∙ ap (λ (x : ℕ). pour (firstLine c o ++ linesOf rev false (pathsIn t c 0) ++ linesOf rev true (pathsIn t o x)) 0 o₁) h
 
 pub open-asked : (c o : ℕ) (t : List ℕ) (f : ℕ) → Listable c o t → f ≡ fieldAfter t c 0 → FieldsIn t o f
 open-asked c o t f h e = rw e (h .open-in)

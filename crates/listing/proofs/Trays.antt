@@ -1,7 +1,7 @@
 -- A tray that crate paths wrote is read back: its fields hold the paths that were written, and it can be listed.
 use Prim.Native.Nat.{ℕ, _+_, _-_, _*_, _/_, _%_, _^_, _≤_, _<_}
 use mathlib.Core.Path.{_≡_, refl, sym, ap, _∙_, subst}
-use mathlib.Core.Bool.{true, false}
+use mathlib.Core.Bool.{Bool, true, false}
 use mathlib.Core.List.{List, [], _∷_, _++_, append-assoc, append-nil}
 use native.Mathlib.Omega.{arith}
 use native.Mathlib.Nat.{mod-eq-of-lt}
@@ -222,7 +222,7 @@ module _ (s : Store) (o : Sound s) (n : ℕ) where
       }
 
   -- and its listing is that of the store's paths
-  pub written-listing : listingOf (length (closedPaths s)) (length (openPaths s)) (padded n (fieldsOf s))
-      ≡ firstLine (length (closedPaths s)) (length (openPaths s)) ++ linesOf false (closedPaths s) ++ linesOf true (openPaths s)
+  pub written-listing : (rev : Bool) → listingOf rev (length (closedPaths s)) (length (openPaths s)) (padded n (fieldsOf s))
+      ≡ firstLine (length (closedPaths s)) (length (openPaths s)) ++ linesOf rev false (closedPaths s) ++ linesOf rev true (openPaths s)
   unfolding listingOf
-  written-listing = rw (written-closed, written-open)
+  written-listing rev = rw (written-closed, written-open)

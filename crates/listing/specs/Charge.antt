@@ -1,9 +1,8 @@
 -- The charge line: document 02, Ask 1, "A last line has `charge`, quotient, remainder".
 use Prim.Native.Nat.{ℕ}
+use mathlib.Core.Bool.{Bool}
 use mathlib.Core.List.{List, [], _∷_, _++_}
 use lib.IntN.{ℤ, pos, natAbs, _+ℤ_}
-use lib.ListN.{length}
-use Rattle.rings.specs.Count.{sumBy}
 use Rattle.rates.specs.declared.Charge.{Charge}
 use Rattle.rates.specs.Charge.{chargeOf}
 use Rattle.geometry.specs.declared.Point.{Point}
@@ -26,9 +25,5 @@ abbrev pub chargeLine : ℕ → List (List Point) → List ℕ
 chargeLine rate ps = chargeText (chargeOf (natAbs (netArea ps)) rate)
 
 -- the listing of a tray, and the charge of its closed paths at a rate
-unfoldable pub chargedOf : ℕ → ℕ → ℕ → List ℕ → List ℕ
-chargedOf rate closed open′ t = listingOf closed open′ t ++ chargeLine rate (pathsIn t closed 0)
-
--- how many points the paths have
-abbrev pub pointCount : List (List Point) → ℕ
-pointCount ps = sumBy length ps
+unfoldable pub chargedOf : Bool → ℕ → ℕ → ℕ → List ℕ → List ℕ
+chargedOf rev rate closed open′ t = listingOf rev closed open′ t ++ chargeLine rate (pathsIn t closed 0)

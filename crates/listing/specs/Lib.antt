@@ -5,5 +5,6 @@ pub mod Fields
 pub mod Needs
 pub mod Lines
 pub mod Charge
+pub mod Senses
 pub mod Room
 pub mod Told

@@ -5,13 +5,15 @@ use mathlib.Core.List.{List, _++_}
 use lib.IntN.{ℤ, natAbs, _+ℤ_}
 use lib.ListN.{length}
 use Rattle.job.specs.Limits.{POINTS}
+use Rattle.rings.specs.Count.{sumBy}
+use Rattle.geometry.specs.declared.Point.{Point}
 use Rattle.geometry.specs.Plane.{areaFrom}
 use Rattle.geometry.specs.Table.{InTable, AllInTable}
 use Rattle.listing.specs.Fields.{nextField, pathIn, pointIn, pointsIn, pathsIn, fieldAfter}
 use mathlib.Core.Bool.{Bool}
 use Rattle.listing.specs.Pour.{poured, pour}
 use Rattle.listing.specs.Lines.{linesOf, pointsText}
-use Rattle.listing.specs.Charge.{netArea, pointCount}
+use Rattle.listing.specs.Charge.{netArea}
 use Rattle.listing.specs.declared.Listed.{Listed}
 use Rattle.listing.specs.declared.Listed.the-variants.{Bytes, NoRoom}
 
@@ -56,11 +58,11 @@ pub record Showing (t : List ℕ) (from n at : ℕ) (out₀ out : List ℕ) (k f
   pub all : done ++ pointsText (pointsIn t left f) ≡ pointsText (pointsIn t n from)
 
 -- ---- lines in the making: `left` fields are left, the first of them at f
-pub record Going (t : List ℕ) (from count : ℕ) (o : Bool) (at : ℕ) (out₀ out : List ℕ) (k f left : ℕ) : Type 0 where
+pub record Going (t : List ℕ) (from count : ℕ) (rev o : Bool) (at : ℕ) (out₀ out : List ℕ) (k f left : ℕ) : Type 0 where
   pub rest : FieldsIn t left f
   pub done : List ℕ
   pub is : poured k out ≡ pour done at out₀
-  pub all : done ++ linesOf o (pathsIn t left f) ≡ linesOf o (pathsIn t count from)
+  pub all : done ++ linesOf rev o (pathsIn t left f) ≡ linesOf rev o (pathsIn t count from)
   pub after : fieldAfter t left f ≡ fieldAfter t count from
 
 -- there was room for all of the text, in a slice of n bytes
@@ -74,6 +76,10 @@ pub record Listable (closed open′ : ℕ) (t : List ℕ) : Type 0 where
   pub open-in : FieldsIn t open′ (fieldAfter t closed 0)
 
 -- ---- the charge
+
+-- how many points the paths have
+abbrev pub pointCount : List (List Point) → ℕ
+pointCount ps = sumBy length ps
 
 -- n closed paths, of no more points than a job has
 pub record Summable (t : List ℕ) (n : ℕ) : Type 0 where

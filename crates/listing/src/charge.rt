@@ -11,7 +11,7 @@ use crate::value_length;
 use rates::Charge;
 use rates::charge_of;
 ghost use mathlib.Core.Path.{_≡_};
-ghost use Prim.Native.Nat.{_≤_, _^_};
+ghost use Prim.Native.Nat.{_≤_};
 ghost use lib.IntN.{natAbs};
 ghost use Rattle.rates.specs.Rate.{LARGEST};
 ghost use Rattle.rates.specs.Charge.{chargeOf};
@@ -61,12 +61,19 @@ fn put_charge(c: Charge, out: &mut [u8], at: usize) -> usize
 }
 
 // The listing of a tray, with the charge of its closed paths at a rate.
-pub fn charged(t: &[u8], closed: usize, opened: usize, rate: u64, out: &mut [u8]) -> Listed
+pub fn charged(
+    t: &[u8],
+    closed: usize,
+    opened: usize,
+    rev: bool,
+    rate: u64,
+    out: &mut [u8],
+) -> Listed
     requires { ⌜ Listable closed opened (now t) ⌝ ∗ ⌜ Summable (now t) closed ⌝ ∗ ⌜ rate ≤ LARGEST ⌝ }
-    ensures { λ r. ⌜ told r (now (out .exit)) ≡ tell (chargedOf rate closed opened (now (t .entry))) (now (out .entry)) ⌝ }
+    ensures { λ r. ⌜ told r (now (out .exit)) ≡ tell (chargedOf rev rate closed opened (now (t .entry))) (now (out .entry)) ⌝ }
 {
     let c = charge_in(t, closed, rate);
-    let a = put_listing(t, closed, opened, out);
+    let a = put_listing(t, closed, opened, rev, out);
     let b = put_charge(c, out, a);
     answer(b, out)
 }

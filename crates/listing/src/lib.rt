@@ -5,6 +5,7 @@ use geometry::Point;
 use job::Job;
 use store::points::lower;
 ghost use mathlib.Core.Path.{_≡_};
+ghost use mathlib.Core.Bool.{cond};
 ghost use mathlib.Core.List.{[], _∷_, _++_};
 ghost use Prim.Native.Nat.{_+_, _<_, _≤_, _^_};
 ghost use lib.IntN.{natAbs};
@@ -12,7 +13,7 @@ ghost use lib.ListN.{length};
 ghost use Rattle.geometry.specs.Plane.{edgeArea, areaOutpt};
 ghost use Rattle.exact.specs.Num.{Within};
 ghost use Rattle.listing.specs.Pour.{poured, pour};
-ghost use Rattle.listing.specs.Text.{SPACE, decimal, signedText};
+ghost use Rattle.listing.specs.Text.{SPACE, decimal, signedText, PIECE, HOLE};
 ghost use Rattle.listing.specs.Fields.{pointIn, pointsIn, valueLength, pathIn, pathsIn, fieldAfter};
 ghost use Rattle.listing.specs.Needs.{Held, Run, Sized, FieldIn, FieldsIn};
 ghost use Rattle.listing.specs.Lines.{wordOf, pointText, pointsText, closedHead, headOf, lineOf, linesOf, firstLine, listingOf, refusedLine};
@@ -29,7 +30,7 @@ fn text_agrees()
 {}
 
 // One byte, if there is room; answers where the next one goes.
-fn put(out: &mut [u8], at: usize, b: u8) -> usize
+pub fn put(out: &mut [u8], at: usize, b: u8) -> usize
     ensures { λ r. ⌜ poured r (now (out .exit)) ≡ pour (b ∷ []) at (now (out .entry)) ⌝ }
 {
     let n = out.len();
@@ -44,7 +45,7 @@ fn put(out: &mut [u8], at: usize, b: u8) -> usize
 }
 
 // A word.
-fn put_text(out: &mut [u8], at: usize, s: &[u8]) -> usize
+pub fn put_text(out: &mut [u8], at: usize, s: &[u8]) -> usize
     ensures { λ r. ⌜ poured r (now (out .exit)) ≡ pour (now (s .entry)) at (now (out .entry)) ⌝ }
 {
     let n = s.len();
@@ -58,7 +59,7 @@ fn put_text(out: &mut [u8], at: usize, s: &[u8]) -> usize
 }
 
 // A decimal number.
-fn put_decimal(out: &mut [u8], at: usize, n: u64) -> usize
+pub fn put_decimal(out: &mut [u8], at: usize, n: u64) -> usize
     ensures { λ r. ⌜ poured r (now (out .exit)) ≡ pour (decimal n) at (now (out .entry)) ⌝ }
 {
     if n < 10 {
@@ -92,16 +93,26 @@ fn put_signed(out: &mut [u8], at: usize, z: i64) -> usize
     put_decimal(out, at, n)
 }
 
-// The word of a closed path, by its doubled area.
-fn put_word(out: &mut [u8], at: usize, a: i64) -> usize
+// `piece` or `hole`.
+fn put_sense(out: &mut [u8], at: usize, piece: bool) -> usize
+    ensures { λ r. ⌜ poured r (now (out .exit)) ≡ pour (cond piece PIECE HOLE ++ (SPACE ∷ [])) at (now (out .entry)) ⌝ }
+{
+    if piece {
+        return put_text(out, at, b"piece ");
+    }
+    put_text(out, at, b"hole ")
+}
+
+// The word of a closed path, by its doubled area and the setting `reverse_solution`.
+fn put_word(out: &mut [u8], at: usize, a: i64, rev: bool) -> usize
     requires { ⌜ Within (2 ^ 62) a ⌝ }
-    ensures { λ r. ⌜ poured r (now (out .exit)) ≡ pour (wordOf a ++ (SPACE ∷ [])) at (now (out .entry)) ⌝ }
+    ensures { λ r. ⌜ poured r (now (out .exit)) ≡ pour (wordOf rev a ++ (SPACE ∷ [])) at (now (out .entry)) ⌝ }
 {
     if a < 0 {
-        return put_text(out, at, b"hole ");
+        return put_sense(out, at, rev);
     }
     if 0 < a {
-        return put_text(out, at, b"piece ");
+        return put_sense(out, at, !rev);
     }
     put_text(out, at, b"flat ")
 }
@@ -184,27 +195,35 @@ fn area_in(t: &[u8], from: usize, n: usize) -> i64
 // ---- a path's line
 
 // A closed path's word, number of points and doubled area.
-fn put_closed(t: &[u8], from: usize, n: usize, out: &mut [u8], at: usize) -> usize
+fn put_closed(t: &[u8], from: usize, n: usize, rev: bool, out: &mut [u8], at: usize) -> usize
     requires { ⌜ Sized (now t) n from ⌝ }
-    ensures { λ r. ⌜ poured r (now (out .exit)) ≡ pour (closedHead (pointsIn (now (t .entry)) n from)) at (now (out .entry)) ⌝ }
+    ensures { λ r. ⌜ poured r (now (out .exit)) ≡ pour (closedHead rev (pointsIn (now (t .entry)) n from)) at (now (out .entry)) ⌝ }
 {
     let area = area_in(t, from, n);
-    let a = put_word(out, at, area);
+    let a = put_word(out, at, area, rev);
     let b = put_decimal(out, a, n as u64);
     let c = put(out, b, b' ');
     put_signed(out, c, area)
 }
 
 // What stands before a path's points.
-fn put_head(t: &[u8], from: usize, n: usize, opened: bool, out: &mut [u8], at: usize) -> usize
+fn put_head(
+    t: &[u8],
+    from: usize,
+    n: usize,
+    rev: bool,
+    opened: bool,
+    out: &mut [u8],
+    at: usize,
+) -> usize
     requires { ⌜ Sized (now t) n from ⌝ }
-    ensures { λ r. ⌜ poured r (now (out .exit)) ≡ pour (headOf opened (pointsIn (now (t .entry)) n from)) at (now (out .entry)) ⌝ }
+    ensures { λ r. ⌜ poured r (now (out .exit)) ≡ pour (headOf rev opened (pointsIn (now (t .entry)) n from)) at (now (out .entry)) ⌝ }
 {
     if opened {
         let a = put_text(out, at, b"line ");
         return put_decimal(out, a, n as u64);
     }
-    put_closed(t, from, n, out, at)
+    put_closed(t, from, n, rev, out, at)
 }
 
 // The length of the value of the field at `from`.
@@ -216,14 +235,14 @@ fn value_length(t: &[u8], from: usize) -> usize
 }
 
 // The line of the path of the field at `from`.
-fn put_line(t: &[u8], from: usize, opened: bool, out: &mut [u8], at: usize) -> usize
+fn put_line(t: &[u8], from: usize, rev: bool, opened: bool, out: &mut [u8], at: usize) -> usize
     requires { ⌜ FieldIn (now t) from ⌝ }
-    ensures { λ r. ⌜ poured r (now (out .exit)) ≡ pour (lineOf opened (pathIn (now (t .entry)) from)) at (now (out .entry)) ⌝ }
+    ensures { λ r. ⌜ poured r (now (out .exit)) ≡ pour (lineOf rev opened (pathIn (now (t .entry)) from)) at (now (out .entry)) ⌝ }
 {
     let length = value_length(t, from);
     let n = length / 8;
     let body = from + 3;
-    let a = put_head(t, body, n, opened, out, at);
+    let a = put_head(t, body, n, rev, opened, out, at);
     let b = put_points(t, body, n, out, a);
     put(out, b, b'\n')
 }
@@ -237,15 +256,23 @@ struct Places {
 }
 
 // The lines of `count` paths, the first field at `from`.
-fn put_lines(t: &[u8], from: usize, count: usize, opened: bool, out: &mut [u8], at: usize) -> Places
+fn put_lines(
+    t: &[u8],
+    from: usize,
+    count: usize,
+    rev: bool,
+    opened: bool,
+    out: &mut [u8],
+    at: usize,
+) -> Places
     requires { ⌜ FieldsIn (now t) count from ⌝ }
-    ensures { λ r. ⌜ (r .from ≡ fieldAfter (now (t .entry)) count from) × (poured (r .at) (now (out .exit)) ≡ pour (linesOf opened (pathsIn (now (t .entry)) count from)) at (now (out .entry))) ⌝ }
+    ensures { λ r. ⌜ (r .from ≡ fieldAfter (now (t .entry)) count from) × (poured (r .at) (now (out .exit)) ≡ pour (linesOf rev opened (pathsIn (now (t .entry)) count from)) at (now (out .entry))) ⌝ }
 {
     let mut k = at;
     let mut f = from;
     let mut left = count;
     while 0 < left {
-        k = put_line(t, f, opened, out, k);
+        k = put_line(t, f, rev, opened, out, k);
         let length = value_length(t, f);
         f = f + 3 + length;
         left -= 1;
@@ -279,25 +306,25 @@ fn answer(at: usize, out: &[u8]) -> Listed
     Listed::NoRoom
 }
 
-// The lines of a tray that begins with the fields of so many closed and then so many open paths.
-fn put_listing(t: &[u8], closed: usize, opened: usize, out: &mut [u8]) -> usize
+// The lines of a tray that begins with the fields of so many closed and then so many open paths, written under the setting `rev` of `reverse_solution`.
+fn put_listing(t: &[u8], closed: usize, opened: usize, rev: bool, out: &mut [u8]) -> usize
     requires { ⌜ Listable closed opened (now t) ⌝ }
-    ensures { λ r. ⌜ poured r (now (out .exit)) ≡ pour (listingOf closed opened (now (t .entry))) 0 (now (out .entry)) ⌝ }
+    ensures { λ r. ⌜ poured r (now (out .exit)) ≡ pour (listingOf rev closed opened (now (t .entry))) 0 (now (out .entry)) ⌝ }
 {
     let a = put_counts(closed, opened, out);
-    let b = put_lines(t, 0, closed, false, out, a);
+    let b = put_lines(t, 0, closed, rev, false, out, a);
     let from = b.from;
     let place = b.at;
-    let c = put_lines(t, from, opened, true, out, place);
+    let c = put_lines(t, from, opened, rev, true, out, place);
     c.at
 }
 
 // The listing of such a tray.
-pub fn listing(t: &[u8], closed: usize, opened: usize, out: &mut [u8]) -> Listed
+pub fn listing(t: &[u8], closed: usize, opened: usize, rev: bool, out: &mut [u8]) -> Listed
     requires { ⌜ Listable closed opened (now t) ⌝ }
-    ensures { λ r. ⌜ told r (now (out .exit)) ≡ tell (listingOf closed opened (now (t .entry))) (now (out .entry)) ⌝ }
+    ensures { λ r. ⌜ told r (now (out .exit)) ≡ tell (listingOf rev closed opened (now (t .entry))) (now (out .entry)) ⌝ }
 {
-    let a = put_listing(t, closed, opened, out);
+    let a = put_listing(t, closed, opened, rev, out);
     answer(a, out)
 }
 

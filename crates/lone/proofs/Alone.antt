@@ -9,8 +9,8 @@ use native.Mathlib.Nat.{add-zero, zero-add, add-assoc, not-suc-le-zero, le-of-lt
 use native.Mathlib.Numerals.{add-one}
 use native.Mathlib.Omega.{arith}
 use native.Mathlib.Decide.{decLt, ℕ-discrete}
-use lib.ListN.{length, set, getElem?, length-append, length-set, length-map}
-use lib.Seq.{take-all, getD-set-other, getD-at, map-set-same, take-append-le}
+use lib.ListN.{length, set, getElem?, length-append, length-map}
+use lib.Seq.{take-all, getD-set-other, map-set-same, take-append-le}
 use lib.Dec.{eqb}
 use borrow.Author.Tests.{eq-eqb, ne-eqb}
 use Rattle.rings.specs.Count.{sumBy}
@@ -18,7 +18,7 @@ use Rattle.rings.proofs.Counting.{sumBy-append, sumBy-set}
 use Rattle.lone.specs.Forest.{ok, full, outOfTurn, Machine, State, initial, toList, Entry, ringless, openRing, closedRing, Fed, leftRingless, leftOpen, leftClosed, Forest, names, naming, isOk}
 use Rattle.lone.specs.Forest.{enter, opening, newEntry, at, OfClosed, cutFrom, offcutsOf, takenBy, rank, allTaken, allCut, stepState, stepsState, stepsEntry, stepEntries, carryOut, answerTo, answer, stepForest, runForest, accepted}
 use Rattle.lone.specs.Order.{IsOffcut, Alone, Exactly, Independent}
-use Rattle.lone.proofs.Stepping.{step-length, step-here, step-other, Accepted, Refused, view, exactly}
+use Rattle.lone.proofs.Stepping.{step-length, step-here, step-other, step-added, Accepted, Refused, view, exactly}
 pub use Rattle.lone.proofs.Stepping.{at-closed}
 
 bump : (ℕ → ℕ) → ℕ → ℕ → ℕ
@@ -102,7 +102,7 @@ module _ {S X : Type 0} (M : Machine S) where
 
     after-new : (s : S) → M .cuts (L .now) ≡ some s → at after (length es) ≡ closedRing (some i) (initial s)
     unfolding after
-    after-new s e = ap (λ (o : Option S). at (set es i (closedRing q (stepState M L)) ++ newEntry i o) (length es)) e ∙ (getD-at (set es i (closedRing q (stepState M L))) (closedRing (some i) (initial s)) [] ringless (length es) (length-set es i (closedRing q (stepState M L))))
+    after-new s e = step-added M es i q L s e
 
     cutFrom-kept : map cutFrom (set es i (closedRing q (stepState M L))) ≡ map cutFrom es
     cutFrom-kept = map-set-same cutFrom es i (closedRing q (stepState M L)) ringless (sym (ap cutFrom here))

@@ -100,13 +100,13 @@ module _ {P : Type 0} where
     lowers : (c : List P) (f : ℕ) (s : Option ℕ) (d : Due) → HasStart d s → isDone d ≡ false → Lowers (ring c f s d) (decide G c f s d)
     unfolding Lowers ring
     lowers c f s validity g h = validity-cases G (Lowers (ring c f s validity)) c f s (λ e. (refl, rw (length-spin f c) (omega arith))) (discard-low c f s validity h)
-    lowers c f s removal g h = removal-cases G (Lowers (ring c f s removal)) c f s (discard-low c f s removal h) (λ x xs e v. removal-drop c f s x xs e) (removal-on c f s g)
+    lowers c f s removal g h = removal-cases G (Lowers (ring c f s removal)) c f s (discard-low c f s removal h) (λ x xs e t v. removal-drop c f s x xs e) (λ x xs e t. removal-on c f s g x xs e)
     lowers c f s triangle g h = triangle-cases G (Lowers (ring c f s triangle)) c f s (λ b i. go b)
       where
         go : (b : Bool) → Lowers (ring c f s triangle) (toFirst (cond b done split))
         go true e = (refl, omega arith)
         go false e = (refl, rw (length-spin f c) (omega arith))
-    lowers c f s split g h = split-cases G (Lowers (ring c f s split)) c f s (discard-low c f s split h) (split-on c f s) (λ x xs e k v b i z. absurd (omega arith)) (λ x xs e k v put off b i. split-cut c f s x xs e v put off b)
+    lowers c f s split g h = split-cases G (Lowers (ring c f s split)) c f s (discard-low c f s split h) (split-on c f s) (λ x xs e k v o b i z. absurd (omega arith)) (λ x xs e k v o put off b i. split-cut c f s x xs e v put off b)
     lowers c f s done g h = absurd (true≢false h)
 
     -- with its start on the circle

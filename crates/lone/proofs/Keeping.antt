@@ -144,14 +144,14 @@ module _ {P : Type 0} (G : Geo P) where
     starts : (d : Due) → HasStart d (R .start) → HasStart (R .due) (R .start) → Starts (decide G (R .circle) (R .first) (R .start) d)
     unfolding Starts decide
     starts validity h h′ = validity-cases G Starts (R .circle) (R .first) (R .start) tt tt
-    starts removal h h′ = removal-cases G Starts (R .circle) (R .first) (R .start) tt (λ x xs e v. tt) (λ x xs e b i. go (R .start) h b)
+    starts removal h h′ = removal-cases G Starts (R .circle) (R .first) (R .start) tt (λ x xs e t v. tt) (λ x xs e t b i. go (R .start) h b)
       where
         go : (s : Option ℕ) → HasStart removal s → (b : Bool) → HasStart (cond b triangle removal) (omap (ahead (length (R .circle))) s)
         go none h b = absurd h
         go (some k) h true = tt
         go (some k) h false = tt
     starts triangle h h′ = triangle-cases G Starts (R .circle) (R .first) (R .start) (λ b e. two b (some 0))
-    starts split h h′ = split-cases G Starts (R .circle) (R .first) (R .start) tt (λ x xs e b i. two b (omap (ahead (length (R .circle))) (R .start))) (λ x xs e c v b i. two b (R .start)) (λ x xs e c v put off b i. two b (cutStart put (length (R .circle)) (R .start)))
+    starts split h h′ = split-cases G Starts (R .circle) (R .first) (R .start) tt (λ x xs e b i. two b (omap (ahead (length (R .circle))) (R .start))) (λ x xs e c v o b i. two b (R .start)) (λ x xs e c v o put off b i. two b (cutStart put (length (R .circle)) (R .start)))
     starts done h h′ = h′
 
   -- a removal turn has its start on the circle
@@ -197,7 +197,7 @@ module _ {P : Type 0} (G : Geo P) (laws : GeoLaws G) where
     sizes : (d : Due) → SplitSize d (length (R .circle)) → SplitSize (R .due) (length (R .circle)) → Sizes (decide G (R .circle) (R .first) (R .start) d)
     unfolding Sizes decide
     sizes validity h h′ = validity-cases G Sizes (R .circle) (R .first) (R .start) tt tt
-    sizes removal h h′ = removal-cases G Sizes (R .circle) (R .first) (R .start) tt (λ x xs e v. tt) (λ x xs e b i. go b)
+    sizes removal h h′ = removal-cases G Sizes (R .circle) (R .first) (R .start) tt (λ x xs e t v. tt) (λ x xs e t b i. go b)
       where
         go : (b : Bool) → SplitSize (cond b triangle removal) (length (turn (R .circle)))
         go true = tt
@@ -205,8 +205,8 @@ module _ {P : Type 0} (G : Geo P) (laws : GeoLaws G) where
     sizes triangle h h′ = triangle-cases G Sizes (R .circle) (R .first) (R .start) (λ b e. ends b _ (λ i. rw (length-spin (R .first) (R .circle)) (not-one-three (R .circle) (e ∙ i))))
     sizes split h h′ = split-cases G Sizes (R .circle) (R .first) (R .start) tt
         (λ x xs e b i. ends b _ (λ j. kept h))
-        (λ x xs e c v b i. ends b _ (λ j. inr (rw (length-append (R .circle) (v ∷ [])) (omega (arith, crossing-size x xs c, ap length e)))))
-        (λ x xs e c v put off b i. ends b _ (λ j. not-one-three (cutCircle put v (back (R .circle))) (rw e (i ∙ j))))
+        (λ x xs e c v o b i. ends b _ (λ j. inr (rw (length-append (R .circle) (v ∷ [])) (omega (arith, crossing-size x xs c, ap length e)))))
+        (λ x xs e c v o put off b i. ends b _ (λ j. not-one-three (cutCircle put v (back (R .circle))) (rw e (i ∙ j))))
     sizes done h h′ = h′
 
   -- where a split turn is due the circle has two points or at least four
@@ -224,9 +224,9 @@ module _ {P : Type 0} (G : Geo P) (laws : GeoLaws G) where
   pub long-enough : (c : List P) (f : ℕ) (s : Option ℕ) (d : Due) → LongEnough (decide G c f s d) (length c)
   unfolding decide
   long-enough c f s validity = validity-cases G (λ (act : Act P). LongEnough act (length c)) c f s tt tt
-  long-enough c f s removal = removal-cases G (λ (act : Act P). LongEnough act (length c)) c f s tt (λ x xs e v. omega (arith, ap length e, valid-size xs v)) (λ x xs e b i. omega (arith, ap length e))
+  long-enough c f s removal = removal-cases G (λ (act : Act P). LongEnough act (length c)) c f s tt (λ x xs e t v. omega (arith, ap length e, valid-size xs v)) (λ x xs e t b i. omega (arith, ap length e))
   long-enough c f s triangle = triangle-cases G (λ (act : Act P). LongEnough act (length c)) c f s (λ b e. tt)
-  long-enough c f s split = split-cases G (λ (act : Act P). LongEnough act (length c)) c f s tt (λ x xs e b i. omega (arith, ap length e)) (λ x xs e k v b i. omega (arith, ap length e, crossing-size x xs k)) (λ x xs e k v put off b i. omega (arith, ap length e, crossing-size x xs k))
+  long-enough c f s split = split-cases G (λ (act : Act P). LongEnough act (length c)) c f s tt (λ x xs e b i. omega (arith, ap length e)) (λ x xs e k v o b i. omega (arith, ap length e, crossing-size x xs k)) (λ x xs e k v o put off b i. omega (arith, ap length e, crossing-size x xs k))
   long-enough c f s done = tt
 
 -- ---- places and elements

@@ -1,16 +1,17 @@
 -- A step of the forest: what it leaves of the records; that it was carried out, or refused and nothing changed; and its answer, exactly.
-use mathlib.Core.Path.{_≡_, refl, sym, _∙_}
+use mathlib.Core.Path.{_≡_, refl, ap, sym, subst, _∙_}
 use mathlib.Core.Logic.{_⊎_, inl, inr, _≢_}
-use mathlib.Core.List.{List, [], _∷_}
+use mathlib.Core.List.{List, [], _∷_, _++_}
 use mathlib.Core.Option.{Option, none, some}
 use mathlib.Core.Bool.{Bool, true, false, true≢false}
 use Prim.Native.Nat.{ℕ, zero, suc, _+_, _≤_, _<_}
 use native.Mathlib.Omega.{arith}
+use native.Mathlib.Decide.{ℕ-discrete, decLt}
 use lib.ListN.{length, set, length-append, length-set, List·getD-append}
-use lib.Seq.{getD-set-same, getD-set-other}
+use lib.Seq.{getD-set-same, getD-set-other, getD-at}
 use lib.Dec.{leb}
 use borrow.Author.Tests.{leb-true, leb-false}
-use Rattle.lone.specs.Forest.{Machine, State, toList, Entry, ringless, openRing, closedRing, Answer, ok, full, outOfTurn, Forest, isOk}
+use Rattle.lone.specs.Forest.{Machine, State, initial, toList, Entry, ringless, openRing, closedRing, Answer, ok, full, outOfTurn, Forest, isOk}
 use Rattle.lone.specs.Forest.{newEntry, at, stepState, stepEntries, carryOut, answerTo, answer, stepForest}
 use Rattle.lone.specs.Order.{NoneOrDone, TakesPast, Exactly}
 
@@ -37,6 +38,23 @@ module _ {S X : Type 0} where
 
     pub step-other : (j : ℕ) → j < length es → j ≢ i → at (stepEntries M es i q L) j ≡ at es j
     step-other j h n = step-old j h ∙ getD-set-other es i j (closedRing q (stepState M L)) ringless n
+
+    pub step-added : (s : S) → M .cuts (L .now) ≡ some s → at (stepEntries M es i q L) (length es) ≡ closedRing (some i) (initial s)
+    step-added s e = ap (λ (o : Option S). at (set es i (closedRing q (stepState M L)) ++ newEntry i o) (length es)) e ∙ getD-at (set es i (closedRing q (stepState M L))) (closedRing (some i) (initial s)) [] ringless (length es) (length-set es i (closedRing q (stepState M L)))
+
+    -- what holds of record i, of the others and of the one that is cut off holds of every record
+    pub step-every : (Q : ℕ → Entry S X → Type 0) → Q i (closedRing q (stepState M L)) → ((j : ℕ) → j < length es → j ≢ i → Q j (at es j)) → ((s : S) → M .cuts (L .now) ≡ some s → Q (length es) (closedRing (some i) (initial s)))
+        → (j : ℕ) → j < length (stepEntries M es i q L) → Q j (at (stepEntries M es i q L) j)
+    step-every Q own other new j h = go (decLt j (length es)) (ℕ-discrete j i)
+      where
+        last : (o : Option S) → M .cuts (L .now) ≡ o → length es ≤ j → j < length es + length (toList o) → Q j (at (stepEntries M es i q L) j)
+        last none e k l = absurd (omega arith)
+        last (some s) e k l = let z : length es ≡ j = omega arith in subst (λ (n : ℕ). Q n (at (stepEntries M es i q L) n)) z (rw (step-added s e) (new s e))
+
+        go : Dec (j < length es) → Dec (j ≡ i) → Q j (at (stepEntries M es i q L) j)
+        go (yes l) (yes z) = subst (λ (n : ℕ). Q n (at (stepEntries M es i q L) n)) (sym z) (rw (step-here (omega arith)) own)
+        go (yes l) (no d) = rw (step-other j l d) (other j l d)
+        go (no k) d = last (M .cuts (L .now)) refl (omega arith) (omega (arith, step-length))
 
 module _ {S X : Type 0} (M : Machine S) (lp lr : ℕ) where
   pub record Accepted (F : Forest S X) (i : ℕ) : Type 0 where

@@ -53,10 +53,13 @@ started w r =
       sound = start-sound w r;
       tests = sound-passed (startRings w) (start-sound w r);
       fresh = start-fresh w r;
-      present = λ i h.
-          let b = begun-all w r in
-          b .presents i (omega (arith, recs-same (view w) (view (startRings w)) b)) ∙ sym (first-same (view w) (view (startRings w)) b i);
+      marks = λ i h. b .marks i (omega (arith, recs-same (view w) (view (startRings w)) b));
+      present = λ i h. b .presents i (omega (arith, recs-same (view w) (view (startRings w)) b)) ∙ sym (first-same (view w) (view (startRings w)) b i);
+      starts = λ i h. b .starts i (omega (arith, recs-same (view w) (view (startRings w)) b)) ∙ sym (first-same (view w) (view (startRings w)) b i);
     }
+  where
+    b : Begun (view w) (view (startRings w)) (recs (view w))
+    b = begun-all w r
 
 given-started : (s t u : Store) → OpenKept s t → Begun t u (recs t) → OpenAsGiven s u
 given-started s t u o b =
@@ -108,7 +111,7 @@ module _ (y : List ℕ) where
       by-joins w k ks x (may-join w ss m js n (converted.Joins k) k x ks g (sym e) refl) (o .0) (o .1) (processHorzJoins k ks x) refl f
   by-segments w ss m js n g (made converted.Full x ks) e o f = absurd (let z : _≡_ {A = ℕ} 0 1 = cc in omega arith)
 
-  by-rows : (bytes w : List ℕ) → LENGTH ≤ length w → (j : Job) (v ts ks : List ℕ) → acceptOf bytes w (replicate limit.SEGMENTS 0) (replicate JOIN-POINTS 0) ≡ fill.end (outcome.State j) v ts ks → afterSegments (convertHorzSegsToJoins v (j .segments) ts ks (j .joins)) ≡ end Accepted y → Both v y
+  by-rows : (bytes w : List ℕ) → LENGTH ≤ length w → (j : Job) (v ts ks : List ℕ) → acceptOf bytes w (replicate limit.SEGMENTS 0) (replicate JOIN-POINTS 0) ≡ fill.end (outcome.Ok j) v ts ks → afterSegments (convertHorzSegsToJoins v (j .segments) ts ks (j .joins)) ≡ end Accepted y → Both v y
   by-rows bytes w l j v ts ks e f =
       let a = passed bytes w v ts ks j l e in
       let c = converting bytes w v ts ks j l e in
@@ -132,7 +135,7 @@ module _ (y : List ℕ) where
 
   module _ (bytes : List ℕ) (n : ℕ) (f : openOf bytes n ≡ end Accepted y) where
     by-read : (T : fill.ReadEnd) → acceptOf bytes (replicate n 0) (replicate limit.SEGMENTS 0) (replicate JOIN-POINTS 0) ≡ T → afterRows T ≡ end Accepted y → AfterOpening y
-    by-read (fill.end (outcome.State j) v ts ks) e d = by-rows bytes (replicate n 0) (accepts bytes n f .0) j v ts ks e d .opened
+    by-read (fill.end (outcome.Ok j) v ts ks) e d = by-rows bytes (replicate n 0) (accepts bytes n f .0) j v ts ks e d .opened
     by-read (fill.end (outcome.Refused x) v ts ks) e d = absurd (let z : _≡_ {A = ℕ} 0 1 = cc in omega arith)
 
     -- THE LAWS: what the words are,
@@ -140,7 +143,7 @@ module _ (y : List ℕ) where
     after-opening = by-read (acceptOf bytes (replicate n 0) (replicate limit.SEGMENTS 0) (replicate JOIN-POINTS 0)) refl (accepts bytes n f .1)
 
     -- and the open rings, v being the words as the job was read
-    pub open-as-given : (j : Job) (v ts ks : List ℕ) → acceptOf bytes (replicate n 0) (replicate limit.SEGMENTS 0) (replicate JOIN-POINTS 0) ≡ fill.end (outcome.State j) v ts ks → OpenAsGiven (view v) (view y)
+    pub open-as-given : (j : Job) (v ts ks : List ℕ) → acceptOf bytes (replicate n 0) (replicate limit.SEGMENTS 0) (replicate JOIN-POINTS 0) ≡ fill.end (outcome.Ok j) v ts ks → OpenAsGiven (view v) (view y)
     open-as-given j v ts ks e =
         let a = accepts bytes n f in
         by-rows bytes (replicate n 0) (a .0) j v ts ks e (ap afterRows (sym e) ∙ a .1) .given

@@ -1,5 +1,6 @@
--- Laws of opening: rings at their start, what a stage gives the next, the stages put together, what holds after an accepted opening.
+-- Laws of opening: rings at their start, what a stage gives the next, a joins list with more places, the stages put together, what holds after an accepted opening.
 pub mod Starting
 pub mod Passing
+pub mod Growing
 pub mod Staging
 pub mod Accepted

@@ -36,15 +36,15 @@ use Rattle.opening.specs.Open.{JOIN-POINTS}
 
 -- the two lists are as long as they were
 module _ (bytes w ss js v ts ks : List ℕ) (j : Job) where
-  by-fill : (T : fill.ReadEnd) → fillOf bytes w ss js ≡ T → judged (withCounts T) ≡ fill.end (outcome.State j) v ts ks → (length ts ≡ length ss) × (length ks ≡ length js)
-  by-fill (fill.end (outcome.State i) u us ls) e f =
+  by-fill : (T : fill.ReadEnd) → fillOf bytes w ss js ≡ T → judged (withCounts T) ≡ fill.end (outcome.Ok j) v ts ks → (length ts ≡ length ss) × (length ks ≡ length js)
+  by-fill (fill.end (outcome.Ok i) u us ls) e f =
       let c : us ≡ ts = cc in
       let d : ls ≡ ks = cc in
       let t = filled bytes i u us ls w ss js e in
       (ap length (sym c) ∙ t .segments, ap length (sym d) ∙ t .joins)
   by-fill (fill.end (outcome.Refused x) u us ls) e f = absurd (let z : _≡_ {A = ℕ} 0 1 = cc in omega arith)
 
-  lengths : acceptOf bytes w ss js ≡ fill.end (outcome.State j) v ts ks → (length ts ≡ length ss) × (length ks ≡ length js)
+  lengths : acceptOf bytes w ss js ≡ fill.end (outcome.Ok j) v ts ks → (length ts ≡ length ss) × (length ks ≡ length js)
   unfolding acceptOf readOf
   lengths e = by-fill (fillOf bytes w ss js) refl e
 
@@ -52,10 +52,10 @@ lists : (w : List ℕ) → LENGTH ≤ length w → Space w (replicate limit.SEGM
 lists w h = record { words = h; segments = omega (arith, length-replicate {A = ℕ} limit.SEGMENTS 0); joins = omega (arith, length-replicate {A = ℕ} JOIN-POINTS 0) }
 
 module _ (bytes w v ts ks : List ℕ) (j : Job) (long : LENGTH ≤ length w) where
-  pub passed : acceptOf bytes w (replicate limit.SEGMENTS 0) (replicate JOIN-POINTS 0) ≡ fill.end (outcome.State j) v ts ks → Accepted j v ts ks
+  pub passed : acceptOf bytes w (replicate limit.SEGMENTS 0) (replicate JOIN-POINTS 0) ≡ fill.end (outcome.Ok j) v ts ks → Accepted j v ts ks
   passed e = accepted bytes w (replicate limit.SEGMENTS 0) (replicate JOIN-POINTS 0) (lists w long) j v ts ks e
 
-  pub converting : acceptOf bytes w (replicate limit.SEGMENTS 0) (replicate JOIN-POINTS 0) ≡ fill.end (outcome.State j) v ts ks → Converting v ts (j .segments) ks (j .joins)
+  pub converting : acceptOf bytes w (replicate limit.SEGMENTS 0) (replicate JOIN-POINTS 0) ≡ fill.end (outcome.Ok j) v ts ks → Converting v ts (j .segments) ks (j .joins)
   converting e =
       let a = passed e in
       let l = lengths bytes w (replicate limit.SEGMENTS 0) (replicate JOIN-POINTS 0) v ts ks j e in
@@ -68,7 +68,7 @@ module _ (bytes w v ts ks : List ℕ) (j : Job) (long : LENGTH ≤ length w) whe
       }
 
   -- for the code of `stages`
-  pub may-convert : (r : Outcome) → fill.end r v ts ks ≡ acceptOf bytes w (replicate limit.SEGMENTS 0) (replicate JOIN-POINTS 0) → r ≡ outcome.State j → Converting v ts (j .segments) ks (j .joins)
+  pub may-convert : (r : Outcome) → fill.end r v ts ks ≡ acceptOf bytes w (replicate limit.SEGMENTS 0) (replicate JOIN-POINTS 0) → r ≡ outcome.Ok j → Converting v ts (j .segments) ks (j .joins)
   may-convert r e f = converting (sym e ∙ ap (λ (o : Outcome). fill.end o v ts ks) f)
 
 -- ---- its joins

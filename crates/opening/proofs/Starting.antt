@@ -167,9 +167,8 @@ module _ (s s′ : Store) (b : Begun s s′ (recs s)) where
     fresh i h =
         let l : i < recs s = omega (arith, recs-same) in
         record {
-          mark-is = b .marks i l;
           cut-is = b .cuts i l;
-          start-in = λ r. rw (b .starts i l, pts-same) (o .whole i l .below (s (rc FIRST) i) (first-on s i (sym (ringless-same i) ∙ r)));
+          mark-is = λ r a. b .marks i l;
         }
 
 -- ---- the same of words

@@ -3,9 +3,9 @@ use Prim.Native.Nat.{ℕ, _≤_, _<_}
 use mathlib.Core.Path.{_≡_}
 use mathlib.Core.Bool.{true, false}
 use mathlib.Core.List.{List}
-use Rattle.store.specs.Field.{pt, rc, X, Y, FLAGS}
+use Rattle.store.specs.Field.{pt, rc, X, Y, FLAGS, START}
 use Rattle.store.specs.Words.{Store, view}
-use Rattle.store.specs.Named.{presentOf, firstOf, recordsOf}
+use Rattle.store.specs.Named.{progressOf, presentOf, firstOf, recordsOf}
 use Rattle.store.specs.Sound.{pts, recs, ringAt, isOpen}
 use Rattle.store.specs.Good.{Sound}
 use Rattle.audit.specs.declared.Verdict.the-variants as audit
@@ -23,8 +23,10 @@ pub record AfterOpening (w : List ℕ) : Type 0 where
   pub tests : testsOf w ≡ audit.Passed
   -- "at its start, the validity test", cut from none
   pub fresh : (i : ℕ) → i < recordsOf w → Fresh (view w) i
-  -- "with its first point as present place"
+  -- and of every record, with a ring or without: its mark, and "with its first point as present place", and as its start
+  pub marks : (i : ℕ) → i < recordsOf w → progressOf w i ≡ 0
   pub present : (i : ℕ) → i < recordsOf w → presentOf w i ≡ firstOf w i
+  pub starts : (i : ℕ) → i < recordsOf w → view w (rc START) i ≡ firstOf w i
 
 -- of the job's open rings, s being the store as the job was read and u as it is left: they are as given, point for point, and no record made since is open
 pub record OpenAsGiven (s u : Store) : Type 0 where

@@ -51,7 +51,7 @@ afterSegments (made c w js) = orJoins w js (convertedIs c)
 
 -- rows 1 to 8; then "`convert_horz_segs_to_joins` over the job's segments, its joins after the job's own"
 abbrev pub afterRows : fill.ReadEnd → End
-afterRows (fill.end (outcome.State j) w ss js) = afterSegments (convertHorzSegsToJoins w (j .segments) ss js (j .joins))
+afterRows (fill.end (outcome.Ok j) w ss js) = afterSegments (convertHorzSegsToJoins w (j .segments) ss js (j .joins))
 afterRows (fill.end (outcome.Refused r) w ss js) = end (Refused r) w
 
 -- points of joins: two for each of the job's own, and two new points for each that is made, so that these are never more than all points

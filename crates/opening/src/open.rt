@@ -11,8 +11,10 @@ use joins::process_horz_joins;
 use reading::fill::Outcome;
 use store::LENGTH;
 ghost use mathlib.Core.Path.{_≡_};
-ghost use Prim.Native.Nat.{_≤_};
-ghost use lib.ListN.{length};
+ghost use Prim.Native.Nat.{_*_, _≤_};
+ghost use mathlib.Core.List.{_++_};
+ghost use lib.ListN.{length, drop, replicate};
+ghost use Rattle.job.specs.Limits as limit;
 ghost use Rattle.store.specs.Field.{LENGTH};
 ghost use Rattle.converting.specs.Make.{convertHorzSegsToJoins};
 ghost use Rattle.converting.specs.Needs.{Converting};
@@ -54,16 +56,41 @@ fn convert(work: &mut [u32], segments: &[u32], m: usize, joins: &mut [u32], n: u
     }
 }
 
+// Puts one list over the beginning of another.
+fn lay(list: &[u32], over: &mut [u32])
+    requires { ⌜ length (now list) ≤ length (now over) ⌝ }
+    ensures { λ _. ⌜ now (over .exit) ≡ now (list .entry) ++ drop (length (now (list .entry))) (now (over .entry)) ⌝ }
+{
+    let mut i = 0;
+    while i < list.len() {
+        over[i] = list[i];
+        i += 1;
+    }
+}
+
+// The job's n joins stand in `own`; the joins that are made of its m segments need more places, and fewer than two make none.
+fn join_all(work: &mut [u32], segments: &[u32], m: usize, own: &[u32], n: usize) -> Opened
+    requires { ⌜ Converting (now work) (now segments) m (now own ++ replicate limit.POINTS 0) n × (length (now own) ≡ 2 * limit.JOINS) ⌝ }
+    ensures { λ r. ⌜ end r (now (work .exit)) ≡ afterSegments (convertHorzSegsToJoins (now (work .entry)) m (now (segments .entry)) (now (own .entry) ++ replicate limit.POINTS 0) n) ⌝ }
+{
+    if m < 2 {
+        return make_joins(work, own, n);
+    }
+    let mut joins = [0u32; 2 * Job::JOINS + Job::POINTS];
+    lay(own, &mut joins);
+    convert(work, segments, m, &mut joins, n)
+}
+
 // Rows 1 to 8, and then the joins. Segments and joins stand in local arrays.
 fn stages(bytes: &[u8], work: &mut [u32]) -> Opened
     requires { ⌜ LENGTH ≤ length (now work) ⌝ }
     ensures { λ r. ⌜ end r (now (work .exit)) ≡ stagesOf (now (bytes .entry)) (now (work .entry)) ⌝ }
 {
     let mut segments = [0u32; Job::SEGMENTS];
-    let mut joins = [0u32; 2 * Job::JOINS + Job::POINTS];
-    let o = accept(bytes, work, &mut segments, &mut joins);
+    let mut own = [0u32; 2 * Job::JOINS];
+    let o = accept(bytes, work, &mut segments, &mut own);
     match o {
-        Outcome::State(j) => convert(work, &segments, j.segments, &mut joins, j.joins),
+        Outcome::Ok(j) => join_all(work, &segments, j.segments, &own, j.joins),
         Outcome::Refused(x) => Opened::Refused(x),
     }
 }

@@ -7,7 +7,7 @@ use Rattle.store.specs.Primitive.{duplicateOp}
 use Rattle.audit.specs.Tests.{anyBelow}
 use Rattle.reading.specs.Fill.{turnOf, run, fillOf}
 use Rattle.reading.specs.Read.{readOf}
-use Rattle.rows.specs.Owners.{endsIn, findIn}
+use Rattle.rows.specs.Owners.{endsIn}
 use Rattle.rows.specs.Rings.{anyIn}
 use Rattle.rows.specs.Rows.{rowsOf}
 use Rattle.accepting.specs.Accept.{acceptOf}
@@ -16,7 +16,7 @@ use Rattle.sorting.specs.Sorted.{sorted}
 use Rattle.segments.specs.Pair.{oneOf, twoOf}
 use Rattle.segments.specs.Update.{walledEnds, freeEnds, endsOf, headed, segmentThrough, claimOf, updateFrom, segmentsOf}
 use Rattle.converting.specs.Make.{makeJoin, apartOf, joinPair, firstOne, secondOne, movedPair, pairOf, innerFrom, outerFrom, sortedSegments, pairsOf, convertHorzSegsToJoins}
-use Rattle.joins.specs.Resolve.{realOf, getRealOutrec, homeOf}
+use Rattle.joins.specs.Resolve.{findIn}
 use Rattle.joins.specs.Join.{relinkOf, newOutRec, nameAll, fixOutrecPts, moveFirst, splitRing, splitOf, mergeOf, byRecords, joinOf, joinsFrom}
 use Rattle.opening.specs.Start.{startRing, startTo, startRings}
 use Rattle.opening.specs.Open.{stagesOf, openOf}
@@ -24,7 +24,7 @@ use Rattle.opening_bench.specs.Bench.{result, RowsHold, bench, knotted, 
 
 -- the definitions that a row computes with: `unfolding computing` opens them all
 unfoldable computing : Unit {0}
-unfolding result openOf stagesOf acceptOf readOf fillOf run turnOf fieldOf bodyOf rowsOf endsIn findIn anyIn walk.run anyBelow cell put duplicateOp alongOf until atWall atStop atLimit wallRun stopRun limitRun sorted oneOf twoOf walledEnds freeEnds endsOf headed segmentThrough claimOf updateFrom segmentsOf makeJoin apartOf joinPair firstOne secondOne movedPair pairOf innerFrom outerFrom sortedSegments pairsOf convertHorzSegsToJoins realOf getRealOutrec homeOf relinkOf newOutRec nameAll fixOutrecPts moveFirst splitRing splitOf mergeOf byRecords joinOf joinsFrom startRing startTo startRings
+unfolding result openOf stagesOf acceptOf readOf fillOf run turnOf fieldOf bodyOf rowsOf endsIn findIn anyIn walk.run anyBelow cell put duplicateOp alongOf until atWall atStop atLimit wallRun stopRun limitRun sorted oneOf twoOf walledEnds freeEnds endsOf headed segmentThrough claimOf updateFrom segmentsOf makeJoin apartOf joinPair firstOne secondOne movedPair pairOf innerFrom outerFrom sortedSegments pairsOf convertHorzSegsToJoins relinkOf newOutRec nameAll fixOutrecPts moveFirst splitRing splitOf mergeOf byRecords joinOf joinsFrom startRing startTo startRings
 computing = tt
 
 knotted-holds : result knotted ≡ knotted .answer

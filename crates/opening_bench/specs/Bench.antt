@@ -1,10 +1,11 @@
 -- Jobs with joins and level segments as rows of one table: a job, and what opening answers. The answers are the real Rust's, by the oracle;
--- program `opened` runs the same jobs.
+-- program `opened_cases` runs the same jobs.
 use Prim.Native.Nat.{ℕ, suc, _+_, _-_, _%_, _/_}
 use mathlib.Core.Path.{_≡_}
 use mathlib.Core.List.{List, [], _∷_, _++_, map}
 use lib.IntN.{pos}
 use lib.ListN.{length}
+use Rattle.rings.specs.Count.{table}
 use Rattle.job.specs.Refusal.{numberOf}
 use Rattle.geometry.specs.declared.Point.{Point}
 use Rattle.store.specs.Field.{rc, FLAGS, OWNER, NONE, LENGTH}
@@ -12,7 +13,6 @@ use Rattle.store.specs.Words.{Store, view}
 use Rattle.store.specs.Named.{pointsOf, recordsOf}
 use Rattle.store.specs.Sound.{ringAt}
 use Rattle.store.specs.Value.{pointAt}
-use Rattle.acts.specs.Opened.{table}
 use Rattle.opening.specs.declared.open.Opened.the-variants.{Accepted, Refused}
 use Rattle.opening.specs.Open.{End, end, openOf}
 

@@ -98,10 +98,10 @@ run-zeros zero bytes j w ss js z = z
 run-zeros (suc k) bytes j w ss js z = by (ltb (j .at) (length bytes)) (fill.turnOf bytes j w ss js) (turn-zeros j w ss js z bytes) (λ m u us ls q. run-zeros k bytes m u us ls q)
   where
     on : (T : fill.ReadEnd) → FilledZeros T → ((m : Job) (u us ls : List ℕ) → Zeros u → FilledZeros (fill.run k bytes m u us ls)) → FilledZeros (fill.follow (fill.run k bytes) T)
-    on (fill.end (outcome.State m) u us ls) q f = f m u us ls q
+    on (fill.end (outcome.Ok m) u us ls) q f = f m u us ls q
     on (fill.end (outcome.Refused x) u us ls) q f = q
 
-    by : (t : Bool) (T : fill.ReadEnd) → FilledZeros T → ((m : Job) (u us ls : List ℕ) → Zeros u → FilledZeros (fill.run k bytes m u us ls)) → FilledZeros (cond t (fill.follow (fill.run k bytes) T) (fill.end (outcome.State j) w ss js))
+    by : (t : Bool) (T : fill.ReadEnd) → FilledZeros T → ((m : Job) (u us ls : List ℕ) → Zeros u → FilledZeros (fill.run k bytes m u us ls)) → FilledZeros (cond t (fill.follow (fill.run k bytes) T) (fill.end (outcome.Ok j) w ss js))
     by true T q f = on T q f
     by false T q f = z
 
@@ -119,7 +119,7 @@ module _ (bytes w ss js : List ℕ) (z : Zeros w) where
   accept-zeros = go (fill.fillOf bytes w ss js) fill-zeros
     where
       go : (T : fill.ReadEnd) → FilledZeros T → FilledZeros (judged (withCounts T))
-      go (fill.end (outcome.State j) u us ls) q =
+      go (fill.end (outcome.Ok j) u us ls) q =
           writes-zeros u (write (ct SETTINGS) 0 (j .bits) ∷ write (ct POINTS) 0 (j .points) ∷ write (ct RECORDS) 0 (j .records) ∷ []) (omega arith, (omega arith, (omega arith, tt))) q
       go (fill.end (outcome.Refused x) u us ls) q = q
 
@@ -354,7 +354,7 @@ unfolding stagesOf
 by-rows bytes w l z = go (acceptOf bytes w (replicate limit.SEGMENTS 0) (replicate JOIN-POINTS 0)) refl (accept-zeros bytes w (replicate limit.SEGMENTS 0) (replicate JOIN-POINTS 0) z)
   where
     go : (T : fill.ReadEnd) → acceptOf bytes w (replicate limit.SEGMENTS 0) (replicate JOIN-POINTS 0) ≡ T → FilledZeros T → EndZeros (afterRows T)
-    go (fill.end (outcome.State j) v ts ks) e q = by-segments v ts (j .segments) ks (j .joins) (converting bytes w v ts ks j l e) q
+    go (fill.end (outcome.Ok j) v ts ks) e q = by-segments v ts (j .segments) ks (j .joins) (converting bytes w v ts ks j l e) q
     go (fill.end (outcome.Refused x) v ts ks) e q = q
 
 pub all-zeros : (n k : ℕ) → getD (replicate {A = ℕ} n 0) k 0 ≡ 0

@@ -13,14 +13,14 @@ use Rattle.store.specs.Value.{wordOf}
 use Rattle.audit.specs.Tests.{anyBelow}
 use Rattle.reading.specs.Fill.{turnOf, run, fillOf}
 use Rattle.reading.specs.Read.{readOf}
-use Rattle.rows.specs.Owners.{endsIn, findIn}
+use Rattle.rows.specs.Owners.{endsIn}
 use Rattle.rows.specs.Rings.{anyIn}
 use Rattle.rows.specs.Rows.{rowsOf}
 use Rattle.accepting.specs.Accept.{acceptOf}
 use Rattle.sorting.specs.Sorted.{sorted, swapAt, sinkRows}
 use Rattle.converting.specs.Make.{outerFrom, sortedSegments, pairsOf, convertHorzSegsToJoins}
 use Rattle.segments.specs.Update.{updateFrom, segmentsOf}
-use Rattle.joins.specs.Resolve.{homeOf, getRealOutrec, realOf}
+use Rattle.joins.specs.Resolve.{findIn}
 use Rattle.joins.specs.Join.{joinsFrom, joinOf, byRecords, splitOf, splitRing, moveFirst, fixOutrecPts, nameAll, newOutRec, relinkOf}
 use Rattle.opening.specs.Start.{startRing, startTo, startRings}
 use Rattle.opening.specs.Open.{stagesOf, openOf}
@@ -36,7 +36,7 @@ use Rattle.order_bench.specs.Bench.{settingsOnly, empty, square, inLine,
 
 -- the definitions that a row computes with: `unfolding computing` opens them all
 unfoldable computing : Unit {0}
-unfolding result expected finishOf openOf stagesOf acceptOf readOf fillOf run turnOf fieldOf bodyOf rowsOf endsIn findIn anyIn walk.run anyBelow cell put convertHorzSegsToJoins pairsOf sortedSegments segmentsOf updateFrom sorted swapAt sinkRows outerFrom joinsFrom joinOf byRecords splitOf splitRing moveFirst fixOutrecPts nameAll newOutRec relinkOf homeOf getRealOutrec realOf startRings startTo startRing finishRings finishW finishRecord answerS stepW wordOf samePoint isCollinear dotProductThreePoints areaTriangle areaOutpt ptsReallyClose isVerySmallTriangle removable strictlyWithin segmentsIntersect fractionOf crossing coordinateAt getSegmentIntersectPt removalTurn doSplitOp splitTurn decide actOf buildPath64FromOutpt pointAt pathAt pathIf pointBytes pathField fieldsOf buildPaths64 toSigned add ofInt mul
+unfolding result expected finishOf openOf stagesOf acceptOf readOf fillOf run turnOf fieldOf bodyOf rowsOf endsIn findIn anyIn walk.run anyBelow cell put convertHorzSegsToJoins pairsOf sortedSegments segmentsOf updateFrom sorted swapAt sinkRows outerFrom joinsFrom joinOf byRecords splitOf splitRing moveFirst fixOutrecPts nameAll newOutRec relinkOf startRings startTo startRing finishRings finishW finishRecord answerS stepW wordOf samePoint isCollinear dotProductThreePoints areaTriangle areaOutpt ptsReallyClose isVerySmallTriangle removable strictlyWithin segmentsIntersect fractionOf crossing coordinateAt getSegmentIntersectPt removalTurn doSplitOp splitTurn decide actOf buildPath64FromOutpt pointAt pathAt pathIf pointBytes pathField fieldsOf buildPaths64 toSigned add ofInt mul
 computing = tt
 
 settings-only : result settingsOnly ≡ expected settingsOnly

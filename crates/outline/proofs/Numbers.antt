@@ -1,8 +1,9 @@
 -- The number of what an entry point answered, with what it left, is the exported call's.
-use Prim.Native.Nat.{ℕ, zero, suc, _<_, _≤_}
-use mathlib.Core.Path.{_≡_, refl, ap, _∙_}
+use Prim.Native.Nat.{ℕ, zero, suc, _*_, _^_, _<_, _≤_}
+use mathlib.Core.Path.{_≡_, refl, ap, _∙_, subst}
 use mathlib.Core.Logic.{_≢_}
 use mathlib.Core.List.{List}
+use native.Mathlib.Omega.{arith}
 use lib.ListN.{length}
 use borrow.Author.Tests.{le-leb, lt-leb}
 use Rattle.rates.specs.declared.Rate.{Rate}
@@ -21,7 +22,12 @@ use Rattle.listing.specs.declared.Listed.{Listed}
 use Rattle.listing.specs.Room.{TEXT}
 use Rattle.listing.specs.Told.{told}
 use Rattle.job_listing.specs.Cutlist.{listedJob, listJobOf}
-use Rattle.outline.specs.Calls.{openedNumber, steppedNumber, writtenNumber, listedBytes, rateFrom, worked, wrote, finished, listing, asOpened, asStepped, asWritten, asFinished, asListed, openC, stepC, writeC, finishC, listC}
+use Rattle.prefix.specs.Decides.{LONGEST}
+use Rattle.rewriting.specs.declared.Rewritten.{Rewritten}
+use Rattle.rewriting.specs.declared.Rewritten.the-variants as rewritten
+use Rattle.rewriting.specs.Rewrite.{rewrote, rewriteOf}
+use Rattle.rewriting.specs.Answers.{BytesWithin}
+use Rattle.outline.specs.Calls.{openedNumber, steppedNumber, writtenNumber, listedBytes, rewrittenNumber, rateFrom, worked, wrote, finished, listing, asOpened, asStepped, asWritten, asFinished, asListed, asRewritten, openC, stepC, writeC, finishC, listC, rewriteC}
 
 pub as-opened : (bytes : List ℕ) (n k : ℕ) (a : Opened) (w : List ℕ) → end a w ≡ openOf bytes n → k ≡ openedNumber a → worked k w ≡ openC bytes n
 unfolding openC
@@ -38,6 +44,18 @@ as-written w u k a t e h = ap (λ (z : ℕ). wrote z t) h ∙ ap asWritten e
 pub as-finished : (bytes : List ℕ) (n k : ℕ) (u : List ℕ) (a : Written) (w t : List ℕ) → call.finished a w t ≡ finishOf bytes n u → k ≡ writtenNumber a → finished k w t ≡ finishC bytes n u
 unfolding finishC
 as-finished bytes n k u a w t e h = ap (λ (z : ℕ). finished z w t) h ∙ ap asFinished e
+
+-- ---- rewriting
+
+pub half-fits : (a : Rewritten) (k : ℕ) → BytesWithin a LONGEST → a ≡ rewritten.Bytes k → 4294967296 * k < 2 ^ 64
+half-fits a k h e = let l : k ≤ LONGEST = subst (λ (b : Rewritten). BytesWithin b LONGEST) e h in omega arith
+
+pub half-is : (a : Rewritten) (k : ℕ) → a ≡ rewritten.Bytes k → 4294967296 * k ≡ rewrittenNumber a
+half-is a k e = rw e
+
+pub as-rewritten : (bytes : List ℕ) (n m k : ℕ) (a : Rewritten) (w t : List ℕ) → rewrote a w t ≡ rewriteOf bytes n m → k ≡ rewrittenNumber a → finished k w t ≡ rewriteC bytes n m
+unfolding rewriteC
+as-rewritten bytes n m k a w t e h = ap (λ (z : ℕ). finished z w t) h ∙ ap asRewritten e
 
 -- ---- the listing
 

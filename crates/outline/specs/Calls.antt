@@ -1,5 +1,5 @@
 -- The calls for C and Rust: 0 or the table's number, and the words and bytes that the entry point of the same name leaves, on every input.
-use Prim.Native.Nat.{ℕ, zero, suc}
+use Prim.Native.Nat.{ℕ, zero, suc, _*_, _^_}
 use mathlib.Core.Bool.{cond}
 use mathlib.Core.List.{List}
 use lib.Dec.{leb}
@@ -24,6 +24,9 @@ use Rattle.listing.specs.declared.Listed.{Listed}
 use Rattle.listing.specs.declared.Listed.the-variants.{Bytes, NoRoom}
 use Rattle.listing.specs.Room.{TEXT}
 use Rattle.job_listing.specs.Cutlist.{ListedJob, listJobOf}
+use Rattle.rewriting.specs.declared.Rewritten.{Rewritten}
+use Rattle.rewriting.specs.declared.Rewritten.the-variants as rewritten
+use Rattle.rewriting.specs.Rewrite.{Rewrote, rewriteOf}
 
 -- ---- numbers of answers: no refusal is 0
 
@@ -43,6 +46,11 @@ writtenNumber (written.Refused x) = numberOf x
 abbrev pub listedBytes : Listed → ℕ
 listedBytes (Bytes n) = n
 listedBytes NoRoom = 0
+
+-- in the low half 0 or the refusal's number, as of every other call; in the high half how many bytes the job has
+abbrev pub rewrittenNumber : Rewritten → ℕ
+rewrittenNumber (rewritten.Bytes k) = 2 ^ 32 * k
+rewrittenNumber (rewritten.Refused x) = numberOf x
 
 -- ---- a number handed over as a rate: 0 for none
 
@@ -104,6 +112,9 @@ asFinished l = finished (writtenNumber (l .answer)) (l .words) (l .tray)
 abbrev pub asListed : ListedJob → Listing
 asListed l = listing (listedBytes (l .text .answer)) (l .words) (l .tray) (l .text .out)
 
+abbrev pub asRewritten : Rewrote → Finished
+asRewritten l = finished (rewrittenNumber (l .answer)) (l .words) (l .tray)
+
 -- `outline_open`, by the job's bytes and the length n of the work space
 unfoldable pub openC : List ℕ → ℕ → Worked
 openC bytes n = asOpened (openOf bytes n)
@@ -123,3 +134,7 @@ finishC bytes n t = asFinished (finishOf bytes n t)
 -- `outline_list`, of the job's bytes, the words, the tray, the rate and the text: a text too short for some job's listing is left as found, and so is all else
 unfoldable pub listC : List ℕ → List ℕ → List ℕ → ℕ → List ℕ → Listing
 listC bytes w t rate s = cond (leb TEXT (length s)) (asListed (listJobOf (rateFrom rate) bytes w t s)) (listing 0 w t s)
+
+-- `outline_rewrite`, by the job's bytes, the length n of the work space and the length m of the tray
+unfoldable pub rewriteC : List ℕ → ℕ → ℕ → Finished
+rewriteC bytes n m = asRewritten (rewriteOf bytes n m)

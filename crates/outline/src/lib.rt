@@ -1,4 +1,4 @@
-// The entry points for C and Rust: the same calls, answering 0 or the refusal's number; and the listing.
+// The entry points for C and Rust: the same calls, answering 0 or the refusal's number; the listing; and rewriting.
 use finishing::Stepped;
 use finishing::finish::finish;
 use finishing::open;
@@ -10,11 +10,15 @@ use listing::TEXT;
 use opening::open::Opened;
 use paths::Written;
 use rates::Rate;
+use rewriting::Rewritten;
+use rewriting::rewrite;
 use store::LENGTH;
 ghost use mathlib.Core.Path.{_≡_};
 ghost use lib.ListN.{length};
 ghost use Rattle.store.specs.Field.{LENGTH};
-ghost use Rattle.outline.specs.Calls.{openedNumber, steppedNumber, writtenNumber, listedBytes, rateFrom, worked, wrote, finished, listing, openC, stepC, writeC, finishC, listC};
+ghost use Rattle.prefix.specs.Decides.{LONGEST};
+ghost use Rattle.rewriting.specs.Answers.{BytesWithin};
+ghost use Rattle.outline.specs.Calls.{openedNumber, steppedNumber, writtenNumber, listedBytes, rewrittenNumber, rateFrom, worked, wrote, finished, listing, openC, stepC, writeC, finishC, listC, rewriteC};
 
 // ---- the numbers of answers
 
@@ -51,6 +55,17 @@ fn listed_bytes(a: Listed) -> u64
     match a {
         Listed::Bytes(n) => n as u64,
         Listed::NoRoom => 0,
+    }
+}
+
+// In the low half 0 or the refusal's number, in the high half how many bytes the job has.
+fn rewritten_number(a: Rewritten) -> u64
+    requires { ⌜ BytesWithin a LONGEST ⌝ }
+    ensures { λ r. ⌜ r ≡ rewrittenNumber a ⌝ }
+{
+    match a {
+        Rewritten::Bytes(n) => 4294967296 * n as u64,
+        Rewritten::Refused(x) => x.number() as u64,
     }
 }
 
@@ -135,4 +150,13 @@ pub extern "C" fn outline_list(
     let given = rate_from(rate);
     let a = list_job(job, given, work, tray, text);
     listed_bytes(a)
+}
+
+// Writes a job the one way.
+#[no_mangle]
+pub extern "C" fn outline_rewrite(job: &[u8], work: &mut [u32], tray: &mut [u8]) -> u64
+    ensures { λ r. ⌜ finished r (now (work .exit)) (now (tray .exit)) ≡ rewriteC (now (job .entry)) (length (now (work .entry))) (length (now (tray .entry))) ⌝ }
+{
+    let a = rewrite(job, work, tray);
+    rewritten_number(a)
 }

@@ -1,25 +1,26 @@
 -- "17,920 bytes always suffice": three bytes for each record and eight for each point, since a point is on at most one ring.
 use Prim.Native.Nat.{ℕ, zero, suc, _+_, _*_, _≤_, _<_}
-use mathlib.Core.Path.{_≡_, refl, sym, ap}
+use mathlib.Core.Path.{_≡_, refl, sym, ap, _∙_}
 use mathlib.Core.Bool.{Bool, true, false, Bool·beq}
 use mathlib.Core.List.{List, [], _++_}
 use native.Mathlib.Omega.{arith}
 use native.Mathlib.Decide.{decLt}
+use lib.Dec.{ltb}
 use lib.ListN.{length, length-append}
-use borrow.Author.Tests.{le-leb, lt-leb}
+use borrow.Author.Tests.{ltb-true, ltb-false, le-ltb, le-leb, lt-leb}
 use Rattle.job.specs.declared.refusal.Refusal.the-variants.{SmallTray}
 use Rattle.rings.specs.Count.{sumTo, occ}
 use Rattle.rings.proofs.Counting.{pigeon}
 use Rattle.rings.proofs.Members.{occ-append}
 use Rattle.store.specs.Words.{Store, view}
 use Rattle.store.specs.Sound.{pts, recs, ringAt, isOpen}
-use Rattle.store.specs.Good.{Sound}
+use Rattle.store.specs.Good.{Sound, SoundWords}
 use Rattle.store.specs.Value.{reverseSolution}
-use Rattle.paths.specs.declared.Need.{Need}
+use Rattle.paths.specs.declared.Written.{Written}
 use Rattle.paths.specs.declared.Written.the-variants.{Paths, Refused}
 use Rattle.paths.specs.Path.{pathIf, closedPaths, openPaths, sizeOf}
 use Rattle.paths.specs.Tray.{tagOf, fields, fieldsOf, padded, TRAY}
-use Rattle.paths.specs.Walking.{Ready}
+use Rattle.paths.specs.Walking.{Directed}
 use Rattle.paths.specs.Count.{needOf}
 use Rattle.paths.specs.Filling.{fieldAt, fieldsBelow, AllFit}
 use Rattle.paths.specs.Wrote.{wrote, buildPaths64}
@@ -107,21 +108,29 @@ module _ (s : Store) where
 
 -- ---- the two counts against the tray
 
-module _ (w : List ℕ) (r : Ready w) (c d : Need) (e : c ≡ needOf (view w) false) (f : d ≡ needOf (view w) true) where
-  pub bytes-are : c .bytes + d .bytes ≡ length (fieldsOf (view w))
-  unfolding needOf fieldsBelow
-  bytes-are = rw (e, f) (sym (length-fieldsOf (view w)))
+module _ (w : List ℕ) (rev : Bool) (r : Directed w rev) where
+  pub never-short : (n : ℕ) → TRAY ≤ n → false ≡ ltb n (length (fieldsOf (view w)))
+  never-short n h = sym (le-ltb n (length (fieldsOf (view w))) (omega (arith, always-suffice (view w) (r .ready .sound))))
 
-  pub bytes-fit : c .bytes + d .bytes ≤ TRAY
-  bytes-fit = omega (arith, bytes-are, always-suffice (view w) (r .sound))
+  module _ (c d : ℕ) (e : c ≡ needOf (view w) false .bytes) (f : d ≡ needOf (view w) true .bytes) where
+    bytes-are : c + d ≡ length (fieldsOf (view w))
+    unfolding needOf fieldsBelow
+    bytes-are = rw (e, f) (sym (length-fieldsOf (view w)))
 
-  pub all-fit : (rev : Bool) (t : List ℕ) → rev ≡ reverseSolution (view w) → c .bytes + d .bytes ≤ length t → AllFit w rev t
-  all-fit rev t g h = record { directed = record { ready = r; direction = g }; room = omega (arith, bytes-are) }
+    pub bytes-fit : c + d ≤ TRAY
+    bytes-fit = omega (arith, bytes-are, always-suffice (view w) (r .ready .sound))
 
-  pub too-small : (t : List ℕ) → length t < c .bytes + d .bytes → wrote (Refused SmallTray) t ≡ buildPaths64 (view w) t
+    pub short-is : (n : ℕ) → ltb n (c + d) ≡ ltb n (length (fieldsOf (view w)))
+    short-is n = ap (ltb n) bytes-are
+
+module _ (w : List ℕ) (r : SoundWords w) (t : List ℕ) (b : Bool) (e : b ≡ ltb (length t) (length (fieldsOf (view w)))) where
+  pub tray-fits : (rev : Bool) → rev ≡ reverseSolution (view w) → b ≡ false → AllFit w rev t
+  tray-fits rev g h = record { directed = record { ready = r; direction = g }; room = ltb-false (length t) (length (fieldsOf (view w))) (sym e ∙ h) }
+
+  pub tray-small : b ≡ true → wrote (Refused SmallTray) t ≡ buildPaths64 (view w) t
   unfolding buildPaths64
-  too-small t h = rw (lt-leb (length (fieldsOf (view w))) (length t) (omega (arith, bytes-are)))
+  tray-small h = rw (lt-leb (length (fieldsOf (view w))) (length t) (ltb-true (length t) (length (fieldsOf (view w))) (sym e ∙ h)))
 
-  pub all-written : (t u : List ℕ) → c .bytes + d .bytes ≤ length t → u ≡ padded (length t) (fieldsOf (view w)) → wrote (Paths (c .paths) (d .paths)) u ≡ buildPaths64 (view w) t
-  unfolding buildPaths64 needOf
-  all-written t u h g = rw (le-leb (length (fieldsOf (view w))) (length t) (omega (arith, bytes-are)), g, e, f)
+  pub all-written : (a : Written) (u : List ℕ) → b ≡ false → wrote a u ≡ wrote (Paths (length (closedPaths (view w))) (length (openPaths (view w)))) (padded (length t) (fieldsOf (view w))) → wrote a u ≡ buildPaths64 (view w) t
+  unfolding buildPaths64
+  all-written a u h g = g ∙ rw (le-leb (length (fieldsOf (view w))) (length t) (ltb-false (length t) (length (fieldsOf (view w))) (sym e ∙ h)))

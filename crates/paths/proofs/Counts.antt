@@ -19,11 +19,11 @@ use Rattle.store.specs.Words.{Store, view}
 use Rattle.store.specs.Sound.{pts, recs, ringAt, isOpen}
 use Rattle.store.specs.Value.{preserveCollinear, reverseSolution}
 use Rattle.store.proofs.Soundness.{whole}
-use Rattle.paths.specs.declared.Need.{Need}
 use Rattle.paths.specs.Path.{pointAt, pointsAt, pathBy, pathAt, pathIf, listed, pathsBelow, sizeOf}
 use Rattle.paths.specs.Tray.{lowBytes, pathBytes, pathField, tagOf, fields}
 use Rattle.paths.specs.Walking.{Known, Directed, Asked}
-use Rattle.paths.specs.Count.{pathCount, fieldSize, needOf, Tally}
+use Rattle.paths.specs.Count.{pathCount, fieldSize, needOf, Tally, PathsSoFar}
+use Rattle.paths.specs.Filling.{fieldAt}
 use Rattle.paths.proofs.Laying.{length-pathBytes}
 use Rattle.paths.proofs.Sizes.{path-le, length-inOrder}
 
@@ -86,10 +86,6 @@ fields-append tag [] b = refl
 fields-append tag (p ∷ a) b = ap (λ (l : List ℕ). pathField tag p ++ l) (fields-append tag a b) ∙ sym (append-assoc (pathField tag p) (fields tag a) (fields tag b))
 
 module _ (n : ℕ) where
-  count-one : (x : Option (List Point)) → Proper n x → length (listed x) ≡ pathCount (sizeOf x)
-  count-one none p = refl
-  count-one (some path) p = rw (ne-eqb (length path) 0 (λ e. omega (arith, p .0)))
-
   field-one : (tag : ℕ) (x : Option (List Point)) → Proper n x → length (fields tag (listed x)) ≡ fieldSize (sizeOf x)
   field-one tag none p = refl
   field-one tag (some path) p = rw (ne-eqb (length path) 0 (λ e. omega (arith, p .0))) (ap length (append-nil (pathField tag path)) ∙ length-pathField tag path)
@@ -114,24 +110,22 @@ pathCount-le k = go (eqb k 0)
 
 -- ---- the loop
 
-pub tally-begins : (w : List ℕ) (o : Bool) → Tally w o 0 0 0
-tally-begins w o = record { within = omega arith; paths-are = refl; bytes-are = refl; few-paths = omega arith; few-bytes = omega arith }
+pub tally-begins : (w : List ℕ) (o : Bool) → Tally w o 0 0
+tally-begins w o = record { within = omega arith; bytes-are = refl; few-bytes = omega arith }
 
-module _ (w : List ℕ) (rev o : Bool) (r : Directed w rev) (i paths bytes n : ℕ) (t : Tally w o i paths bytes) (en : n ≡ recs (view w)) (l : i < n) where
+module _ (w : List ℕ) (rev o : Bool) (r : Directed w rev) (i bytes n : ℕ) (t : Tally w o i bytes) (en : n ≡ recs (view w)) (l : i < n) where
   pub tally-asked : Asked w rev i
   tally-asked = record { of = record { ready = r .ready; known = omega arith }; direction = r .direction }
 
-  pub tally-on : (k a b : ℕ) → k ≡ sizeOf (pathIf (view w) o i) → a ≡ pathCount k → b ≡ fieldSize k → Tally w o (i + 1) (paths + a) (bytes + b)
-  tally-on k a b e f g =
+  pub tally-on : (k b : ℕ) → k ≡ sizeOf (pathIf (view w) o i) → b ≡ fieldSize k → Tally w o (i + 1) (bytes + b)
+  tally-on k b e g =
       let s = view w in
       let z : i + 1 ≡ suc i = omega arith in
       let h = size-fits w o i k (tally-asked .of) e in
-      let p : length (listed (pathIf s o i)) ≡ a = count-one (length (ringAt s i)) (pathIf s o i) (if-proper s o i) ∙ ap pathCount (sym e) ∙ sym f in
       let q : length (fields (tagOf o) (listed (pathIf s o i))) ≡ b = field-length s (tagOf o) o i ∙ ap fieldSize (sym e) ∙ sym g in
       rw z
       (record {
         within = omega arith;
-        paths-are = omega (arith, t .paths-are, length-append (pathsBelow i o s) (listed (pathIf s o i)));
         bytes-are =
             omega (
               arith,
@@ -139,15 +133,38 @@ module _ (w : List ℕ) (rev o : Bool) (r : Directed w rev) (i paths bytes n : �
               ap length (fields-append (tagOf o) (pathsBelow i o s) (listed (pathIf s o i))),
               length-append (fields (tagOf o) (pathsBelow i o s)) (fields (tagOf o) (listed (pathIf s o i))),
             );
-        few-paths = omega (arith, t .few-paths, pathCount-le k);
         few-bytes = omega (arith, t .few-bytes, fieldSize-le k);
       })
 
-pub tally-ends : (w : List ℕ) (o : Bool) (i paths bytes n : ℕ) → Tally w o i paths bytes → n ≡ recs (view w) → n ≤ i → _≡_ {A = Need} (record { paths = paths; bytes = bytes }) (needOf (view w) o)
+pub tally-ends : (w : List ℕ) (o : Bool) (i bytes n : ℕ) → Tally w o i bytes → n ≡ recs (view w) → n ≤ i → bytes ≡ needOf (view w) o .bytes
 unfolding needOf
-tally-ends w o i paths bytes n t e h =
+tally-ends w o i bytes n t e h =
     let z : recs (view w) ≡ i = omega (arith, t .within) in
-    rw (t .paths-are, t .bytes-are, z)
+    rw (t .bytes-are, z)
+
+-- ---- the paths of the records so far
+
+pub no-paths : (w : List ℕ) (o : Bool) → PathsSoFar w o 0 0
+no-paths w o = record { are = refl; few = omega arith }
+
+-- a record has a path where its field has bytes
+pub paths-on : (w : List ℕ) (o : Bool) (i paths size a : ℕ) → PathsSoFar w o i paths → size ≡ length (fieldAt (view w) o i) → a ≡ pathCount size → PathsSoFar w o (i + 1) (paths + a)
+unfolding fieldAt
+paths-on w o i paths size a c e f =
+    let s = view w in
+    let z : i + 1 ≡ suc i = omega arith in
+    let p : length (listed (pathIf s o i)) ≡ a = go (pathIf s o i) (if-proper s o i) ∙ ap pathCount (sym (field-length s (tagOf o) o i) ∙ sym e) ∙ sym f in
+    rw z (record { are = omega (arith, c .are, length-append (pathsBelow i o s) (listed (pathIf s o i))); few = omega (arith, c .few, pathCount-le size) })
+  where
+    go : (x : Option (List Point)) → Proper (length (ringAt (view w) i)) x → length (listed x) ≡ pathCount (fieldSize (sizeOf x))
+    go none p = refl
+    go (some path) p = rw (ne-eqb (length path) 0 (λ e. omega (arith, p .0)), ne-eqb (3 + 8 * length path) 0 (λ e. omega arith))
+
+pub paths-all : (w : List ℕ) (o : Bool) (i paths n : ℕ) → PathsSoFar w o i paths → i ≤ recs (view w) → n ≡ recs (view w) → n ≤ i → paths ≡ needOf (view w) o .paths
+unfolding needOf
+paths-all w o i paths n c l e h =
+    let z : recs (view w) ≡ i = omega arith in
+    rw (c .are, z)
 
 -- ---- one record, as asked
 

@@ -17,11 +17,12 @@ use Rattle.lone.specs.Path.{inOrder, withoutEquals}
 use Rattle.store.specs.Field.{pt, rc, NEXT, PREV, FIRST}
 use Rattle.store.specs.Words.{view}
 use Rattle.store.specs.Sound.{pts, recs, ringless, ringAt}
+use Rattle.store.specs.Good.{SoundWords}
 use Rattle.store.specs.Value.{preserveCollinear}
 use Rattle.store.proofs.Soundness.{whole, from-first}
 use Rattle.lone.specs.Plane.{plane}
 use Rattle.paths.specs.Path.{pointAt, pointsAt}
-use Rattle.paths.specs.Walking.{linkOf, startFrom, roundFrom, Round, Ready, pathRound}
+use Rattle.paths.specs.Walking.{linkOf, startFrom, roundFrom, Round, pathRound}
 use Rattle.paths.proofs.Walks.{othersOf, walk-is}
 
 -- ---- lists
@@ -88,7 +89,7 @@ pub record Ringed (w : List ℕ) (rev : Bool) (i : ℕ) : Type 0 where
   pub ahead : Round w false (startFrom (view w) rev (view w (rc FIRST) i))
   pub ahead-is : roundFrom (view w) false (startFrom (view w) rev (view w (rc FIRST) i)) ≡ cond rev (ringAt (view w) i) (turn (ringAt (view w) i))
 
-module _ (w : List ℕ) (o : Ready w) (i : ℕ) (h : i < recs (view w)) (e : ringless (view w) i ≡ false) where
+module _ (w : List ℕ) (o : SoundWords w) (i : ℕ) (h : i < recs (view w)) (e : ringless (view w) i ≡ false) where
   f : ℕ
   f = view w (rc FIRST) i
 

@@ -9,7 +9,10 @@ use lib.ListN.{length, take, drop, replicate, length-append, length-drop}
 use borrow.Rule.Slice.PartMut.{putMid}
 use Rattle.store.specs.Words.{Store, view}
 use Rattle.store.specs.Sound.{recs}
-use Rattle.paths.specs.Path.{pathIf, listed, pathsBelow}
+use Rattle.paths.specs.declared.Written.the-variants.{Paths}
+use Rattle.paths.specs.Count.{needOf}
+use Rattle.paths.specs.Wrote.{wrote}
+use Rattle.paths.specs.Path.{pathIf, listed, pathsBelow, closedPaths, openPaths}
 use Rattle.paths.specs.Tray.{tagOf, fieldsOf, padded, over}
 use Rattle.paths.specs.Walking.{Directed, Laid, laid}
 use Rattle.paths.specs.Filling.{fieldAt, fieldsBelow, layOver, FieldFits, FieldsFit, AllFit, Filled}
@@ -147,5 +150,7 @@ module _ (w : List ℕ) (rev : Bool) (t : List ℕ) (p : AllFit w rev t) where
       pub used-at : c + k ≤ length v
       used-at = omega (arith, used-is, fits, tray-length (A ++ B) t v (c + k) used-is v-is fits)
 
-      pub filled-all : (zs : List ℕ) → zs ≡ replicate (length (take (length v - (c + k)) (drop (c + k) v))) 0 → putMid (c + k) (length v - (c + k)) v zs ≡ padded (length t) (fieldsOf (view w))
-      filled-all zs z = part-clear (A ++ B) t v (c + k) used-is v-is fits zs z ∙ ap (padded (length t)) (sym all-is)
+      pub filled-all : (a b : ℕ) → a ≡ needOf (view w) false .paths → b ≡ needOf (view w) true .paths → (zs : List ℕ) → zs ≡ replicate (length (take (length v - (c + k)) (drop (c + k) v))) 0
+          → wrote (Paths a b) (putMid (c + k) (length v - (c + k)) v zs) ≡ wrote (Paths (length (closedPaths (view w))) (length (openPaths (view w)))) (padded (length t) (fieldsOf (view w)))
+      unfolding needOf
+      filled-all a b ea eb zs z = rw (ea, eb) (ap (wrote (Paths (length (closedPaths (view w))) (length (openPaths (view w))))) (part-clear (A ++ B) t v (c + k) used-is v-is fits zs z ∙ ap (padded (length t)) (sym all-is)))

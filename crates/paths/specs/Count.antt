@@ -12,20 +12,24 @@ use Rattle.paths.specs.declared.Need.{Need}
 use Rattle.paths.specs.Path.{pathsBelow}
 use Rattle.paths.specs.Tray.{tagOf, fields}
 
--- of a path of k points, 0 for no path
+-- how many paths: none where there are 0 points, or a field of 0 bytes
 abbrev pub pathCount : ℕ → ℕ
 pathCount k = cond (eqb k 0) 0 1
 
+-- the bytes of the field of a path of k points, 0 for no path
 abbrev pub fieldSize : ℕ → ℕ
 fieldSize k = cond (eqb k 0) 0 (3 + 8 * k)
 
 unfoldable pub needOf : Store → Bool → Need
 needOf s o = record { paths = length (pathsBelow (recs s) o s); bytes = length (fields (tagOf o) (pathsBelow (recs s) o s)) }
 
--- the records below i are counted
-pub record Tally (w : List ℕ) (o : Bool) (i paths bytes : ℕ) : Type 0 where
+-- the bytes of the records below i are counted
+pub record Tally (w : List ℕ) (o : Bool) (i bytes : ℕ) : Type 0 where
   pub within : i ≤ recs (view w)
-  pub paths-are : paths ≡ length (pathsBelow i o (view w))
   pub bytes-are : bytes ≡ length (fields (tagOf o) (pathsBelow i o (view w)))
-  pub few-paths : paths ≤ i
   pub few-bytes : bytes ≤ i * (3 + 8 * POINTS)
+
+-- the paths of the records below i are counted
+pub record PathsSoFar (w : List ℕ) (o : Bool) (i paths : ℕ) : Type 0 where
+  pub are : paths ≡ length (pathsBelow i o (view w))
+  pub few : paths ≤ i

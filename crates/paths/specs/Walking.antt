@@ -16,7 +16,7 @@ use Rattle.rings.specs.Whole.{Whole}
 use Rattle.store.specs.Field.{pt, X, Y, NEXT, PREV, LENGTH}
 use Rattle.store.specs.Words.{Store, view}
 use Rattle.store.specs.Sound.{pts, recs}
-use Rattle.store.specs.Good.{PointIn, Sound}
+use Rattle.store.specs.Good.{PointIn, SoundWords}
 use Rattle.store.specs.Value.{preserveCollinear, reverseSolution}
 use Rattle.geometry.specs.declared.Point.{Point}
 use Rattle.geometry.specs.Plane.{samePoint}
@@ -38,11 +38,6 @@ startFrom s false f = s (pt NEXT) f
 -- the ring that a path goes round, from point a
 abbrev pub roundFrom : Store → Bool → ℕ → List ℕ
 roundFrom s rev a = walk (linkOf s rev) a
-
--- a work space that may be written out
-pub record Ready (w : List ℕ) : Type 0 where
-  pub long : LENGTH ≤ length w
-  pub sound : Sound (view w)
 
 -- a point that may be read
 pub record Readable (w : List ℕ) (k : ℕ) : Type 0 where
@@ -85,14 +80,14 @@ pub record Sized (w : List ℕ) (a n : ℕ) : Type 0 where
   pub round : Round w false a
   pub fits : n ≤ length (roundFrom (view w) false a)
 
--- record i of a work space that may be written out
+-- record i of a sound work space
 pub record Known (w : List ℕ) (i : ℕ) : Type 0 where
-  pub ready : Ready w
+  pub ready : SoundWords w
   pub known : i < recs (view w)
 
 -- a work space and its settings' direction
 pub record Directed (w : List ℕ) (rev : Bool) : Type 0 where
-  pub ready : Ready w
+  pub ready : SoundWords w
   pub direction : rev ≡ reverseSolution (view w)
 
 -- record i, with the settings' direction

@@ -12,7 +12,7 @@ ghost use mathlib.Core.Path.{_≡_};
 ghost use Prim.Native.Nat.{_+_, _*_, _<_, _≤_};
 ghost use mathlib.Core.Bool.{false, cond, not, _&&_, Bool·beq};
 ghost use mathlib.Core.List.{map};
-ghost use lib.Dec.{eqb, leb};
+ghost use lib.Dec.{eqb, leb, ltb};
 ghost use lib.ListN.{length, set, replicate};
 ghost use Rattle.numbers.specs.Written.{putLe};
 ghost use Rattle.job.specs.Limits as limit;
@@ -21,14 +21,16 @@ ghost use Rattle.lone.specs.Path.{isSmallRing};
 ghost use Rattle.store.specs.Field.{LENGTH};
 ghost use Rattle.store.specs.Words.{view};
 ghost use Rattle.store.specs.Sound.{recs, isOpen};
+ghost use Rattle.store.specs.Good.{SoundWords};
 ghost use Rattle.store.specs.Value.{preserveCollinear, reverseSolution};
-ghost use Rattle.paths.specs.Path.{pointAt, pathBy, pathIf, sizeOf};
+ghost use Rattle.paths.specs.Path.{pointAt, pathBy, pathIf, sizeOf, closedPaths, openPaths};
 ghost use Rattle.paths.specs.Count.{pathCount, fieldSize, needOf};
 ghost use Rattle.paths.specs.Tray.{pathBytes, tagOf, fieldsOf, padded, over};
 ghost use Rattle.paths.specs.Tray as trays;
 ghost use Rattle.paths.specs.Filling.{pathPoints, fieldAt, fieldsBelow, layOver, PointsFit, FieldFits, FieldsFit, AllFit};
+ghost use Rattle.paths.specs.declared.Written.the-variants.{Paths};
 ghost use Rattle.paths.specs.Wrote.{wrote, buildPaths64};
-ghost use Rattle.paths.specs.Walking.{startFrom, roundFrom, Ready, Known, Directed, Asked, ThreeOrMore, Sized, Round, laid};
+ghost use Rattle.paths.specs.Walking.{startFrom, roundFrom, Known, Directed, Asked, ThreeOrMore, Sized, Round, laid};
 
 // A tray of so many bytes is never too small.
 pub const TRAY: usize = 3 * Job::RECORDS + 8 * Job::POINTS;
@@ -139,7 +141,7 @@ fn is_open(w: &[u32], i: usize) -> bool
 }
 
 // The setting `reverse_solution`.
-fn reverse_solution(w: &[u32]) -> bool
+pub fn reverse_solution(w: &[u32]) -> bool
     requires { ⌜ LENGTH ≤ length (now w) ⌝ }
     ensures { λ r. ⌜ r ≡ reverseSolution (view (now (w .entry))) ⌝ }
 {
@@ -196,23 +198,34 @@ fn field_size(k: usize) -> usize
     3 + 8 * k
 }
 
-fn count_paths(w: &[u32], rev: bool, opened: bool) -> Need
+// How many bytes the fields of the open, or the closed, paths have.
+fn count_bytes(w: &[u32], rev: bool, opened: bool) -> usize
     requires { ⌜ Directed (now w) rev ⌝ }
-    ensures { λ r. ⌜ r ≡ needOf (view (now (w .entry))) opened ⌝ }
+    ensures { λ r. ⌜ r ≡ needOf (view (now (w .entry))) opened .bytes ⌝ }
 {
     let n = store::get(w, Col::Records, 0);
-    let mut paths: usize = 0;
     let mut bytes: usize = 0;
     let mut i: usize = 0;
     while i < n {
         let k = size_if(w, rev, opened, i);
-        let one = path_count(k);
         let size = field_size(k);
-        paths += one;
         bytes += size;
         i += 1;
     }
-    Need { paths, bytes }
+    bytes
+}
+
+// Whether all fields need more than n bytes; they are counted only if another job's could.
+fn too_small(w: &[u32], rev: bool, n: usize) -> bool
+    requires { ⌜ Directed (now w) rev ⌝ }
+    ensures { λ r. ⌜ r ≡ ltb n (length (fieldsOf (view (now (w .entry))))) ⌝ }
+{
+    if TRAY <= n {
+        return false;
+    }
+    let closed = count_bytes(w, rev, false);
+    let opened = count_bytes(w, rev, true);
+    n < closed + opened
 }
 
 // ---- the tray
@@ -260,20 +273,23 @@ fn write_path(w: &[u32], rev: bool, opened: bool, i: usize, t: &mut [u8]) -> usi
     3 + 8 * k
 }
 
-// The fields of all records that are open or closed as asked; answers how many bytes they have.
-fn write_paths(w: &[u32], rev: bool, opened: bool, t: &mut [u8]) -> usize
+// The fields of all records that are open or closed as asked; answers what they come to.
+fn write_paths(w: &[u32], rev: bool, opened: bool, t: &mut [u8]) -> Need
     requires { ⌜ FieldsFit (now w) rev opened (now t) ⌝ }
-    ensures { λ r. ⌜ laid r (now (t .exit)) ≡ layOver (fieldsBelow (recs (view (now (w .entry)))) (view (now (w .entry))) opened) (now (t .entry)) ⌝ }
+    ensures { λ r. ⌜ (laid (r .bytes) (now (t .exit)) ≡ layOver (fieldsBelow (recs (view (now (w .entry)))) (view (now (w .entry))) opened) (now (t .entry))) × (r .paths ≡ needOf (view (now (w .entry))) opened .paths) ⌝ }
 {
     let n = store::get(w, Col::Records, 0);
+    let mut paths: usize = 0;
     let mut used: usize = 0;
     let mut i: usize = 0;
     while i < n {
         let size = write_path(w, rev, opened, i, &mut t[used..]);
+        let one = path_count(size);
+        paths += one;
         used += size;
         i += 1;
     }
-    used
+    Need { paths, bytes: used }
 }
 
 // Zeros.
@@ -287,32 +303,31 @@ pub fn clear(t: &mut [u8])
     }
 }
 
-// All fields, and zeros past them.
-fn fill(w: &[u32], rev: bool, t: &mut [u8])
+// All fields, and zeros past them; answers how many paths there are.
+fn fill(w: &[u32], rev: bool, t: &mut [u8]) -> Written
     requires { ⌜ AllFit (now w) rev (now t) ⌝ }
-    ensures { λ _. ⌜ now (t .exit) ≡ padded (length (now (t .entry))) (fieldsOf (view (now (w .entry)))) ⌝ }
+    ensures { λ r. ⌜ wrote r (now (t .exit)) ≡ wrote (Paths (length (closedPaths (view (now (w .entry))))) (length (openPaths (view (now (w .entry)))))) (padded (length (now (t .entry))) (fieldsOf (view (now (w .entry))))) ⌝ }
 {
     let closed = write_paths(w, rev, false, t);
-    let opened = write_paths(w, rev, true, &mut t[closed..]);
-    let used = closed + opened;
+    let at = closed.bytes;
+    let opened = write_paths(w, rev, true, &mut t[at..]);
+    let used = at + opened.bytes;
     clear(&mut t[used..]);
-}
-
-// `build_paths64`: all paths into the tray, or a refusal, found before anything is written.
-pub fn build_paths64(w: &[u32], tray: &mut [u8]) -> Written
-    requires { ⌜ Ready (now w) ⌝ }
-    ensures { λ r. ⌜ wrote r (now (tray .exit)) ≡ buildPaths64 (view (now (w .entry))) (now (tray .entry)) ⌝ }
-{
-    let rev = reverse_solution(w);
-    let closed = count_paths(w, rev, false);
-    let opened = count_paths(w, rev, true);
-    let bytes = closed.bytes + opened.bytes;
-    if tray.len() < bytes {
-        return Written::Refused(Refusal::SmallTray);
-    }
-    fill(w, rev, tray);
     Written::Paths {
         closed: closed.paths,
         open: opened.paths,
     }
+}
+
+// `build_paths64`: all paths into the tray, or a refusal, found before anything is written.
+pub fn build_paths64(w: &[u32], tray: &mut [u8]) -> Written
+    requires { ⌜ SoundWords (now w) ⌝ }
+    ensures { λ r. ⌜ wrote r (now (tray .exit)) ≡ buildPaths64 (view (now (w .entry))) (now (tray .entry)) ⌝ }
+{
+    let rev = reverse_solution(w);
+    let small = too_small(w, rev, tray.len());
+    if small {
+        return Written::Refused(Refusal::SmallTray);
+    }
+    fill(w, rev, tray)
 }

@@ -16,14 +16,14 @@ use Rattle.audit.proofs.Agreeing.{passed-sound}
 use Rattle.paths.specs.declared.Written.{Written}
 use Rattle.paths.specs.declared.Written.the-variants.{Paths}
 use Rattle.paths.specs.Wrote.{wrote, buildPaths64}
-use Rattle.paths.specs.Walking.{Ready}
+use Rattle.store.specs.Good.{SoundWords}
 use Rattle.listing.specs.declared.Listed.{Listed}
 use Rattle.listing.specs.declared.Listed.the-variants.{Bytes, NoRoom}
 use Rattle.listing.specs.Told.{Told, told, tell}
 use Rattle.listing.specs.Needs.{Listable}
 use Rattle.listing.proofs.Answers.{answer-listable}
 
-pub ready : (w : List ℕ) (v : Verdict) → LENGTH ≤ length w → v ≡ testsOf w → v ≡ Passed → Ready w
+pub ready : (w : List ℕ) (v : Verdict) → LENGTH ≤ length w → v ≡ testsOf w → v ≡ Passed → SoundWords w
 ready w v l e f = record { long = l; sound = passed-sound w (sym e ∙ f) }
 
 pub listable : (w : List ℕ) (v : Verdict) (r : Written) (c o : ℕ) (t u : List ℕ) → v ≡ testsOf w → v ≡ Passed → r ≡ Paths c o → wrote r u ≡ buildPaths64 (view w) t → Listable c o u

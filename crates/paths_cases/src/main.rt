@@ -102,7 +102,8 @@ fn list(work: &[u32], tray: &mut [u8], out: &mut [u8]) -> usize
     let Written::Paths { closed, open } = paths::build_paths64(work, tray) else {
         return 0;
     };
-    let Listed::Bytes(n) = listing::listing(tray, closed, open, out) else {
+    let rev = paths::reverse_solution(work);
+    let Listed::Bytes(n) = listing::listing(tray, closed, open, rev, out) else {
         return 0;
     };
     n

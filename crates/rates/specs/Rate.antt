@@ -1,6 +1,6 @@
 -- The rate: document 02, Ask 1, "a whole number of cents for each square decimetre, 1 to 1,000, given as the listing program's argument".
 use Prim.Native.Nat.{ℕ, zero, suc, _+_, _-_, _*_}
-use mathlib.Core.Bool.{Bool, true, false, cond, _&&_}
+use mathlib.Core.Bool.{Bool, true, cond, _&&_}
 use mathlib.Core.List.{List, [], _∷_}
 use lib.Dec.{leb}
 use lib.ListN.{replicate}

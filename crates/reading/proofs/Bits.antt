@@ -24,7 +24,7 @@ use Rattle.store.specs.Words.{Store, view, Write, write, onWords}
 use Rattle.store.specs.Stores.{onStore}
 use Rattle.store.specs.Named.{settingsOf, recordsOf}
 use Rattle.store.proofs.Storing.{view-writes, length-writes}
-use Rattle.reading.specs.declared.fill.Outcome.the-variants.{State, Refused}
+use Rattle.reading.specs.declared.fill.Outcome.the-variants.{Ok, Refused}
 use Rattle.reading.specs.Fill.{ReadEnd, end, placed, taken, turnOf, follow, run, fillOf}
 use Rattle.reading.specs.Needs.{Room}
 use Rattle.reading.proofs.Placing.{has-room}
@@ -57,7 +57,7 @@ record Tame (j : Job) (w : List ℕ) : Type 0 where
   long : LENGTH ≤ length w
 
 abbrev TameEnd : ReadEnd → Type 0
-TameEnd (end (State j) w ss js) = Tame j w
+TameEnd (end (Ok j) w ss js) = Tame j w
 TameEnd (end (Refused r) w ss js) = Unit {0}
 
 module _ (j : Job) (w ss js : List ℕ) (t : Tame j w) where
@@ -97,10 +97,10 @@ tame-run zero bytes j w ss js t = tt
 tame-run (suc k) bytes j w ss js t = by (ltb (j .at) (length bytes)) (turnOf bytes j w ss js) (tame-turn j w ss js t bytes) (λ i v ts ks u. tame-run k bytes i v ts ks u)
   where
     on : (T : ReadEnd) → TameEnd T → ((i : Job) (v ts ks : List ℕ) → Tame i v → TameEnd (run k bytes i v ts ks)) → TameEnd (follow (run k bytes) T)
-    on (end (State i) v ts ks) u r = r i v ts ks u
+    on (end (Ok i) v ts ks) u r = r i v ts ks u
     on (end (Refused x) v ts ks) u r = tt
 
-    by : (b : Bool) (T : ReadEnd) → TameEnd T → ((i : Job) (v ts ks : List ℕ) → Tame i v → TameEnd (run k bytes i v ts ks)) → TameEnd (cond b (follow (run k bytes) T) (end (State j) w ss js))
+    by : (b : Bool) (T : ReadEnd) → TameEnd T → ((i : Job) (v ts ks : List ℕ) → Tame i v → TameEnd (run k bytes i v ts ks)) → TameEnd (cond b (follow (run k bytes) T) (end (Ok j) w ss js))
     by true T u r = on T u r
     by false T u r = t
 
@@ -112,12 +112,12 @@ tame-fill bytes w ss js l = go (eqb (length bytes) 0)
     go true = tt
     go false = tame-run (suc (length bytes)) bytes fresh w ss js (record { bits = omega arith; flags = λ i h. absurd (omega arith); long = l })
 
-pub bits-of : (bytes w ss js : List ℕ) → LENGTH ≤ length w → (j : Job) (v ts ks : List ℕ) → readOf bytes w ss js ≡ end (State j) v ts ks → Bits v
+pub bits-of : (bytes w ss js : List ℕ) → LENGTH ≤ length w → (j : Job) (v ts ks : List ℕ) → readOf bytes w ss js ≡ end (Ok j) v ts ks → Bits v
 unfolding readOf
 bits-of bytes w ss js l j v ts ks e = go (fillOf bytes w ss js) (tame-fill bytes w ss js l) e
   where
-    go : (T : ReadEnd) → TameEnd T → withCounts T ≡ end (State j) v ts ks → Bits v
-    go (end (State i) u us ls) t d =
+    go : (T : ReadEnd) → TameEnd T → withCounts T ≡ end (Ok j) v ts ks → Bits v
+    go (end (Ok i) u us ls) t d =
         let b : counted i u ≡ v = cc (d) in
         let xs = write (ct SETTINGS) 0 (i .bits) ∷ write (ct POINTS) 0 (i .points) ∷ write (ct RECORDS) 0 (i .records) ∷ [] in
         let c : view (onWords u xs) ≡ onStore (view u) xs = view-writes u xs (t .long) (omega arith, (omega arith, (omega arith, tt))) in

@@ -20,7 +20,7 @@ use Rattle.store.specs.Field.{LENGTH, ct, SETTINGS, POINTS, RECORDS, pt, rc, X,
 use Rattle.store.specs.Words.{write}
 use Rattle.store.proofs.Storing.{length-writes, view-writes}
 use Rattle.reading.specs.declared.fill.Outcome.{Outcome}
-use Rattle.reading.specs.declared.fill.Outcome.the-variants.{State, Refused}
+use Rattle.reading.specs.declared.fill.Outcome.the-variants.{Ok, Refused}
 use Rattle.reading.specs.Fill.{ReadEnd, end, placed, taken, turnOf, follow, run, fillOf}
 use Rattle.reading.specs.Read.{counted, readOf}
 use Rattle.reading.specs.Alike.{Counts}
@@ -56,7 +56,7 @@ pub record Ended (w ss js : List ℕ) (j : Job) (w′ ss′ js′ : List ℕ) : 
   pub joins : length js′ ≡ length js
 
 module _ (bytes : List ℕ) (n : Job) (v ts ks : List ℕ) where
-  stays : (w ss js : List ℕ) (j : Job) → Within j → end (State j) w ss js ≡ end (State n) v ts ks → Ended w ss js n v ts ks
+  stays : (w ss js : List ℕ) (j : Job) → Within j → end (Ok j) w ss js ≡ end (Ok n) v ts ks → Ended w ss js n v ts ks
   stays w ss js j i e =
       let a : j ≡ n = cc in
       let b : w ≡ v = cc in
@@ -64,28 +64,28 @@ module _ (bytes : List ℕ) (n : Job) (v ts ks : List ℕ) where
       let d : js ≡ ks = cc in
       record { within = subst Within a i; words = ap length (sym b); segments = ap length (sym c); joins = ap length (sym d) }
 
-  run-ended : (k : ℕ) (j : Job) (w ss js : List ℕ) → Within j → run k bytes j w ss js ≡ end (State n) v ts ks → Ended w ss js n v ts ks
+  run-ended : (k : ℕ) (j : Job) (w ss js : List ℕ) → Within j → run k bytes j w ss js ≡ end (Ok n) v ts ks → Ended w ss js n v ts ks
   unfolding run
   run-ended zero j w ss js i e = absurd (let z : _≡_ {A = ℕ} 0 1 = cc in omega arith)
   run-ended (suc k) j w ss js i e =
       by (ltb (j .at) (length bytes)) (turnOf bytes j w ss js) (moves bytes j w ss js) (turn-kept j w ss js bytes) e
       (λ m u us ls q. run-ended k m u us ls q)
     where
-      on : (T : ReadEnd) → After j T → Kept w ss js T → follow (run k bytes) T ≡ end (State n) v ts ks → ((m : Job) (u us ls : List ℕ) → Within m → run k bytes m u us ls ≡ end (State n) v ts ks → Ended u us ls n v ts ks) → Ended w ss js n v ts ks
-      on (end (State m) u us ls) a b d f =
+      on : (T : ReadEnd) → After j T → Kept w ss js T → follow (run k bytes) T ≡ end (Ok n) v ts ks → ((m : Job) (u us ls : List ℕ) → Within m → run k bytes m u us ls ≡ end (Ok n) v ts ks → Ended u us ls n v ts ks) → Ended w ss js n v ts ks
+      on (end (Ok m) u us ls) a b d f =
           let r = f m u us ls (a .within i) d in
           record { within = r .within; words = r .words ∙ b .0; segments = r .segments ∙ b .1; joins = r .joins ∙ b .2 }
       on (end (Refused x) u us ls) a b d f = absurd (let z : _≡_ {A = ℕ} 0 1 = cc in omega arith)
 
-      by : (t : Bool) (T : ReadEnd) → After j T → Kept w ss js T → cond t (follow (run k bytes) T) (end (State j) w ss js) ≡ end (State n) v ts ks → ((m : Job) (u us ls : List ℕ) → Within m → run k bytes m u us ls ≡ end (State n) v ts ks → Ended u us ls n v ts ks) → Ended w ss js n v ts ks
+      by : (t : Bool) (T : ReadEnd) → After j T → Kept w ss js T → cond t (follow (run k bytes) T) (end (Ok j) w ss js) ≡ end (Ok n) v ts ks → ((m : Job) (u us ls : List ℕ) → Within m → run k bytes m u us ls ≡ end (Ok n) v ts ks → Ended u us ls n v ts ks) → Ended w ss js n v ts ks
       by true T a b d f = on T a b d f
       by false T a b d f = stays w ss js j i d
 
-  pub filled : (w ss js : List ℕ) → fillOf bytes w ss js ≡ end (State n) v ts ks → Ended w ss js n v ts ks
+  pub filled : (w ss js : List ℕ) → fillOf bytes w ss js ≡ end (Ok n) v ts ks → Ended w ss js n v ts ks
   unfolding fillOf
   filled w ss js e = by (eqb (length bytes) 0) e
     where
-      by : (t : Bool) → cond t (end (Refused Strange) w ss js) (run (suc (length bytes)) bytes fresh w ss js) ≡ end (State n) v ts ks → Ended w ss js n v ts ks
+      by : (t : Bool) → cond t (end (Refused Strange) w ss js) (run (suc (length bytes)) bytes fresh w ss js) ≡ end (Ok n) v ts ks → Ended w ss js n v ts ks
       by true d = absurd (let z : _≡_ {A = ℕ} 0 1 = cc in omega arith)
       by false d = run-ended (suc (length bytes)) fresh w ss js within-fresh d
 
@@ -96,11 +96,11 @@ counts w j l i =
     record { within = i; settings = ap (λ s. s (ct SETTINGS) 0) e; points = ap (λ s. s (ct POINTS) 0) e; records = ap (λ s. s (ct RECORDS) 0) e }
 
 -- for the code of `read_job`
-pub may-count : (bytes w ss js v ts ks : List ℕ) (r : Outcome) (j : Job) → end r v ts ks ≡ fillOf bytes w ss js → r ≡ State j → Within j
+pub may-count : (bytes w ss js v ts ks : List ℕ) (r : Outcome) (j : Job) → end r v ts ks ≡ fillOf bytes w ss js → r ≡ Ok j → Within j
 may-count bytes w ss js v ts ks r j e h = filled bytes j v ts ks w ss js (cc) .within
 
 module _ (bytes w ss js v ts ks : List ℕ) (r : Outcome) (e : end r v ts ks ≡ fillOf bytes w ss js) where
-  pub read-on : (j : Job) (v′ : List ℕ) → r ≡ State j → v′ ≡ counted j v → end (State j) v′ ts ks ≡ readOf bytes w ss js
+  pub read-on : (j : Job) (v′ : List ℕ) → r ≡ Ok j → v′ ≡ counted j v → end (Ok j) v′ ts ks ≡ readOf bytes w ss js
   unfolding readOf
   read-on j v′ h a = rw (a, ← e, h)
 

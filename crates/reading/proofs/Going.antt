@@ -16,7 +16,7 @@ use Rattle.job.specs.declared.field.Field.the-variants.{Settings, Point, Record
 use Rattle.job.specs.declared.field.Reading.{Reading}
 use Rattle.job.specs.declared.field.Reading.the-variants as reading
 use Rattle.reading.specs.declared.fill.Outcome.{Outcome}
-use Rattle.reading.specs.declared.fill.Outcome.the-variants.{State, Refused}
+use Rattle.reading.specs.declared.fill.Outcome.the-variants.{Ok, Refused}
 use Rattle.reading.specs.Fill.{ReadEnd, end, placed, taken, turnOf, follow, run, fillOf}
 
 -- what a turn leaves, if it is no refusal: it is further on, and the counts keep within the limits
@@ -25,7 +25,7 @@ pub record Forward (j n : Job) : Type 0 where
   pub within : Within j → Within n
 
 abbrev pub After : Job → ReadEnd → Type 0
-After j (end (State n) w ss js) = Forward j n
+After j (end (Ok n) w ss js) = Forward j n
 After j (end (Refused r) w ss js) = Unit {0}
 
 module _ (bytes : List ℕ) (j : Job) (w ss js : List ℕ) where
@@ -68,14 +68,14 @@ module _ (bytes : List ℕ) (F : ReadEnd) (j : Job) (w ss js : List ℕ) where
   on zero h l e = absurd (omega arith)
   on (suc i) h l e = (i, refl, rw (lt-ltb _ _ h) at e)
 
-  pub over : (k : ℕ) → 0 < k → length bytes ≤ j .at → run k bytes j w ss js ≡ F → end (State j) w ss js ≡ F
+  pub over : (k : ℕ) → 0 < k → length bytes ≤ j .at → run k bytes j w ss js ≡ F → end (Ok j) w ss js ≡ F
   unfolding run
   over zero z h e = absurd (omega arith)
   over (suc i) z h e = rw (le-ltb _ _ h) at e
 
 module _ {bytes : List ℕ} {F : ReadEnd} {j : Job} {w ss js : List ℕ} where
-  module _ {n : Job} {v ts ks : List ℕ} {r : Outcome} (g : Going bytes F j w ss js) (h : j .at < length bytes) (e : r ≡ State n) (s : end r v ts ks ≡ turnOf bytes j w ss js) where
-    told : turnOf bytes j w ss js ≡ end (State n) v ts ks
+  module _ {n : Job} {v ts ks : List ℕ} {r : Outcome} (g : Going bytes F j w ss js) (h : j .at < length bytes) (e : r ≡ Ok n) (s : end r v ts ks ≡ turnOf bytes j w ss js) where
+    told : turnOf bytes j w ss js ≡ end (Ok n) v ts ks
     told = cc
 
     ahead : Forward j n
@@ -96,7 +96,7 @@ module _ {bytes : List ℕ} {F : ReadEnd} {j : Job} {w ss js : List ℕ} where
       let t = on bytes F j w ss js (g .left) h (g .far) (g .goes) in
       rw q at (t .2)
 
-  pub done : Going bytes F j w ss js → length bytes ≤ j .at → end (State j) w ss js ≡ F
+  pub done : Going bytes F j w ss js → length bytes ≤ j .at → end (Ok j) w ss js ≡ F
   done g h = over bytes F j w ss js (g .left) (g .some) h (g .goes)
 
 pub begun : (bytes w ss js : List ℕ) → (length bytes ≡ 0 → ⊥) → Going bytes (fillOf bytes w ss js) fresh w ss js

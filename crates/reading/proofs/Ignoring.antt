@@ -23,7 +23,7 @@ use Rattle.store.specs.Field.{PointCol, pt, rc, ct, X, Y, NEXT, PREV, REC, FLAG
 use Rattle.store.specs.Words.{Store, view, Write, write, onWords}
 use Rattle.store.specs.Stores.{onStore}
 use Rattle.store.proofs.Storing.{view-writes, length-writes}
-use Rattle.reading.specs.declared.fill.Outcome.the-variants.{State, Refused}
+use Rattle.reading.specs.declared.fill.Outcome.the-variants.{Ok, Refused}
 use Rattle.reading.specs.Fill.{ReadEnd, end, placed, taken, turnOf, follow, run, fillOf}
 use Rattle.reading.specs.Needs.{Space, Room}
 use Rattle.reading.specs.Read.{counted, withCounts, readOf}
@@ -53,9 +53,9 @@ record Both (j : Job) (w w′ ss ss′ js js′ : List ℕ) : Type 0 where
   same : SameJob j w w′ ss ss′ js js′
 
 abbrev BothEnd : ReadEnd → ReadEnd → Type 0
-BothEnd (end (State j) w ss js) (end (State j′) w′ ss′ js′) = (j′ ≡ j) × Both j w w′ ss ss′ js js′
-BothEnd (end (State j) w ss js) (end (Refused r′) w′ ss′ js′) = ⊥
-BothEnd (end (Refused r) w ss js) (end (State j′) w′ ss′ js′) = ⊥
+BothEnd (end (Ok j) w ss js) (end (Ok j′) w′ ss′ js′) = (j′ ≡ j) × Both j w w′ ss ss′ js js′
+BothEnd (end (Ok j) w ss js) (end (Refused r′) w′ ss′ js′) = ⊥
+BothEnd (end (Refused r) w ss js) (end (Ok j′) w′ ss′ js′) = ⊥
 BothEnd (end (Refused r) w ss js) (end (Refused r′) w′ ss′ js′) = r′ ≡ r
 
 abbrev pointList : ℕ → ℕ → ℕ → ℕ → ℕ → ℕ → List Write
@@ -175,24 +175,24 @@ both-run (suc k) bytes j w w′ ss ss′ js js′ b =
     (λ i v v′ ts ts′ ks ks′ c. both-run k bytes i v v′ ts ts′ ks ks′ c)
   where
     on : (T T′ : ReadEnd) → BothEnd T T′ → ((i : Job) (v v′ ts ts′ ks ks′ : List ℕ) → Both i v v′ ts ts′ ks ks′ → BothEnd (run k bytes i v ts ks) (run k bytes i v′ ts′ ks′)) → BothEnd (follow (run k bytes) T) (follow (run k bytes) T′)
-    on (end (State i) v ts ks) (end (State i′) v′ ts′ ks′) c r = subst (λ (x : Job). BothEnd (run k bytes i v ts ks) (run k bytes x v′ ts′ ks′)) (sym (c .0)) (r i v v′ ts ts′ ks ks′ (c .1))
-    on (end (State i) v ts ks) (end (Refused x′) v′ ts′ ks′) c r = absurd c
-    on (end (Refused x) v ts ks) (end (State i′) v′ ts′ ks′) c r = absurd c
+    on (end (Ok i) v ts ks) (end (Ok i′) v′ ts′ ks′) c r = subst (λ (x : Job). BothEnd (run k bytes i v ts ks) (run k bytes x v′ ts′ ks′)) (sym (c .0)) (r i v v′ ts ts′ ks ks′ (c .1))
+    on (end (Ok i) v ts ks) (end (Refused x′) v′ ts′ ks′) c r = absurd c
+    on (end (Refused x) v ts ks) (end (Ok i′) v′ ts′ ks′) c r = absurd c
     on (end (Refused x) v ts ks) (end (Refused x′) v′ ts′ ks′) c r = c
 
     by : (t : Bool) (T T′ : ReadEnd) → BothEnd T T′ → ((i : Job) (v v′ ts ts′ ks ks′ : List ℕ) → Both i v v′ ts ts′ ks ks′ → BothEnd (run k bytes i v ts ks) (run k bytes i v′ ts′ ks′))
-        → BothEnd (cond t (follow (run k bytes) T) (end (State j) w ss js)) (cond t (follow (run k bytes) T′) (end (State j) w′ ss′ js′))
+        → BothEnd (cond t (follow (run k bytes) T) (end (Ok j) w ss js)) (cond t (follow (run k bytes) T′) (end (Ok j) w′ ss′ js′))
     by true T T′ c r = on T T′ c r
     by false T T′ c r = (refl, b)
 
 -- the counts are written last, and are the same too
 with-counts : (T T′ : ReadEnd) → BothEnd T T′ → SameEnd (withCounts T) (withCounts T′)
-with-counts (end (State j) w ss js) (end (State j′) w′ ss′ js′) c =
+with-counts (end (Ok j) w ss js) (end (Ok j′) w′ ss′ js′) c =
     let b = c .1 in
     let s = b .same in
     let e = view-writes w (countList j) (b .space .words) (omega arith, (omega arith, (omega arith, tt))) in
     let e′ = view-writes w′ (countList j) (b .space′ .words) (omega arith, (omega arith, (omega arith, tt))) in
-    subst (λ (x : Job). SameEnd (end (State j) (counted j w) ss js) (end (State x) (counted x w′) ss′ js′)) (sym (c .0)) (
+    subst (λ (x : Job). SameEnd (end (Ok j) (counted j w) ss js) (end (Ok x) (counted x w′) ss′ js′)) (sym (c .0)) (
       refl,
       record {
         points = λ x i l. ap (λ (t : Store). t (pt x) i) e′ ∙ s .points x i l ∙ sym (ap (λ (t : Store). t (pt x) i) e);
@@ -203,8 +203,8 @@ with-counts (end (State j) w ss js) (end (State j′) w′ ss′ js′) c =
         joins = s .joins;
       },
     )
-with-counts (end (State j) w ss js) (end (Refused x′) w′ ss′ js′) c = absurd c
-with-counts (end (Refused x) w ss js) (end (State j′) w′ ss′ js′) c = absurd c
+with-counts (end (Ok j) w ss js) (end (Refused x′) w′ ss′ js′) c = absurd c
+with-counts (end (Refused x) w ss js) (end (Ok j′) w′ ss′ js′) c = absurd c
 with-counts (end (Refused x) w ss js) (end (Refused x′) w′ ss′ js′) c = c
 
 pub ignores : (bytes : List ℕ) → Ignores bytes

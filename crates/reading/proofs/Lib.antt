@@ -5,3 +5,4 @@ pub mod Counted
 pub mod Bits
 pub mod Ignoring
 pub mod Standing
+pub mod Running

@@ -20,24 +20,24 @@ use Rattle.job.specs.declared.field.Field.the-variants.{Settings, Point, Record
 use Rattle.job.specs.declared.field.Reading.{Reading}
 use Rattle.job.specs.declared.field.Reading.the-variants as reading
 use Rattle.reading.specs.declared.fill.Outcome.{Outcome}
-use Rattle.reading.specs.declared.fill.Outcome.the-variants.{State, Refused}
+use Rattle.reading.specs.declared.fill.Outcome.the-variants.{Ok, Refused}
 use Rattle.reading.specs.Fill.{end, putPoint, putRecord, putJoin, placed, turnOf}
 use Rattle.reading.specs.Needs.{Space, Room, Placing}
 
 module _ (f : Field) (n : ℕ) (j r : Job) (w ss js : List ℕ) where
-  pub placed-settings : (b : ℕ) → f ≡ Settings b → r ≡ past f n j → end (State r) w ss js ≡ placed f n j w ss js
+  pub placed-settings : (b : ℕ) → f ≡ Settings b → r ≡ past f n j → end (Ok r) w ss js ≡ placed f n j w ss js
   placed-settings b e p = rw (p, e)
 
-  pub placed-point : (x y nx pv rc : ℕ) (w′ : List ℕ) → f ≡ Point x y nx pv rc → w′ ≡ putPoint (j .points) x y nx pv rc w → r ≡ past (Point x y nx pv rc) n j → end (State r) w′ ss js ≡ placed f n j w ss js
+  pub placed-point : (x y nx pv rc : ℕ) (w′ : List ℕ) → f ≡ Point x y nx pv rc → w′ ≡ putPoint (j .points) x y nx pv rc w → r ≡ past (Point x y nx pv rc) n j → end (Ok r) w′ ss js ≡ placed f n j w ss js
   placed-point x y nx pv rc w′ e a p = rw (p, a, e)
 
-  pub placed-record : (fl o fi : ℕ) (w′ : List ℕ) → f ≡ Record fl o fi → w′ ≡ putRecord (j .records) fl o fi w → r ≡ past (Record fl o fi) n j → end (State r) w′ ss js ≡ placed f n j w ss js
+  pub placed-record : (fl o fi : ℕ) (w′ : List ℕ) → f ≡ Record fl o fi → w′ ≡ putRecord (j .records) fl o fi w → r ≡ past (Record fl o fi) n j → end (Ok r) w′ ss js ≡ placed f n j w ss js
   placed-record fl o fi w′ e a p = rw (p, a, e)
 
-  pub placed-segment : (q : ℕ) (ss′ : List ℕ) → f ≡ Segment q → ss′ ≡ set ss (j .segments) q → r ≡ past (Segment q) n j → end (State r) w ss′ js ≡ placed f n j w ss js
+  pub placed-segment : (q : ℕ) (ss′ : List ℕ) → f ≡ Segment q → ss′ ≡ set ss (j .segments) q → r ≡ past (Segment q) n j → end (Ok r) w ss′ js ≡ placed f n j w ss js
   placed-segment q ss′ e a p = rw (p, a, e)
 
-  pub placed-join : (a b : ℕ) (js′ : List ℕ) → f ≡ Join a b → js′ ≡ putJoin (j .joins) a b js → r ≡ past (Join a b) n j → end (State r) w ss js′ ≡ placed f n j w ss js
+  pub placed-join : (a b : ℕ) (js′ : List ℕ) → f ≡ Join a b → js′ ≡ putJoin (j .joins) a b js → r ≡ past (Join a b) n j → end (Ok r) w ss js′ ≡ placed f n j w ss js
   placed-join a b js′ e d p = rw (p, d, e)
 
 -- an accepted field has room

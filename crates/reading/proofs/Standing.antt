@@ -30,7 +30,7 @@ use Rattle.store.specs.Words.{view, write, onWords}
 use Rattle.store.specs.Stores.{onStore}
 use Rattle.store.proofs.Storing.{view-writes, length-writes}
 use Rattle.reading.specs.declared.fill.Outcome.{Outcome}
-use Rattle.reading.specs.declared.fill.Outcome.the-variants.{State, Refused}
+use Rattle.reading.specs.declared.fill.Outcome.the-variants.{Ok, Refused}
 use Rattle.reading.specs.Fill.{ReadEnd, end, placed, taken, turnOf, follow, run, fillOf}
 use Rattle.reading.specs.Needs.{Room}
 use Rattle.reading.specs.Read.{counted, withCounts, readOf}
@@ -154,7 +154,7 @@ record Stands (bytes : List ℕ) (j : Job) (w : List ℕ) : Type 0 where
   numbers : AtBytes bytes (j .points) (view w)
 
 abbrev StandsEnd : List ℕ → ReadEnd → Type 0
-StandsEnd bytes (end (State j) w ss js) = Stands bytes j w
+StandsEnd bytes (end (Ok j) w ss js) = Stands bytes j w
 StandsEnd bytes (end (Refused r) w ss js) = Unit {0}
 
 -- a column with one number more
@@ -229,10 +229,10 @@ stands-run zero bytes j w ss js t = tt
 stands-run (suc k) bytes j w ss js t = by (ltb (j .at) (length bytes)) (turnOf bytes j w ss js) (stands-turn bytes j w ss js t) (λ i v ts ks u. stands-run k bytes i v ts ks u)
   where
     on : (T : ReadEnd) → StandsEnd bytes T → ((i : Job) (v ts ks : List ℕ) → Stands bytes i v → StandsEnd bytes (run k bytes i v ts ks)) → StandsEnd bytes (follow (run k bytes) T)
-    on (end (State i) v ts ks) u r = r i v ts ks u
+    on (end (Ok i) v ts ks) u r = r i v ts ks u
     on (end (Refused x) v ts ks) u r = tt
 
-    by : (b : Bool) (T : ReadEnd) → StandsEnd bytes T → ((i : Job) (v ts ks : List ℕ) → Stands bytes i v → StandsEnd bytes (run k bytes i v ts ks)) → StandsEnd bytes (cond b (follow (run k bytes) T) (end (State j) w ss js))
+    by : (b : Bool) (T : ReadEnd) → StandsEnd bytes T → ((i : Job) (v ts ks : List ℕ) → Stands bytes i v → StandsEnd bytes (run k bytes i v ts ks)) → StandsEnd bytes (cond b (follow (run k bytes) T) (end (Ok j) w ss js))
     by true T u r = on T u r
     by false T u r = t
 
@@ -252,7 +252,7 @@ stands-fill bytes w ss js l = go (eqb (length bytes) 0)
         })
 
 -- the numbers of a job that was read stand where they were read
-pub standing : (bytes w ss js : List ℕ) → LENGTH ≤ length w → (j : Job) (v ts ks : List ℕ) → readOf bytes w ss js ≡ end (State j) v ts ks → Standing bytes j v
+pub standing : (bytes w ss js : List ℕ) → LENGTH ≤ length w → (j : Job) (v ts ks : List ℕ) → readOf bytes w ss js ≡ end (Ok j) v ts ks → Standing bytes j v
 unfolding readOf
 standing bytes w ss js l j v ts ks e = go (fillOf bytes w ss js) (stands-fill bytes w ss js l) e
   where
@@ -264,8 +264,8 @@ standing bytes w ss js l j v ts ks e = go (fillOf bytes w ss js) (stands-fill by
         by (yes a) (no b) = omega (arith, y .early a (omega arith), h)
         by (no a) b = absurd (omega (arith, y .fresh (omega arith) .1))
 
-    go : (T : ReadEnd) → StandsEnd bytes T → withCounts T ≡ end (State j) v ts ks → Standing bytes j v
-    go (end (State i) u us ls) t d =
+    go : (T : ReadEnd) → StandsEnd bytes T → withCounts T ≡ end (Ok j) v ts ks → Standing bytes j v
+    go (end (Ok i) u us ls) t d =
         let a : i ≡ j = cc (d) in
         let b : counted i u ≡ v = cc (d) in
         let xs = write (ct SETTINGS) 0 (i .bits) ∷ write (ct POINTS) 0 (i .points) ∷ write (ct RECORDS) 0 (i .records) ∷ [] in

@@ -8,7 +8,7 @@ use Rattle.job.specs.declared.Job.{Job}
 use Rattle.store.specs.Field.{PointCol, pt}
 use Rattle.store.specs.Words.{view}
 use Rattle.store.specs.Named.{settingsOf, pointsOf, recordsOf, flagsOf, ownerOf, firstOf}
-use Rattle.reading.specs.declared.fill.Outcome.the-variants.{State, Refused}
+use Rattle.reading.specs.declared.fill.Outcome.the-variants.{Ok, Refused}
 use Rattle.reading.specs.Fill.{ReadEnd, end}
 use Rattle.reading.specs.Needs.{Space}
 use Rattle.reading.specs.Read.{readOf}
@@ -24,9 +24,9 @@ pub record SameJob (j : Job) (w w′ ss ss′ js js′ : List ℕ) : Type 0 wher
 
 -- the same refusal, or the same job
 abbrev pub SameEnd : ReadEnd → ReadEnd → Type 0
-SameEnd (end (State j) w ss js) (end (State j′) w′ ss′ js′) = (j′ ≡ j) × SameJob j w w′ ss ss′ js js′
-SameEnd (end (State j) w ss js) (end (Refused r′) w′ ss′ js′) = ⊥
-SameEnd (end (Refused r) w ss js) (end (State j′) w′ ss′ js′) = ⊥
+SameEnd (end (Ok j) w ss js) (end (Ok j′) w′ ss′ js′) = (j′ ≡ j) × SameJob j w w′ ss ss′ js js′
+SameEnd (end (Ok j) w ss js) (end (Refused r′) w′ ss′ js′) = ⊥
+SameEnd (end (Refused r) w ss js) (end (Ok j′) w′ ss′ js′) = ⊥
 SameEnd (end (Refused r) w ss js) (end (Refused r′) w′ ss′ js′) = r′ ≡ r
 
 -- what was in the words and lists before does not matter (`ignores`, proofs/Ignoring)

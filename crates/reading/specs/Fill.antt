@@ -16,7 +16,7 @@ use Rattle.job.specs.declared.field.Reading.the-variants as reading
 use Rattle.store.specs.Field.{pt, rc, X, Y, NEXT, PREV, REC, FLAGS, OWNER, FIRST}
 use Rattle.store.specs.Words.{write, onWords}
 use Rattle.reading.specs.declared.fill.Outcome.{Outcome}
-use Rattle.reading.specs.declared.fill.Outcome.the-variants.{State, Refused}
+use Rattle.reading.specs.declared.fill.Outcome.the-variants.{Ok, Refused}
 
 -- an outcome, with the words and the two lists that are left
 pub data ReadEnd : Type 0 where
@@ -37,13 +37,13 @@ putJoin i a b js = set (set js (2 * i) a) (2 * i + 1) b
 
 -- a field of n bytes goes to the next free place of its kind
 abbrev pub placed : Field → ℕ → Job → List ℕ → List ℕ → List ℕ → ReadEnd
-placed (Settings bits) n j w ss js = end (State (past (Settings bits) n j)) w ss js
+placed (Settings bits) n j w ss js = end (Ok (past (Settings bits) n j)) w ss js
 placed (Point x y next prev rec) n j w ss js =
-    end (State (past (Point x y next prev rec) n j)) (putPoint (j .points) x y next prev rec w) ss js
+    end (Ok (past (Point x y next prev rec) n j)) (putPoint (j .points) x y next prev rec w) ss js
 placed (Record flags owner first) n j w ss js =
-    end (State (past (Record flags owner first) n j)) (putRecord (j .records) flags owner first w) ss js
-placed (Segment p) n j w ss js = end (State (past (Segment p) n j)) w (set ss (j .segments) p) js
-placed (Join a b) n j w ss js = end (State (past (Join a b) n j)) w ss (putJoin (j .joins) a b js)
+    end (Ok (past (Record flags owner first) n j)) (putRecord (j .records) flags owner first w) ss js
+placed (Segment p) n j w ss js = end (Ok (past (Segment p) n j)) w (set ss (j .segments) p) js
+placed (Join a b) n j w ss js = end (Ok (past (Join a b) n j)) w ss (putJoin (j .joins) a b js)
 
 abbrev pub taken : Reading → Job → List ℕ → List ℕ → List ℕ → ReadEnd
 taken (reading.Read f n) j w ss js = placed f n j w ss js
@@ -55,7 +55,7 @@ turnOf bytes j w ss js = taken (fieldOf j (drop (j .at) bytes)) j w ss js
 
 -- a turn's outcome handed on: a refusal ends
 abbrev pub follow : (Job → List ℕ → List ℕ → List ℕ → ReadEnd) → ReadEnd → ReadEnd
-follow f (end (State j) w ss js) = f j w ss js
+follow f (end (Ok j) w ss js) = f j w ss js
 follow f (end (Refused r) w ss js) = end (Refused r) w ss js
 
 -- turns up to the end of the job; the first number bounds how many. `fillOf` gives more than there are bytes, and each turn takes some, so it never runs out
@@ -63,7 +63,7 @@ unfoldable pub run : ℕ → List ℕ → Job → List ℕ → List ℕ → List
 run zero bytes j w ss js = end (Refused Torn) w ss js
 run (suc k) bytes j w ss js =
     let on : ReadEnd = follow (run k bytes) (turnOf bytes j w ss js) in
-    cond (ltb (j .at) (length bytes)) on (end (State j) w ss js)
+    cond (ltb (j .at) (length bytes)) on (end (Ok j) w ss js)
 
 -- row 2: "empty job"; else its fields, one after the other
 unfoldable pub fillOf : List ℕ → List ℕ → List ℕ → List ℕ → ReadEnd

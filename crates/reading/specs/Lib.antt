@@ -4,3 +4,4 @@ pub mod Needs
 pub mod Read
 pub mod Alike
 pub mod Standing
+pub mod Points

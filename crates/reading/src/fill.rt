@@ -1,4 +1,5 @@
 // Reads the fields of a job, one after the other, into the work space and two lists.
+use crate::points::run_points;
 use job::Job;
 use job::field;
 use job::field::Field;
@@ -16,9 +17,9 @@ ghost use Rattle.store.specs.Column.{columnOf};
 ghost use Rattle.reading.specs.Fill.{end, putPoint, putRecord, putJoin, placed, turnOf, fillOf};
 ghost use Rattle.reading.specs.Needs.{Space, Placing};
 
-// The state after a field, or after all; or a refusal.
+// What was counted up to here, of a field, of all fields or of an accepted job; or the refusal.
 pub enum Outcome {
-    State(Job),
+    Ok(Job),
     Refused(Refusal),
 }
 
@@ -30,7 +31,7 @@ pub(crate) fn put(w: &mut [u32], c: Col, i: usize, v: u32)
     store::set(w, c, i, v as usize);
 }
 
-fn put_point(w: &mut [u32], i: usize, x: u32, y: u32, next: u32, prev: u32, rec: u32)
+pub(crate) fn put_point(w: &mut [u32], i: usize, x: u32, y: u32, next: u32, prev: u32, rec: u32)
     requires { ⌜ (LENGTH ≤ length (now w)) × (i < limit.POINTS) ⌝ }
     ensures { λ _. ⌜ now (w .exit) ≡ putPoint i x y next prev rec (now (w .entry)) ⌝ }
 {
@@ -79,7 +80,7 @@ fn place(
     ensures { λ r. ⌜ end r (now (w .exit)) (now (segments .exit)) (now (joins .exit)) ≡ placed f n j (now (w .entry)) (now (segments .entry)) (now (joins .entry)) ⌝ }
 {
     match f {
-        Field::Settings { bits: _ } => Outcome::State(j.past(f, n)),
+        Field::Settings { bits: _ } => Outcome::Ok(j.past(f, n)),
         Field::Point {
             x,
             y,
@@ -88,7 +89,7 @@ fn place(
             record,
         } => {
             put_point(w, j.points, x, y, next, prev, record);
-            Outcome::State(j.past(f, n))
+            Outcome::Ok(j.past(f, n))
         }
         Field::Record {
             flags,
@@ -96,15 +97,15 @@ fn place(
             first,
         } => {
             put_record(w, j.records, flags, owner, first);
-            Outcome::State(j.past(f, n))
+            Outcome::Ok(j.past(f, n))
         }
         Field::Segment { point } => {
             list(segments, j.segments, point);
-            Outcome::State(j.past(f, n))
+            Outcome::Ok(j.past(f, n))
         }
         Field::Join { first, second } => {
             put_join(joins, j.joins, first, second);
-            Outcome::State(j.past(f, n))
+            Outcome::Ok(j.past(f, n))
         }
     }
 }
@@ -121,7 +122,7 @@ fn turn(bytes: &[u8], j: Job, w: &mut [u32], segments: &mut [u32], joins: &mut [
     }
 }
 
-// The fields of a job, up to its end or the first refusal.
+// The fields of a job, up to its end or the first refusal; points in a row are read at once.
 pub(crate) fn fill(bytes: &[u8], w: &mut [u32], segments: &mut [u32], joins: &mut [u32]) -> Outcome
     requires { ⌜ Space (now w) (now segments) (now joins) ⌝ }
     ensures { λ r. ⌜ end r (now (w .exit)) (now (segments .exit)) (now (joins .exit)) ≡ fillOf (now (bytes .entry)) (now (w .entry)) (now (segments .entry)) (now (joins .entry)) ⌝ }
@@ -133,13 +134,13 @@ pub(crate) fn fill(bytes: &[u8], w: &mut [u32], segments: &mut [u32], joins: &mu
     while j.at < bytes.len() {
         let t = turn(bytes, j, w, segments, joins);
         match t {
-            Outcome::State(n) => {
-                j = n;
+            Outcome::Ok(n) => {
+                j = run_points(bytes, n, w);
             }
             Outcome::Refused(x) => {
                 return Outcome::Refused(x);
             }
         }
     }
-    Outcome::State(j)
+    Outcome::Ok(j)
 }

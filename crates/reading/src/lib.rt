@@ -1,5 +1,6 @@
 // A job read into the work space.
 pub mod fill;
+mod points;
 
 use crate::fill::Outcome;
 use job::Job;
@@ -30,9 +31,9 @@ pub fn read_job(bytes: &[u8], w: &mut [u32], segments: &mut [u32], joins: &mut [
 {
     let r = fill::fill(bytes, w, segments, joins);
     match r {
-        Outcome::State(j) => {
+        Outcome::Ok(j) => {
             put_counts(w, j);
-            Outcome::State(j)
+            Outcome::Ok(j)
         }
         Outcome::Refused(x) => Outcome::Refused(x),
     }

@@ -1,4 +1,4 @@
--- Laws of counting: occurrences in a list, sums, and that distinct numbers below m are at most m.
+-- Laws of counting: occurrences in a list, sums, that distinct numbers below m are at most m, and values at numbers in a row.
 use mathlib.Core.Path.{_≡_, refl, sym, ap, _∙_, subst}
 use mathlib.Core.Logic.{_≢_}
 use mathlib.Core.List.{List, [], _∷_, _++_}
@@ -11,7 +11,7 @@ use lib.ListN.{length, getD, set}
 use lib.Dec.{eqb}
 use borrow.Author.Tests.{eq-eqb, ne-eqb}
 use Rattle.rings.specs.Circle.{turn, spin, lastOf, initOf, rest}
-use Rattle.rings.specs.Count.{sumBy, sumTo, one, occ}
+use Rattle.rings.specs.Count.{sumBy, sumTo, one, occ, table}
 use Rattle.rings.specs.Links.{All}
 
 module _ {A : Type 0} where
@@ -149,3 +149,14 @@ sum-two (suc n) i j f h k d = go (ℕ-discrete i n) (ℕ-discrete j n) (λ a b. 
     go (yes e) (no d′) r = omega (arith, ap f e, sum-term n j f (omega arith))
     go (no d′) (yes e) r = omega (arith, ap f e, sum-term n i f (omega arith))
     go (no d₁) (no d₂) r = omega (arith, r (omega arith) (omega arith))
+
+-- ---- values at numbers in a row
+
+pub length-table : {A : Type 0} (g : ℕ → A) (k n : ℕ) → length (table g k n) ≡ n
+length-table g k zero = refl
+length-table g k (suc n) = ap suc (length-table g (suc k) n)
+
+pub at-table : {A : Type 0} (g : ℕ → A) (d : A) (k n i : ℕ) → i < n → getD (table g k n) i d ≡ g (k + i)
+at-table g d k zero i h = absurd (omega arith)
+at-table g d k (suc n) zero h = ap g (omega arith)
+at-table g d k (suc n) (suc i) h = at-table g d (suc k) n i (le-of-suc-le-suc h) ∙ ap g (omega arith)

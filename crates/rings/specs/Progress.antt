@@ -27,13 +27,13 @@ module _ {A : Type 0} where
   abbrev pub gone : Ring A
   gone = record { circle = []; first = 0; start = none; due = done }
 
-  -- a ring at its start
-  abbrev pub atStart : List A → Ring A
-  atStart c = record { circle = c; first = 0; start = none; due = validity }
-
   -- outside the two loops nothing is remembered: the ring is its points from the first
   abbrev pub resting : Due → List A → Ring A
   resting d c = record { circle = c; first = 0; start = none; due = d }
+
+  -- a ring at its start
+  abbrev pub atStart : List A → Ring A
+  atStart c = resting validity c
 
   abbrev pub tidyAt : List A → ℕ → Option ℕ → Due → Ring A
   tidyAt c f s validity = resting validity (spin f c)

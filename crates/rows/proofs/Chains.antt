@@ -7,7 +7,8 @@ use native.Mathlib.Numerals.{sub-one}
 use native.Mathlib.Omega.{arith}
 use borrow.Author.Tests.{eq-eqb, ne-eqb}
 use Rattle.store.specs.Field.{NONE}
-use Rattle.rows.specs.Owners.{endsIn, findIn}
+use Rattle.joins.specs.Resolve.{findIn}
+use Rattle.rows.specs.Owners.{endsIn}
 
 module _ (owner : ℕ → ℕ) (q : ℕ) (F : Bool) where
   pub ends-here : (f o : ℕ) → 0 < f → o ≡ owner q → o ≡ NONE → not (endsIn f owner q) ≡ F → false ≡ F

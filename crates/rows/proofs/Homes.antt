@@ -14,7 +14,8 @@ use Rattle.store.specs.Sound.{ringAt, isOpen}
 use Rattle.audit.specs.Tests.{isIn, anyBelow}
 use Rattle.audit.proofs.Saying.{none-of, all-none}
 use Rattle.audit.proofs.Testing.{more, hit, whole}
-use Rattle.rows.specs.Owners.{resolved, circles}
+use Rattle.joins.specs.Resolve.{homeOf}
+use Rattle.rows.specs.Owners.{circles}
 use Rattle.rows.specs.Rings.{anyIn, onRing, alone, elsewhere, estranged}
 use Rattle.rows.specs.Rows.{muddled, onOpen, unnamed}
 use Rattle.rows.specs.Found.{Named}
@@ -52,14 +53,14 @@ module _ (w : List ℕ) (clear : muddled w ≡ false) where
   passed = or-right (anyBelow (recordsOf w) (circles w)) (anyBelow (recordsOf w) (estranged w) || anyBelow (pointsOf w) (alone w)) clear
 
   -- a ring that has the point is that of the record it resolves to
-  pub ring-home : (i k : ℕ) → i < recordsOf w → onRing w i k ≡ true → resolved w k ≡ i
+  pub ring-home : (i k : ℕ) → i < recordsOf w → onRing w i k ≡ true → homeOf w k ≡ i
   ring-home i k h r =
       let a = or-left (anyBelow (recordsOf w) (estranged w)) (anyBelow (pointsOf w) (alone w)) passed in
       let b = none-of (recordsOf w) (estranged w) a i h in
-      eqb-true (resolved w k) i (not-false (eqb (resolved w k) i) (none-in (elsewhere w i) k (ringAt (view w) i) b r))
+      eqb-true (homeOf w k) i (not-false (eqb (homeOf w k) i) (none-in (elsewhere w i) k (ringAt (view w) i) b r))
 
   -- and there is one
-  pub has-home : (k : ℕ) → k < pointsOf w → (resolved w k < recordsOf w) × (onRing w (resolved w k) k ≡ true)
+  pub has-home : (k : ℕ) → k < pointsOf w → (homeOf w k < recordsOf w) × (onRing w (homeOf w k) k ≡ true)
   has-home k h =
       let a = or-right (anyBelow (recordsOf w) (estranged w)) (anyBelow (pointsOf w) (alone w)) passed in
       let b = none-of (pointsOf w) (alone w) a k h in
@@ -67,11 +68,11 @@ module _ (w : List ℕ) (clear : muddled w ≡ false) where
       let e = ring-home (s .0) k (s .1) (s .2) in
       rw e (s .1, s .2)
 
-  pub open-is : (k : ℕ) → k < pointsOf w → isOpen (view w) (resolved w k) ≡ onOpen w k
-  open-is k h = by (isOpen (view w) (resolved w k)) refl
+  pub open-is : (k : ℕ) → k < pointsOf w → isOpen (view w) (homeOf w k) ≡ onOpen w k
+  open-is k h = by (isOpen (view w) (homeOf w k)) refl
     where
-      with-ring : (i : ℕ) → i < recordsOf w → isOpen (view w) (resolved w k) ≡ false → (b : Bool) → onRing w i k ≡ b → (isOpen (view w) i && b) ≡ false
-      with-ring i l o true r = rw (← ring-home i k l r) (and-true (isOpen (view w) (resolved w k)) ∙ o)
+      with-ring : (i : ℕ) → i < recordsOf w → isOpen (view w) (homeOf w k) ≡ false → (b : Bool) → onRing w i k ≡ b → (isOpen (view w) i && b) ≡ false
+      with-ring i l o true r = rw (← ring-home i k l r) (and-true (isOpen (view w) (homeOf w k)) ∙ o)
         where
           and-true : (b : Bool) → (b && true) ≡ b
           and-true true = refl
@@ -82,10 +83,10 @@ module _ (w : List ℕ) (clear : muddled w ≡ false) where
           and-false true = refl
           and-false false = refl
 
-      by : (b : Bool) → isOpen (view w) (resolved w k) ≡ b → b ≡ onOpen w k
+      by : (b : Bool) → isOpen (view w) (homeOf w k) ≡ b → b ≡ onOpen w k
       by true o =
           let s = has-home k h in
-          hit (λ i. isOpen (view w) i && onRing w i k) (recordsOf w) (recordsOf w) (resolved w k) (isOpen (view w) (resolved w k) && onRing w (resolved w k) k) (s .0) refl refl (rw (o, s .1))
+          hit (λ i. isOpen (view w) i && onRing w i k) (recordsOf w) (recordsOf w) (homeOf w k) (isOpen (view w) (homeOf w k) && onRing w (homeOf w k) k) (s .0) refl refl (rw (o, s .1))
       by false o = sym (all-none (recordsOf w) (λ i. isOpen (view w) i && onRing w i k) (λ i l. with-ring i l o (onRing w i k) refl))
 
 -- a list of which no number names nothing
@@ -93,7 +94,7 @@ pub named-at : (w l : List ℕ) (n : ℕ) → unnamed w l n ≡ false → (i : �
 named-at w l n e i h = leb-false (pointsOf w) (getD l i 0) (none-of n (λ j. leb (pointsOf w) (getD l j 0)) e i h)
 
 -- the loop over a list
-module _ {w l : List ℕ} {n : ℕ} (g : Named w l n) (i p : ℕ) (b : Bool) (h : i < n) (e : p ≡ getD l i 0) (f : b ≡ isOpen (view w) (resolved w p)) where
+module _ {w l : List ℕ} {n : ℕ} (g : Named w l n) (i p : ℕ) (b : Bool) (h : i < n) (e : p ≡ getD l i 0) (f : b ≡ isOpen (view w) (homeOf w p)) where
   is-open : b ≡ onOpen w (getD l i 0)
   is-open =
       let a = named-at w l n (g .named) i h in

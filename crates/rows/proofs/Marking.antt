@@ -1,37 +1,46 @@
--- What the marks say after the walks: a point is bare exactly when it is on no record's ring.
+-- What the marks say after the walks: a point is marked exactly when it is on a record's ring.
 use mathlib.Core.Path.{_≡_, refl, sym, ap, _∙_}
 use mathlib.Core.Bool.{Bool, true, false, not, _&&_, _||_}
 use mathlib.Core.Logic.{_≢_}
 use mathlib.Core.List.{List, [], _∷_}
-use Prim.Native.Nat.{ℕ, zero, suc, _<_, _≤_}
+use Prim.Native.Nat.{ℕ, zero, suc, _/_, _%_, _^_, _<_, _≤_}
 use native.Mathlib.Decide.{ℕ-discrete}
 use native.Mathlib.Omega.{arith}
-use lib.Dec.{ltb}
-use lib.ListN.{length, getD, set, length-set, length-replicate, getD-replicate}
-use lib.Seq.{getD-set-same, getD-set-other}
-use borrow.Author.Tests.{lt-ltb}
+use lib.Dec.{ltb, eqb}
+use lib.ListN.{length, length-replicate}
+use borrow.Author.Tests.{lt-ltb, eq-eqb, ne-eqb}
 use Rattle.rings.specs.Count.{occ}
 use Rattle.rings.proofs.Counting.{one-here, one-else}
 use Rattle.job.specs.Limits.{POINTS}
+use Rattle.marks.specs.Marks.{BITS, WORDS, marked, withMark, allBelow}
+use Rattle.marks.proofs.Marking.{length-with, marked-with, none-marked}
 use Rattle.store.specs.Words.{view}
 use Rattle.store.specs.Named.{pointsOf, recordsOf}
 use Rattle.store.specs.Sound.{ringAt}
 use Rattle.audit.specs.Tests.{isIn, anyBelow}
 use Rattle.rows.specs.Rings.{onRing, alone}
-use Rattle.rows.specs.Marks.{marksOn, marksTo, bare}
+use Rattle.rows.specs.Marks.{marksOn, marksTo}
 
-pub length-marks : (l ms : List ℕ) → length (marksOn l ms) ≡ length ms
+length-marks : (l ms : List ℕ) → length (marksOn l ms) ≡ length ms
 unfolding marksOn
 length-marks [] ms = refl
-length-marks (k ∷ l) ms = length-marks l (set ms k 1) ∙ length-set ms k 1
+length-marks (k ∷ l) ms = length-marks l (withMark ms k) ∙ length-with ms (k / BITS) (2 ^ (k % BITS))
 
-pub marks-long : (w : List ℕ) (i : ℕ) → length (marksTo w i) ≡ POINTS
+marks-long : (w : List ℕ) (i : ℕ) → length (marksTo w i) ≡ WORDS
 unfolding marksTo
-marks-long w zero = length-replicate {A = ℕ} POINTS 0
+marks-long w zero = length-replicate {A = ℕ} WORDS 0
 marks-long w (suc i) = length-marks (ringAt (view w) i) (marksTo w i) ∙ marks-long w i
 
+or-false : (b : Bool) → b ≡ (b || false)
+or-false true = refl
+or-false false = refl
+
+or-true : (b : Bool) → true ≡ (b || true)
+or-true true = refl
+or-true false = refl
+
 module _ (k : ℕ) where
-  pub in-here : (l : List ℕ) → isIn k (k ∷ l) ≡ true
+  in-here : (l : List ℕ) → isIn k (k ∷ l) ≡ true
   in-here l = lt-ltb 0 (occ k (k ∷ l)) (omega (arith, one-here k))
 
   pub in-else : (x : ℕ) (l : List ℕ) → x ≢ k → isIn k (x ∷ l) ≡ isIn k l
@@ -39,45 +48,33 @@ module _ (k : ℕ) where
       let e : occ k (x ∷ l) ≡ occ k l = omega (arith, one-else k x h) in
       ap (ltb 0) e
 
-  and-false : (b : Bool) → (b && false) ≡ false
-  and-false true = refl
-  and-false false = refl
-
-  after : (l ms : List ℕ) → k < length ms → bare (marksOn l ms) k ≡ (bare ms k && not (isIn k l))
+  after : (l ms : List ℕ) → k / BITS < length ms → marked (marksOn l ms) k ≡ (marked ms k || isIn k l)
   unfolding marksOn
-  after [] ms h = sym (and-true (bare ms k))
+  after [] ms h = or-false (marked ms k)
+  after (x ∷ l) ms h = after l (withMark ms x) (rw (length-with ms (x / BITS) (2 ^ (x % BITS))) h) ∙ ap (λ (b : Bool). b || isIn k l) (marked-with ms x k h) ∙ by (ℕ-discrete k x)
     where
-      and-true : (b : Bool) → (b && true) ≡ b
-      and-true true = refl
-      and-true false = refl
-  after (x ∷ l) ms h = by (ℕ-discrete x k) (after l (set ms x 1) (rw (length-set ms x 1) h))
-    where
-      by : Dec (x ≡ k) → bare (marksOn l (set ms x 1)) k ≡ (bare (set ms x 1) k && not (isIn k l)) → bare (marksOn l (set ms x 1)) k ≡ (bare ms k && not (isIn k (x ∷ l)))
-      by (yes e) g =
-          let a : getD (set ms x 1) k 0 ≡ 1 = rw e (getD-set-same ms k 1 0 h) in
-          let b : isIn k (x ∷ l) ≡ true = rw e (in-here l) in
-          g ∙ rw (a, b) (sym (and-false (bare ms k)))
-      by (no d) g =
-          let a : getD (set ms x 1) k 0 ≡ getD ms k 0 = getD-set-other ms x k 1 0 (λ y. d (sym y)) in
-          g ∙ rw (a, in-else x l d)
+      by : Dec (k ≡ x) → ((eqb k x || marked ms k) || isIn k l) ≡ (marked ms k || isIn k (x ∷ l))
+      by (yes e) =
+          let b : isIn k (x ∷ l) ≡ true = rw (← e) (in-here l) in
+          rw (eq-eqb k x e, b) (or-true (marked ms k))
+      by (no d) = rw (ne-eqb k x d, in-else x l (λ y. d (sym y)))
 
-  or-not : (a b : Bool) → (not a && not b) ≡ not (a || b)
-  or-not true b = refl
-  or-not false b = refl
-
-  pub bare-is : (w : List ℕ) (i : ℕ) → k < POINTS → bare (marksTo w i) k ≡ not (anyBelow i (λ j. onRing w j k))
+  marked-is : (w : List ℕ) (i : ℕ) → k < POINTS → marked (marksTo w i) k ≡ anyBelow i (λ j. onRing w j k)
   unfolding marksTo anyBelow
-  bare-is w zero h = rw (getD-replicate {A = ℕ} POINTS k 0 0 h)
-  bare-is w (suc i) h =
-      after (ringAt (view w) i) (marksTo w i) (rw (marks-long w i) h)
-      ∙ ap (λ (b : Bool). b && not (onRing w i k)) (bare-is w i h)
-      ∙ or-not (anyBelow i (λ j. onRing w j k)) (onRing w i k)
+  marked-is w zero h = none-marked k h
+  marked-is w (suc i) h =
+      after (ringAt (view w) i) (marksTo w i) (rw (marks-long w i) (omega arith))
+      ∙ ap (λ (b : Bool). b || onRing w i k) (marked-is w i h)
 
--- two tests that agree below n find the same
-pub any-same : (n : ℕ) (p q : ℕ → Bool) → ((k : ℕ) → k < n → p k ≡ q k) → anyBelow n p ≡ anyBelow n q
-unfolding anyBelow
-any-same zero p q h = refl
-any-same (suc n) p q h = rw (any-same n p q (λ k l. h k (omega arith)), h n (omega arith))
+-- not every number below n, and some number below n that is not
+not-all : (n : ℕ) (p q : ℕ → Bool) → ((k : ℕ) → k < n → q k ≡ not (p k)) → not (allBelow n p) ≡ anyBelow n q
+unfolding allBelow anyBelow
+not-all zero p q h = refl
+not-all (suc n) p q h = by (allBelow n p) ∙ rw (not-all n p q (λ k l. h k (omega arith)), h n (omega arith))
+  where
+    by : (b : Bool) → not (b && p n) ≡ (not b || not (p n))
+    by true = refl
+    by false = refl
 
-pub bare-alone : (w : List ℕ) → pointsOf w ≤ POINTS → anyBelow (pointsOf w) (bare (marksTo w (recordsOf w))) ≡ anyBelow (pointsOf w) (alone w)
-bare-alone w h = any-same (pointsOf w) (bare (marksTo w (recordsOf w))) (alone w) (λ k l. bare-is k w (recordsOf w) (omega arith))
+pub unmarked-alone : (w : List ℕ) → pointsOf w ≤ POINTS → not (allBelow (pointsOf w) (marked (marksTo w (recordsOf w)))) ≡ anyBelow (pointsOf w) (alone w)
+unmarked-alone w h = not-all (pointsOf w) (marked (marksTo w (recordsOf w))) (alone w) (λ k l. sym (ap not (marked-is k w (recordsOf w) (omega arith))))

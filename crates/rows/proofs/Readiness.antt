@@ -29,7 +29,8 @@ use Rattle.audit.proofs.Saying.{none-of, Placed, on-table, Numbered, such, tied
 use Rattle.joins.specs.Resolved.{Ready}
 use Rattle.audit.specs.declared.Verdict.{Verdict}
 use Rattle.audit.specs.declared.Verdict.the-variants.{Passed, Refused}
-use Rattle.rows.specs.Owners.{endsIn, circles, findIn, resolved}
+use Rattle.joins.specs.Resolve.{findIn, homeOf}
+use Rattle.rows.specs.Owners.{endsIn, circles}
 use Rattle.rows.specs.Rings.{alone, estranged}
 use Rattle.rows.specs.Rows.{offTheTable, unnamed, noSuchNumber, looseLink, muddled, openEdge, rowsOf}
 use Rattle.rows.specs.Found.{Filled, Clear}
@@ -123,7 +124,7 @@ module _ {w ss : List ℕ} {m : ℕ} {js : List ℕ} {n : ℕ} (g : Filled w ss 
   places : (k : ℕ) → k < pointsOf w → 0 < total (view w) k
   places k h =
       let s = has-home w (c .rings) k h in
-      let i = resolved w k in
+      let i = homeOf w k in
       omega (arith, ltb-true 0 (occ k (ringAt (view w) i)) (s .1), sum-term (recordsOf w) i (λ j. occ k (ringAt (view w) j)) (s .0))
 
   pub ready : Ready w

@@ -7,7 +7,7 @@ use Rattle.store.specs.Words.{view}
 use Rattle.store.specs.Named.{recordsOf}
 use Rattle.store.specs.Sound.{ringAt}
 use Rattle.audit.specs.Tests.{isIn, anyBelow}
-use Rattle.rows.specs.Owners.{resolved}
+use Rattle.joins.specs.Resolve.{homeOf}
 
 -- the test holds of a point of the list
 unfoldable pub anyIn : (ℕ → Bool) → List ℕ → Bool
@@ -24,7 +24,7 @@ alone w k = not (anyBelow (recordsOf w) (λ i. onRing w i k))
 
 -- row 7: "a ring point that resolves to any record but its ring's, or to none"
 abbrev pub elsewhere : List ℕ → ℕ → ℕ → Bool
-elsewhere w i k = not (eqb (resolved w k) i)
+elsewhere w i k = not (eqb (homeOf w k) i)
 
 abbrev pub estranged : List ℕ → ℕ → Bool
 estranged w i = anyIn (λ k. elsewhere w i k) (ringAt (view w) i)

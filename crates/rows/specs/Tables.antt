@@ -7,10 +7,9 @@ use mathlib.Core.List.{List}
 use lib.Dec.{leb}
 use lib.ListN.{length, getD}
 use Rattle.job.specs.Limits.{RECORDS}
-use Rattle.store.specs.Field.{rc, FIRST, OWNER}
-use Rattle.store.specs.Words.{view}
 use Rattle.store.specs.Named.{ownerOf}
-use Rattle.rows.specs.Owners.{endsIn, circles, findIn}
+use Rattle.joins.specs.Resolve.{getRealOutrec}
+use Rattle.rows.specs.Owners.{endsIn, circles}
 
 -- nothing is known of a record; no record has this number, and no chain this length
 abbrev pub UNKNOWN : ℕ
@@ -34,21 +33,17 @@ pub record Followed (w : List ℕ) (i n : ℕ) : Type 0 where
   pub circle : circles w i ≡ not (leb n RECORDS)
   pub long : n ≤ RECORDS → Long w i n
 
--- what record r resolves to, or none
-abbrev pub homeIn : List ℕ → ℕ → ℕ
-homeIn w r = findIn RECORDS (view w (rc FIRST)) (view w (rc OWNER)) r
-
 -- the table of homes: a record's number is what it resolves to
 pub record Homes (w hs : List ℕ) : Type 0 where
-  pub known : (r : ℕ) → entry hs r ≢ UNKNOWN → entry hs r ≡ homeIn w r
+  pub known : (r : ℕ) → entry hs r ≢ UNKNOWN → entry hs r ≡ getRealOutrec w r
 
 -- after record r's home was written down along its chain: r has it, and what was known still is
 pub record Noted (w hs : List ℕ) (r : ℕ) (hs′ : List ℕ) : Type 0 where
   pub homes : Homes w hs′
-  pub kept : (x : ℕ) → entry hs x ≡ homeIn w x → entry hs′ x ≡ homeIn w x
-  pub here : r < length hs → entry hs′ r ≡ homeIn w r
+  pub kept : (x : ℕ) → entry hs x ≡ getRealOutrec w x → entry hs′ x ≡ getRealOutrec w x
+  pub here : r < length hs → entry hs′ r ≡ getRealOutrec w r
 
 -- the home of every record below n is in the table
 pub record Found (w hs : List ℕ) (n : ℕ) : Type 0 where
   pub homes : Homes w hs
-  pub each : (r : ℕ) → r < n → entry hs r ≡ homeIn w r
+  pub each : (r : ℕ) → r < n → entry hs r ≡ getRealOutrec w r

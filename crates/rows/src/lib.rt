@@ -1,8 +1,8 @@
 // Rows 4 to 8 of document 01's table, each over the whole job as it was read.
-mod marks;
 mod owners;
 mod resolving;
 mod tables;
+mod visits;
 
 use crate::tables::UNKNOWN;
 use audit::PointTest;
@@ -26,7 +26,7 @@ ghost use Rattle.audit.specs.Marks.{fails, Counted};
 ghost use Rattle.audit.specs.declared.Verdict.the-variants.{Passed};
 ghost use Rattle.rows.specs.Rows.{unnamed, noSuchNumber, onOpen, muddled, openEdge, rowsOf};
 ghost use Rattle.rows.specs.Found.{firstRows, Filled, Named};
-ghost use Rattle.rows.specs.Owners.{resolved};
+ghost use Rattle.joins.specs.Resolve.{homeOf};
 ghost use Rattle.rows.specs.Tables.{UNKNOWN, Homes};
 
 // Whether a point fails the test.
@@ -84,7 +84,7 @@ fn no_such_number(w: &[u32], segments: &[u32], m: usize, joins: &[u32], n: usize
 // Whether the point is on an open ring: its ring's record is the one it resolves to.
 fn on_open(w: &[u32], homes: &[usize], k: usize) -> bool
     requires { ⌜ (LENGTH ≤ length (now w)) × Homes (now w) (now homes) ⌝ }
-    ensures { λ r. ⌜ r ≡ isOpen (view (now (w .entry))) (resolved (now (w .entry)) k) ⌝ }
+    ensures { λ r. ⌜ r ≡ isOpen (view (now (w .entry))) (homeOf (now (w .entry)) k) ⌝ }
 {
     let r = read(w, Col::Rec, k);
     let i = resolving::find(w, homes, r);
@@ -118,11 +118,12 @@ fn muddled(w: &[u32], homes: &mut [usize]) -> bool
         return true;
     }
     resolving::find_all(w, homes);
-    let mut marks = [0u8; Job::POINTS];
-    if marks::walk_all(w, homes, &mut marks) {
+    let r = visits::walk_all(w, homes);
+    if r.found {
         return true;
     }
-    marks::any_bare(w, &marks)
+    let marks = r.marks;
+    visits::any_bare(w, marks)
 }
 
 // Row 8.

@@ -16,12 +16,13 @@ ghost use Rattle.store.specs.Field.{LENGTH};
 ghost use Rattle.store.specs.Named.{recordsOf};
 ghost use Rattle.audit.specs.Tests.{anyBelow};
 ghost use Rattle.rows.specs.Owners.{circles};
-ghost use Rattle.rows.specs.Tables.{UNKNOWN, homeIn, Homes, Noted, Found};
+ghost use Rattle.joins.specs.Resolve.{getRealOutrec};
+ghost use Rattle.rows.specs.Tables.{UNKNOWN, Homes, Noted, Found};
 
 // The first with points among r and its owners, or none; followed up to a record that is known.
 fn reach(w: &[u32], homes: &[usize], r: usize) -> usize
     requires { ⌜ (LENGTH ≤ length (now w)) × Homes (now w) (now homes) × (circles (now w) r ≡ false) ⌝ }
-    ensures { λ q. ⌜ q ≡ homeIn (now (w .entry)) r ⌝ }
+    ensures { λ q. ⌜ q ≡ getRealOutrec (now (w .entry)) r ⌝ }
 {
     let mut q = r;
     let mut left: usize = Job::RECORDS;
@@ -45,7 +46,7 @@ fn reach(w: &[u32], homes: &[usize], r: usize) -> usize
 
 // Writes down h, what record r resolves to, along its chain, up to a record that is known or has points.
 fn note(w: &[u32], homes: &mut [usize], r: usize, h: usize)
-    requires { ⌜ (LENGTH ≤ length (now w)) × Homes (now w) (now homes) × (circles (now w) r ≡ false) × (h ≡ homeIn (now w) r) ⌝ }
+    requires { ⌜ (LENGTH ≤ length (now w)) × Homes (now w) (now homes) × (circles (now w) r ≡ false) × (h ≡ getRealOutrec (now w) r) ⌝ }
     ensures { λ _. ⌜ Noted (now (w .entry)) (now (homes .entry)) r (now (homes .exit)) ⌝ }
 {
     let mut q = r;
@@ -85,7 +86,7 @@ pub fn find_all(w: &[u32], homes: &mut [usize])
 // The first with points among r and its owners, or none.
 fn walk(w: &[u32], r: usize) -> usize
     requires { ⌜ LENGTH ≤ length (now w) ⌝ }
-    ensures { λ q. ⌜ q ≡ homeIn (now (w .entry)) r ⌝ }
+    ensures { λ q. ⌜ q ≡ getRealOutrec (now (w .entry)) r ⌝ }
 {
     let mut q = r;
     let mut left: usize = Job::RECORDS;
@@ -106,7 +107,7 @@ fn walk(w: &[u32], r: usize) -> usize
 // The same by the table; only a number that names no record is not in it.
 pub fn find(w: &[u32], homes: &[usize], r: usize) -> usize
     requires { ⌜ (LENGTH ≤ length (now w)) × Homes (now w) (now homes) ⌝ }
-    ensures { λ q. ⌜ q ≡ homeIn (now (w .entry)) r ⌝ }
+    ensures { λ q. ⌜ q ≡ getRealOutrec (now (w .entry)) r ⌝ }
 {
     let h = at(homes, r);
     if h != UNKNOWN {

@@ -3,12 +3,14 @@ use Prim.Native.Nat.{ℕ, _*_, _≤_, _<_}
 use mathlib.Core.Path.{_≡_}
 use mathlib.Core.Logic.{_⊎_}
 use mathlib.Core.Bool.{false}
+use mathlib.Core.List.{List}
+use lib.ListN.{length}
 use Rattle.job.specs.Limits as limit
 use Rattle.rings.specs.Count.{sumTo, occ}
 use Rattle.rings.specs.Links.{Linked}
 use Rattle.rings.specs.Progress.{isDone}
-use Rattle.store.specs.Field.{pt, rc, X, Y, NEXT, PREV, REC, OWNER, MARK, PRESENT, POINTS, RECORDS, NONE}
-use Rattle.store.specs.Words.{Store}
+use Rattle.store.specs.Field.{pt, rc, X, Y, NEXT, PREV, REC, OWNER, MARK, PRESENT, POINTS, RECORDS, NONE, LENGTH}
+use Rattle.store.specs.Words.{Store, view}
 use Rattle.store.specs.Sound.{Closed, dueAt, pts, recs, ringAt}
 
 -- a point that a ring may have
@@ -35,3 +37,8 @@ pub record Sound (s : Store) : Type 0 where
   pub few-records : recs s ≤ limit.RECORDS
   pub good : (i : ℕ) → i < recs s → Good s i
   pub once : (k : ℕ) → total s k ≤ 1
+
+-- a work space that is long enough and sound
+pub record SoundWords (w : List ℕ) : Type 0 where
+  pub long : LENGTH ≤ length w
+  pub sound : Sound (view w)

@@ -1,2 +1,4 @@
--- Laws of places past the end.
+-- Laws of places past the end, of words and numbers, and of a ring's text.
 pub mod Past
+pub mod Ringing
+pub mod Reading

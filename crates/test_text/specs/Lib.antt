@@ -1,2 +1,4 @@
--- Definitions of the test programs' reading.
+-- Definitions of what the test programs read and print.
 pub mod Places
+pub mod Ring
+pub mod Words

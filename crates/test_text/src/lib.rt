@@ -1,4 +1,7 @@
-// What the test programs share: reading stored cases from a slice of bytes. Every answer is defined past the end too, so that no caller needs a bound.
+// What the test programs share: reading stored cases from a slice of bytes, and a ring's text. Every answer is defined past the end too, so that no caller needs a bound.
+pub mod ring;
+pub mod words;
+
 ghost use mathlib.Core.Path.{_≡_};
 ghost use Prim.Native.Nat.{_+_, _<_, _≤_, min};
 ghost use lib.ListN.{length, getD, take, drop, set};

@@ -148,8 +148,8 @@ module _ {P : Type 0} (G : Geo P) where
         let R : Ring P = record { circle = c; first = f; start = s; due = split } in
         split-cases G (Does R) c f s tt
         (λ x xs e b i. ends (apply (λ (v : P). v) (moveOn split) R) b)
-        (λ x xs e k v b i. ends (apply (λ (v : P). v) (double v split) R) b)
-        (λ x xs e k v put off b i. ends (apply (λ (v : P). v) (cut v put off split) R) b)
+        (λ x xs e k v o b i. ends (apply (λ (v : P). v) (double v split) R) b)
+        (λ x xs e k v o put off b i. ends (apply (λ (v : P). v) (cut v put off split) R) b)
     does c f s done h = h
 
     kept : (R : Ring P) → Going R → Going (stepRing G R)

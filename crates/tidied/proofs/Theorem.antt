@@ -40,7 +40,7 @@ module _ (w : List ℕ) (o : OpeningLeft w) where
   p = preserveCollinear (view w)
 
   count : (is : List ℕ) → length (F w o is .entries) ≡ recs (view (runOf w is))
-  count is = follows w o is .rep .rep .records-are
+  count is = follows w o is .rep .rep .in-step .records-are
 
   ring-of : (is : List ℕ) (j : ℕ) (q : Option ℕ) (L : State (Ring Point)) → at (F w o is .entries) j ≡ closedRing q L → HasRing (view (runOf w is)) j q L
   ring-of is j q L e = subst (Has (view (runOf w is)) j) e (rings-are w o is j (omega (arith, count is, at-closed (F w o is .entries) j e)))

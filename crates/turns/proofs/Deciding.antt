@@ -13,6 +13,7 @@ use Rattle.rings.proofs.Walking.{Seen, seen}
 use Rattle.rings.specs.Circle.{oneOrThree, lastOf}
 use Rattle.rings.specs.Progress.{Ring, Due, validity, removal, triangle, split, done, mapRing, resting}
 use Rattle.rings.specs.Whole.{Whole}
+use Rattle.lone.specs.Kept.{GeoLaws}
 use Rattle.lone.specs.Lone.{Geo, actOf, decide, isValidClosedPath}
 use Rattle.lone.specs.Ring.{discard, toFirst}
 use Rattle.store.proofs.Soundness.{whole, first-on}
@@ -20,7 +21,7 @@ use Rattle.store.specs.Field.{pt, rc, NEXT, PREV, FIRST}
 use Rattle.store.specs.Sound.{pts, ringAt, Closed, dueAt, loneAt}
 use Rattle.store.specs.Good.{Sound}
 use Rattle.store.specs.Words.{Store}
-use Rattle.acts.proofs.Positions.{inLoop}
+use Rattle.acts.specs.Rep.{inLoop}
 use Rattle.acts.proofs.Progressing.{rested}
 use Rattle.acts.specs.Value.{value}
 use Rattle.turns.proofs.Removing.{removal-is}
@@ -40,9 +41,9 @@ module _ {P : Type 0} (of : ℕ → ℕ → P) (G : Geo P) (s : Store) where
       let n : lastOf d r ≢ c = not-first c (d ∷ r) (lastOf d r) (omega (arith, w .once c)) (occ-lastOf d r) in
       ne-eqb (s (pt PREV) a) (s (pt NEXT) (s (pt NEXT) a)) (λ e. n (sym (prev-is (s (pt NEXT)) (s (pt PREV)) a (b ∷ c ∷ d ∷ r) l) ∙ e ∙ ap (s (pt NEXT)) (l .0) ∙ l .2 .0))
 
-  pub decide-is : ((a b c : P) → G .segmentsIntersect a b c a ≡ false) → ((a b : P) → G .segmentsIntersect a b a b ≡ false) → Sound s → (i : ℕ) → Closed s i → decideAt of G s i ≡ actOf G (mapRing (value of s) (loneAt s i))
+  pub decide-is : GeoLaws G → Sound s → (i : ℕ) → Closed s i → decideAt of G s i ≡ actOf G (mapRing (value of s) (loneAt s i))
   unfolding decideAt validityAt actOf decide
-  decide-is f g o i c = go (dueAt s i) refl
+  decide-is f o i c = go (dueAt s i) refl
     where
       first : Seen (s (pt NEXT)) (s (pt PREV)) (pts s) (ringAt s i) (s (rc FIRST) i)
       first = seen _ _ (pts s) (ringAt s i) (s (rc FIRST) i) (o .few-points) (whole s o i (c .known)) (first-on s i (c .ringed))
@@ -54,5 +55,5 @@ module _ {P : Type 0} (of : ℕ → ℕ → P) (G : Geo P) (s : Store) where
       go validity m = ap (decideDue of G s i) m ∙ ap (λ (l : List ℕ). cond (isValidClosedPath G (map (value of s) l)) (toFirst removal) discard) (first .walked) ∙ sym (rest validity refl m)
       go removal m = ap (decideDue of G s i) m ∙ removal-is of G s o i c m
       go triangle m = ap (decideDue of G s i) m ∙ ap (λ (b : Bool). toFirst (cond b done split)) (three-from (s (rc FIRST) i) (first .others) (first .whole)) ∙ sym (rest triangle refl m)
-      go split m = ap (decideDue of G s i) m ∙ split-is of G s f g o i c m
+      go split m = ap (decideDue of G s i) m ∙ split-is of G s f o i c m
       go done m = ap (decideDue of G s i) m ∙ sym (rest done refl m)

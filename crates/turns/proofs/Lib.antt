@@ -1,11 +1,8 @@
--- Laws of the code of a step.
+-- Laws of the code of a decision.
 pub mod Reading
-pub mod Applying
 pub mod Removing
 pub mod Splitting
 pub mod Deciding
 pub mod Sizes
 pub mod Decisions
 pub mod Ready
-pub mod Steps
-pub mod Looping

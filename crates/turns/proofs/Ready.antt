@@ -1,4 +1,4 @@
--- A sound work space meets what the code of a step requires: its points are on rings, its words in their columns; and the real geometry has the laws.
+-- A sound work space meets what a decision requires: its first point and its present place are on a ring; and the real geometry has the laws.
 use Prim.Native.Nat.{ℕ}
 use mathlib.Core.Path.{_≡_, ap, _∙_, subst}
 use mathlib.Core.Bool.{Bool}
@@ -25,8 +25,6 @@ use Rattle.acts.specs.Step.{actAt}
 use Rattle.turns.specs.Form.{raised, geometryOf}
 use Rattle.turns.specs.Reads.{Steps, Going}
 use Rattle.turns.specs.Decide.{decideAt}
-use Rattle.turns.specs.Applies.{Reach}
-use Rattle.turns.proofs.Reading.{low, on-next, on-prev}
 use Rattle.turns.proofs.Deciding.{decide-is}
 
 -- a value on the table is one that two words hold
@@ -48,8 +46,7 @@ in-codes p c = subst InTable (c .again) (record { x = lowered-in (raised .xw p) 
 pub laws : (keep : Bool) → Laws (plane keep) raised
 laws keep =
     record {
-      flat-3 = plane-laws keep .back-to-start;
-      flat-2 = plane-laws keep .same-edge;
+      flat = plane-laws keep;
       meets = λ a b c d A B C D h. codes _ (crossing-in-table c d (in-codes a A) (in-codes b B));
       reads = λ a b ha hb. codes _ (record { x = lowered-in a ha; y = lowered-in b hb });
     }
@@ -65,15 +62,4 @@ module _ (w : List ℕ) (i : ℕ) (s : Steps w i) where
       }
 
   pub decided : (r : Act Point) → r ≡ decideAt (raised .of) (geometryOf (view w)) (view w) i → r ≡ actAt (geometryOf (view w)) raised (view w) i
-  decided r e = e ∙ decide-is (raised .of) (geometryOf (view w)) (view w) (laws (preserveCollinear (view w)) .flat-3) (laws (preserveCollinear (view w)) .flat-2) (s .sound) i (s .closed)
-
-  pub reach : Reach w i
-  reach =
-      record {
-        long = s .long;
-        record-in = going .record-in;
-        present-in = low w _ (going .present-on);
-        next-in = low w _ (on-next w _ (going .present-on));
-        prev-in = low w _ (on-prev w _ (going .present-on));
-        second-in = low w _ (on-next w _ (on-next w _ (going .present-on)));
-      }
+  decided r e = e ∙ decide-is (raised .of) (geometryOf (view w)) (view w) (plane-laws (preserveCollinear (view w))) (s .sound) i (s .closed)

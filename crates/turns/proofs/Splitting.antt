@@ -19,6 +19,7 @@ use Rattle.rings.specs.Place.{isHere, place}
 use Rattle.rings.specs.Progress.{Ring, split, done, mapRing}
 use Rattle.rings.specs.Walk.{walk}
 use Rattle.rings.specs.Whole.{Whole}
+use Rattle.lone.specs.Kept.{GeoLaws}
 use Rattle.lone.specs.Lone.{Geo, isZero, actOf, decide, splitTurn, doSplitOp}
 use Rattle.lone.specs.Ring.{moveOn}
 use Rattle.store.specs.Field.{pt, rc, NEXT, PREV, PRESENT, START, FIRST}
@@ -81,7 +82,7 @@ module _ {P : Type 0} (of : ℕ → ℕ → P) (G : Geo P) (s : Store) where
       samePoint zero = refl
       samePoint (suc k) = refl
 
-  module _ (few : pts s ≤ 2048) (i far : ℕ) (flat-3 : (a b c : P) → G .segmentsIntersect a b c a ≡ false) (flat-2 : (a b : P) → G .segmentsIntersect a b a b ≡ false) where
+  module _ (few : pts s ≤ 2048) (i far : ℕ) (flat : GeoLaws G) where
     move-due : (x : ℕ) (xs : List ℕ) → Whole (s (pt NEXT)) (s (pt PREV)) (pts s) (x ∷ xs) → place (s (rc FIRST) i) (x ∷ xs) ≡ some far
         → (eqb (s (pt NEXT) x) (s (rc FIRST) i) || eqb (s (pt NEXT) x) (s (rc START) i))
         ≡ (isZero (ahead (suc (length (map (value of s) xs))) far) || isHere (omap (ahead (suc (length (map (value of s) xs)))) (place (s (rc START) i) (x ∷ xs))))
@@ -95,24 +96,24 @@ module _ {P : Type 0} (of : ℕ → ℕ → P) (G : Geo P) (s : Store) where
         let m = move-due (s (rc PRESENT) i) [] w e in
         let a : s (pt NEXT) (s (rc PRESENT) i) ≡ s (rc PRESENT) i = l .0 in
         let b : s (pt PREV) (s (rc PRESENT) i) ≡ s (rc PRESENT) i = l .1 in
-        let c : G .segmentsIntersect (value of s (s (pt PREV) (s (rc PRESENT) i))) (value of s (s (rc PRESENT) i)) (value of s (s (pt NEXT) (s (rc PRESENT) i))) (value of s (s (pt NEXT) (s (pt NEXT) (s (rc PRESENT) i)))) ≡ false = cc (flat-2 (value of s (s (rc PRESENT) i)) (value of s (s (rc PRESENT) i))) in
-        rw (c, flat-2 (value of s (s (rc PRESENT) i)) (value of s (s (rc PRESENT) i))) (ap (λ (t : Bool). moveOn (cond t done split)) m)
+        let c : G .segmentsIntersect (value of s (s (pt PREV) (s (rc PRESENT) i))) (value of s (s (rc PRESENT) i)) (value of s (s (pt NEXT) (s (rc PRESENT) i))) (value of s (s (pt NEXT) (s (pt NEXT) (s (rc PRESENT) i)))) ≡ false = cc (flat .same-edge (value of s (s (rc PRESENT) i)) (value of s (s (rc PRESENT) i))) in
+        rw (c, flat .same-edge (value of s (s (rc PRESENT) i)) (value of s (s (rc PRESENT) i))) (ap (λ (t : Bool). moveOn (cond t done split)) m)
     by (y ∷ []) w e =
         let l = w .linked in
         let m = move-due (s (rc PRESENT) i) (y ∷ []) w e in
         let a : s (pt NEXT) (s (rc PRESENT) i) ≡ y = l .0 in
         let b : s (pt PREV) (s (rc PRESENT) i) ≡ y = l .2 .1 in
         let d : s (pt NEXT) y ≡ s (rc PRESENT) i = l .2 .0 in
-        let c : G .segmentsIntersect (value of s (s (pt PREV) (s (rc PRESENT) i))) (value of s (s (rc PRESENT) i)) (value of s (s (pt NEXT) (s (rc PRESENT) i))) (value of s (s (pt NEXT) (s (pt NEXT) (s (rc PRESENT) i)))) ≡ false = cc (flat-2 (value of s y) (value of s (s (rc PRESENT) i))) in
-        rw (c, flat-2 (value of s y) (value of s (s (rc PRESENT) i))) (ap (λ (t : Bool). moveOn (cond t done split)) m)
+        let c : G .segmentsIntersect (value of s (s (pt PREV) (s (rc PRESENT) i))) (value of s (s (rc PRESENT) i)) (value of s (s (pt NEXT) (s (rc PRESENT) i))) (value of s (s (pt NEXT) (s (pt NEXT) (s (rc PRESENT) i)))) ≡ false = cc (flat .same-edge (value of s y) (value of s (s (rc PRESENT) i))) in
+        rw (c, flat .same-edge (value of s y) (value of s (s (rc PRESENT) i))) (ap (λ (t : Bool). moveOn (cond t done split)) m)
     by (y ∷ z ∷ []) w e =
         let l = w .linked in
         let m = move-due (s (rc PRESENT) i) (y ∷ z ∷ []) w e in
         let a : s (pt NEXT) (s (rc PRESENT) i) ≡ y = l .0 in
         let b : s (pt PREV) (s (rc PRESENT) i) ≡ z = l .2 .2 .1 in
         let d : s (pt NEXT) y ≡ z = l .2 .0 in
-        let c : G .segmentsIntersect (value of s (s (pt PREV) (s (rc PRESENT) i))) (value of s (s (rc PRESENT) i)) (value of s (s (pt NEXT) (s (rc PRESENT) i))) (value of s (s (pt NEXT) (s (pt NEXT) (s (rc PRESENT) i)))) ≡ false = cc (flat-3 (value of s z) (value of s (s (rc PRESENT) i)) (value of s y)) in
-        rw (c, flat-3 (value of s z) (value of s (s (rc PRESENT) i)) (value of s y)) (ap (λ (t : Bool). moveOn (cond t done split)) m)
+        let c : G .segmentsIntersect (value of s (s (pt PREV) (s (rc PRESENT) i))) (value of s (s (rc PRESENT) i)) (value of s (s (pt NEXT) (s (rc PRESENT) i))) (value of s (s (pt NEXT) (s (pt NEXT) (s (rc PRESENT) i)))) ≡ false = cc (flat .back-to-start (value of s z) (value of s (s (rc PRESENT) i)) (value of s y)) in
+        rw (c, flat .back-to-start (value of s z) (value of s (s (rc PRESENT) i)) (value of s y)) (ap (λ (t : Bool). moveOn (cond t done split)) m)
     by (y ∷ z ∷ u ∷ r) w e =
         let l = w .linked in
         let m = move-due (s (rc PRESENT) i) (y ∷ z ∷ u ∷ r) w e in
@@ -128,8 +129,8 @@ module _ {P : Type 0} (of : ℕ → ℕ → P) (G : Geo P) (s : Store) where
         let h = left-is (not (G .samePoint t Q || G .samePoint t (value of s z))) t (s (rc PRESENT) i) y z u r w in
         cc
 
-  pub split-is : (f : (a b c : P) → G .segmentsIntersect a b c a ≡ false) → ((a b : P) → G .segmentsIntersect a b a b ≡ false) → Sound s → (i : ℕ) → Closed s i → dueAt s i ≡ split → splitAt of G s i ≡ actOf G (mapRing (value of s) (loneAt s i))
+  pub split-is : GeoLaws G → Sound s → (i : ℕ) → Closed s i → dueAt s i ≡ split → splitAt of G s i ≡ actOf G (mapRing (value of s) (loneAt s i))
   unfolding actOf decide
-  split-is f g o i c m =
+  split-is f o i c m =
       let b : Loop s i (s (rc PRESENT) i) split = loop s o i (s (rc PRESENT) i) split c refl m refl in
-      by (o .few-points) i (b .far) f g (b .others) (b .whole) (b .first-at) ∙ ap (λ (R : Ring ℕ). actOf G (mapRing (value of s) R)) (sym (b .lone-is))
+      by (o .few-points) i (b .far) f (b .others) (b .whole) (b .first-at) ∙ ap (λ (R : Ring ℕ). actOf G (mapRing (value of s) R)) (sym (b .lone-is))

@@ -1,23 +1,13 @@
--- The code's names for the steps due, the acts, the answers and how finishing ends.
-use Prim.Native.Nat.{ℕ}
-use mathlib.Core.List.{List}
+-- The code's names for the steps due and the acts.
 use Rattle.geometry.specs.declared.Point.{Point}
 use Rattle.rings.specs.Progress.{validity, removal, triangle, split, done}
 use Rattle.rings.specs.Progress as rings
 use Rattle.lone.specs.Ring.{stay, discard, dropPoint, moveOn, toFirst, double, cut}
 use Rattle.lone.specs.Ring as lone
-use Rattle.lone.specs.Forest.{ok, full, outOfTurn}
-use Rattle.lone.specs.Forest as forest
 use Rattle.turns.specs.declared.Due.{Due}
 use Rattle.turns.specs.declared.Due.the-variants.{Validity, Removal, Triangle, Split, Done}
 use Rattle.turns.specs.declared.Act.{Act}
 use Rattle.turns.specs.declared.Act.the-variants.{Stay, Discard, Drop, MoveOn, ToFirst, Double, Cut}
-use Rattle.turns.specs.declared.Answer.{Answer}
-use Rattle.turns.specs.declared.Answer.the-variants.{Ok, Full, OutOfTurn}
-use Rattle.turns.specs.declared.RingsEnd.{RingsEnd}
-use Rattle.turns.specs.declared.RingsEnd.the-variants as ends
-use Rattle.acts.specs.Finish as acts
-use Rattle.acts.specs.Finish.{ringsDone, ringsFull}
 
 abbrev pub dueIs : Due → rings.Due
 dueIs Validity = validity
@@ -34,13 +24,3 @@ actIs (MoveOn d) = moveOn (dueIs d)
 actIs (ToFirst d) = toFirst (dueIs d)
 actIs (Double v d) = double v (dueIs d)
 actIs (Cut v put off d) = cut v put off (dueIs d)
-
-abbrev pub answerIs : Answer → forest.Answer
-answerIs Ok = ok
-answerIs Full = full
-answerIs OutOfTurn = outOfTurn
-
--- with the words left
-abbrev pub endIs : RingsEnd → List ℕ → acts.RingsEnd
-endIs ends.Done w = ringsDone w
-endIs ends.Full w = ringsFull w

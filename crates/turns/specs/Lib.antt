@@ -1,7 +1,5 @@
--- What the code of a step is about: its acts and answers by the names of the definitions, and what its functions require.
+-- What the code of a decision is about: its acts by the names of the definitions, what its functions require, and the decision on the store.
 pub mod Code
 pub mod Form
 pub mod Reads
-pub mod Applies
 pub mod Decide
-pub mod Takes

@@ -54,11 +54,6 @@ pub record Four (w : List ℕ) (a b c d : ℕ) : Type 0 where
   pub three : OnRing w c
   pub four : OnRing w d
 
--- a work space that is long enough and sound
-pub record SoundWords (w : List ℕ) : Type 0 where
-  pub long : LENGTH ≤ length w
-  pub sound : Sound (view w)
-
 -- the edges from the point p to x and from y to z
 pub record EdgesAt (w : List ℕ) (p x y z : ℕ) (e : Edges) : Type 0 where
   pub paired : Paired e

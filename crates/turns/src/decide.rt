@@ -42,7 +42,7 @@ fn preserve(w: &[u32]) -> bool
 }
 
 // The present place of record i.
-fn present_of(w: &[u32], i: usize) -> usize
+pub fn present_of(w: &[u32], i: usize) -> usize
     requires { ⌜ Going (now w) i ⌝ }
     ensures { λ r. ⌜ Found (now (w .entry)) (cell (rc PRESENT) (now (w .entry)) i) r ⌝ }
 {
@@ -74,7 +74,7 @@ fn validity_test(w: &[u32], i: usize) -> Act
 // ---- a turn of the removal loop
 
 // Whether the point x, between p and n, is dropped.
-fn removable_at(w: &[u32], p: usize, x: usize, n: usize) -> bool
+pub fn removable_at(w: &[u32], p: usize, x: usize, n: usize) -> bool
     requires { ⌜ Three (now w) p x n ⌝ }
     ensures { λ r. ⌜ r ≡ removeAt (raised .of) (geometryOf (view (now (w .entry)))) (view (now (w .entry))) p x n ⌝ }
 {
@@ -205,7 +205,7 @@ fn due_on(w: &[u32], i: usize, k: usize) -> Due
 }
 
 // The edges from p to x and from y to z.
-fn edges_at(w: &[u32], p: usize, x: usize, y: usize, z: usize) -> Edges
+pub fn edges_at(w: &[u32], p: usize, x: usize, y: usize, z: usize) -> Edges
     requires { ⌜ Four (now w) p x y z ⌝ }
     ensures { λ r. ⌜ EdgesAt (now (w .entry)) p x y z r ⌝ }
 {

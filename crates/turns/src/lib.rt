@@ -1,4 +1,4 @@
-// One step of a ring: decided by reading only, then applied as a list of writes.
+// What a ring's next step is to do, decided by reading only; the crate `steps` carries it out.
 use geometry::Point;
 
 // The step due, or done.
@@ -22,21 +22,5 @@ pub enum Act {
     Cut(Point, bool, bool, Due),
 }
 
-// What a step on a record answers: carried out, refused with 10, refused with 12.
-pub enum Answer {
-    Ok,
-    Full,
-    OutOfTurn,
-}
-
-// How finishing all rings ends: every one is done, or a step was refused with 10.
-pub enum RingsEnd {
-    Done,
-    Full,
-}
-
-pub mod apply;
 pub mod decide;
-pub mod finish;
 pub mod ring;
-pub mod step;

@@ -42,6 +42,9 @@ pub const TRAY_BYTES: usize = 3 * RECORDS + 8 * POINTS;
 /// The first so many bytes of a job decide what becomes of it: the longest job that is accepted, and one point more.
 pub const JOB_BYTES: usize = 4 + 17 * (POINTS + 1) + 8 * RECORDS + 5 * SEGMENTS + 7 * JOINS;
 
+/// A tray of so many bytes has room for any accepted job, written the one way.
+pub const REWRITTEN_BYTES: usize = JOB_BYTES - 17;
+
 /// A text of so many bytes has room for the listing of any job.
 pub const TEXT_BYTES: usize = 54 + 49 * RECORDS + 44 * POINTS + 49;
 /// The largest rate, in cents for a square decimetre; 0 is none.
@@ -62,6 +65,14 @@ mod c {
             tray: *mut u8,
             tray_bytes: usize,
         ) -> u32;
+        pub fn outline_rewrite(
+            job: *const u8,
+            job_bytes: usize,
+            work: *mut u32,
+            words: usize,
+            tray: *mut u8,
+            tray_bytes: usize,
+        ) -> u64;
         pub fn outline_list(
             job: *const u8,
             job_bytes: usize,
@@ -165,6 +176,10 @@ pub fn finish(job: &[u8], work: &mut [u32], tray: &mut [u8]) -> Result<(), Refus
 /// assert_eq!(listing, b"closed 2 open 0\npiece 3 60 5,5 0,12 0,0\nhole 3 -50 10,10 10,0 5,5\n");
 /// assert!(list(job, &mut work, &mut tray, 1000, &mut text).unwrap().ends_with(b"\ncharge 0 10000\n"));
 /// assert_eq!(list(job, &mut work, &mut tray, RATE + 1, &mut text), Some(&b"refused 13\n"[..]));
+/// let mut reversed = job.to_vec();
+/// reversed[3] = 2; // `reverse_solution`: the areas change sign, the words stay
+/// let listing = list(&reversed, &mut work, &mut tray, 0, &mut text).unwrap();
+/// assert_eq!(listing, b"closed 2 open 0\npiece 3 -60 0,0 0,12 5,5\nhole 3 50 5,5 10,0 10,10\n");
 /// assert_eq!(list(job, &mut work, &mut tray, 0, &mut text[1..]), None);
 /// ```
 pub fn list<'a>(job: &[u8], work: &mut [u32], tray: &mut [u8], rate: u32, text: &'a mut [u8]) -> Option<&'a [u8]> {
@@ -174,4 +189,24 @@ pub fn list<'a>(job: &[u8], work: &mut [u32], tray: &mut [u8], rate: u32, text: 
         0 => None,
         length => text.get(..length as usize),
     }
+}
+
+/// Writes a job the one way, without joining or finishing it, and gives its bytes: two jobs give the same exactly when they hold the same drawing. The rest of the
+/// tray, and every word, is then 0. Refused, it leaves every word and every byte 0.
+///
+/// ```
+/// # use outline::*;
+/// let (mut work, mut tray) = (vec![7; WORK_WORDS], vec![7; REWRITTEN_BYTES]);
+/// let job = include_bytes!("../../../samples/crossed.job");
+/// // Its ring is numbered from the first point on already.
+/// assert_eq!(rewrite(job, &mut work, &mut tray)?, job);
+/// assert!(work.iter().all(|word| *word == 0) && tray[job.len()..].iter().all(|byte| *byte == 0));
+/// assert_eq!(rewrite(job, &mut work, &mut tray[1..job.len()]), Err(Refused::SMALL_TRAY));
+/// # Ok::<(), Refused>(())
+/// ```
+pub fn rewrite<'a>(job: &[u8], work: &mut [u32], tray: &'a mut [u8]) -> Result<&'a [u8], Refused> {
+    let (words, room) = (work.len(), tray.len());
+    let both = unsafe { c::outline_rewrite(job.as_ptr(), job.len(), work.as_mut_ptr(), words, tray.as_mut_ptr(), room) };
+    answer(both as u32)?;
+    Ok(&tray[..(both >> 32) as usize])
 }

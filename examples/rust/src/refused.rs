@@ -36,7 +36,7 @@ impl Refused {
     pub const KNOT: Refused = Refused(9);
     /// Finishing needs more points or records than there may be, or the work space is too short.
     pub const FULL: Refused = Refused(10);
-    /// The paths need more bytes than the tray has.
+    /// The paths, or the job that is written, need more bytes than the tray has.
     pub const SMALL_TRAY: Refused = Refused(11);
     /// A step on a record that has none to take, or writing out before every closed ring is done.
     pub const OUT_OF_TURN: Refused = Refused(12);

@@ -28,6 +28,7 @@ fn constants() {
         ("JOB_BYTES", JOB_BYTES as u64),
         ("TEXT_BYTES", TEXT_BYTES as u64),
         ("RATE", u64::from(RATE)),
+        ("REWRITTEN_BYTES", REWRITTEN_BYTES as u64),
     ];
     let refusals = [
         ("TORN", Refused::TORN),

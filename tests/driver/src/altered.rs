@@ -150,8 +150,9 @@ fn write(room: &mut Room, rng: &mut Rng) -> Same {
     let tests = plain::tests(&before);
     let live = tests.is_ok() && (0..records(&before)).any(|r| is_live(&before, r));
     let bytes = if tests.is_ok() && !live {
-        let (closed, open) = load(&before).paths();
-        Answer::Paths { closed, open }.tray()
+        let forest = load(&before);
+        let (closed, open) = forest.paths();
+        Answer::Paths { closed, open, reversed: forest.reverse }.tray()
     } else {
         Vec::new()
     };

@@ -26,6 +26,14 @@ extern "C" {
         text: *mut u8,
         text_length: usize,
     ) -> u64;
+    fn outline_rewrite(
+        job: *const u8,
+        job_length: usize,
+        work: *mut u32,
+        words: usize,
+        tray: *mut u8,
+        tray_length: usize,
+    ) -> u64;
 }
 
 /// What a deliberate fault does; each must be found (command `faults`).
@@ -78,9 +86,23 @@ pub enum Fault {
     ListDigit,
     /// A bad rate clears the tray's first byte.
     ListFound,
+    /// The words of a reversed job's listing go by the printed sign.
+    ListWord,
+    /// A job is written with the points of its last join exchanged.
+    RewriteJoin,
+    /// A job is written with its last record's owner another.
+    RewriteOwner,
+    /// A small tray is said before an open edge.
+    RewriteOrder,
+    /// A job that joining would refuse is not written.
+    RewriteKnot,
+    /// Writing a job leaves a 1 in the last word.
+    RewriteWord,
+    /// A byte more is said to be written.
+    RewriteLength,
 }
 
-pub const FAULTS: [Fault; 23] = [
+pub const FAULTS: [Fault; 30] = [
     Fault::FinishAnswer,
     Fault::TrayByte,
     Fault::PastPaths,
@@ -104,7 +126,27 @@ pub const FAULTS: [Fault; 23] = [
     Fault::WriteEarly,
     Fault::ListDigit,
     Fault::ListFound,
+    Fault::ListWord,
+    Fault::RewriteJoin,
+    Fault::RewriteOwner,
+    Fault::RewriteOrder,
+    Fault::RewriteKnot,
+    Fault::RewriteWord,
+    Fault::RewriteLength,
 ];
+
+/// The listing with `piece` and `hole` exchanged, and its length.
+fn exchanged(text: &mut [u8], length: usize) -> u64 {
+    let listing = String::from_utf8_lossy(&text[..length]).into_owned();
+    let line = |line: &str| match line.split_once(' ') {
+        Some(("piece", rest)) => format!("hole {rest}\n"),
+        Some(("hole", rest)) => format!("piece {rest}\n"),
+        _ => format!("{line}\n"),
+    };
+    let other: String = listing.lines().map(line).collect();
+    text[..other.len()].copy_from_slice(other.as_bytes());
+    other.len() as u64
+}
 
 pub fn work_words() -> u64 {
     unsafe { outline_work_words() }
@@ -184,8 +226,27 @@ impl Calls {
         match self.0 {
             Fault::ListDigit if answer > 11 && rate > 0 => text[answer as usize - 2] ^= 1,
             Fault::ListFound if rate > 1000 && bytes > 0 => tray[0] = 0,
+            Fault::ListWord if job.len() > 3 && job[3] & 2 != 0 => return exchanged(text, answer as usize),
             _ => {}
         }
         answer
+    }
+
+    /// The refusal's number, and how many bytes were written.
+    pub fn rewrite(self, job: &[u8], work: &mut [u32], tray: &mut [u8]) -> (u32, usize) {
+        let (n, bytes) = (work.len(), tray.len());
+        let answer =
+            unsafe { outline_rewrite(job.as_ptr(), job.len(), work.as_mut_ptr(), n, tray.as_mut_ptr(), bytes) };
+        let (number, length) = (answer as u32, (answer >> 32) as usize);
+        match (self.0, number) {
+            (Fault::RewriteJoin, 0) if length > 7 && tray[length - 7] == 5 => tray[length - 4..length].rotate_left(2),
+            (Fault::RewriteOwner, 0) if length > 8 && tray[length - 8] == 3 => tray[length - 4] ^= 1,
+            (Fault::RewriteOrder, 8) if bytes < job.len() => return (11, 0),
+            (Fault::RewriteKnot, 0) if oracle::oracle::open(job).is_err() => return (9, 0),
+            (Fault::RewriteWord, 0) => work[n - 1] = 1,
+            (Fault::RewriteLength, 0) => return (0, length + 1),
+            _ => {}
+        }
+        (number, length)
     }
 }

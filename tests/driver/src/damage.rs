@@ -43,7 +43,8 @@ fn loose_fields(rng: &mut Rng) -> Vec<u8> {
         2..=12 if none => NONE,
         _ => rng.below(count.max(1)) as u16,
     };
-    let order = circles(rng, points);
+    // In any order, nexts go round in circles.
+    let order = rng.order(points);
     for p in 0..points {
         let mut point = Point { x: rng.from(0, 9), y: rng.from(0, 9), next: order[p], prev: 0, record: 0 };
         point.prev = order.iter().position(|next| *next as usize == p).unwrap_or(0) as u16;
@@ -70,15 +71,6 @@ fn loose_fields(rng: &mut Rng) -> Vec<u8> {
         job.joins.push((number(rng, points, false), number(rng, points, false)));
     }
     job.bytes()
-}
-
-/// Nexts of so many points that go round in circles.
-fn circles(rng: &mut Rng, points: usize) -> Vec<u16> {
-    let mut next: Vec<u16> = (0..points as u16).collect();
-    for k in (1..points).rev() {
-        next.swap(k, rng.below(k + 1));
-    }
-    next
 }
 
 /// Each circle gets a record of its own, and its points name it.

@@ -6,6 +6,7 @@ use crate::room::{all_zero, expect, Room, Same, TRAY};
 use crate::words::{self, *};
 use oracle::answer::Answer;
 use oracle::guard::Ran;
+use oracle::job::REVERSE;
 use oracle::oracle::{forest, open};
 use oracle::real::{self, State, FULL};
 use oracle::rng::Rng;
@@ -35,8 +36,9 @@ pub fn expected(room: &mut Room) -> Expected {
     real::clean_all(&mut base);
     let state = real::look(&base);
     assert!(!past(state.points, state.records.len()), "full in the real run, not in the model");
+    let settings = opened.job.settings;
     let (closed, open) = real::paths(opened.base);
-    Expected::Finished { settings: opened.job.settings, state, answer: Answer::Paths { closed, open } }
+    Expected::Finished { settings, state, answer: Answer::Paths { closed, open, reversed: settings & REVERSE != 0 } }
 }
 
 /// A length for the work space: mostly the fixed one, else longer or too short.
@@ -107,7 +109,7 @@ fn one_call(room: &mut Room, rng: &mut Rng, expected: &Expected) -> Same {
 
 /// An accepted job: the listing, and the work space against the Rust's state.
 fn finished(room: &mut Room, settings: u8, state: &State, answer: &Answer) -> Same {
-    let listing = read_tray(room.tray.get()).ok_or("the tray cannot be read back")?.listing();
+    let listing = read_tray(room.tray.get(), settings).ok_or("the tray cannot be read back")?.listing();
     expect(listing == answer.listing(), || "the listing".into())?;
     let w = room.work.get();
     expect(all_zero(&w[WORDS..]), || "a word past the fixed length".into())?;
@@ -115,7 +117,7 @@ fn finished(room: &mut Room, settings: u8, state: &State, answer: &Answer) -> Sa
     same_state(w, state)?;
     expect((0..words::records(w)).all(|r| !is_live(w, r)), || "a closed ring isn't done".into())?;
     expect(plain::tests(w).is_ok(), || "the finished work space fails the tests".into())?;
-    if let Answer::Paths { closed, open } = answer {
+    if let Answer::Paths { closed, open, .. } = answer {
         room.tally.event("closed paths", closed.len() as u64);
         room.tally.event("open paths", open.len() as u64);
     }
@@ -138,8 +140,8 @@ pub fn same_state(w: &[u32], state: &State) -> Same {
     Ok(())
 }
 
-/// The paths that a tray holds, read back from its bytes.
-fn read_tray(tray: &[u8]) -> Option<Answer> {
+/// The paths that a tray holds, read back from its bytes, and the setting they were written under.
+fn read_tray(tray: &[u8], settings: u8) -> Option<Answer> {
     let (mut closed, mut open) = (Vec::new(), Vec::new());
     let mut rest = tray;
     while rest.len() >= 3 && rest[0] != 0 {
@@ -154,5 +156,5 @@ fn read_tray(tray: &[u8]) -> Option<Answer> {
         }
         rest = &rest[3 + length..];
     }
-    Some(Answer::Paths { closed, open })
+    Some(Answer::Paths { closed, open, reversed: settings & REVERSE != 0 })
 }

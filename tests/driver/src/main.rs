@@ -1,8 +1,9 @@
 // The differential driver: the proved entry points against the oracle, in one process. docs/DIFFERENTIAL.md says what is compared.
 mod alter;
 mod altered;
-mod audits;
+mod audit_cases;
 mod calls;
+mod canon;
 mod damage;
 mod finish;
 mod large;
@@ -23,8 +24,8 @@ use oracle::text::number;
 use runs::{Kind, Run, KINDS};
 
 const USAGE: &str =
-    "usage: driver finish|large|steps|bytes|altered SEED COUNT THREADS [FROM], driver faults SEED COUNT, \
-                     driver fault NAME KIND SEED COUNT, or driver audits";
+    "usage: driver finish|large|steps|bytes|altered|canon SEED COUNT THREADS [FROM], driver faults SEED COUNT, \
+                     driver fault NAME KIND SEED COUNT, or driver audit_cases";
 
 fn run_of(kind: &str, seed: &str, count: &str, threads: &str, from: u64) -> Result<Run, String> {
     let kind = Kind::named(kind).ok_or(USAGE)?;
@@ -63,7 +64,7 @@ fn run(words: &[&str]) -> Result<(), String> {
         return Err(format!("outline_work_words answers {stated}, not {}", words::WORDS));
     }
     match words {
-        ["audits"] => oracle::output(audits::lines().as_bytes()),
+        ["audit_cases"] => oracle::output(audit_cases::lines().as_bytes()),
         ["faults", seed, count] => faults(number(seed)?, number(count)?),
         ["fault", name, kind, seed, count] => {
             let fault = FAULTS.into_iter().find(|fault| format!("{fault:?}") == *name).ok_or(USAGE)?;

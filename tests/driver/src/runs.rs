@@ -3,7 +3,7 @@
 use crate::calls::Fault;
 use crate::room::{Room, Same};
 use crate::tally::Tally;
-use crate::{altered, damage, finish, large, open, steps};
+use crate::{altered, canon, damage, finish, large, open, steps};
 use oracle::gen;
 use oracle::rng::Rng;
 use std::panic::{catch_unwind, AssertUnwindSafe};
@@ -20,14 +20,16 @@ pub enum Kind {
     Steps,
     Bytes,
     Altered,
+    Canon,
 }
 
-pub const KINDS: [(&str, Kind); 5] = [
+pub const KINDS: [(&str, Kind); 6] = [
     ("finish", Kind::Finish),
     ("large", Kind::Large),
     ("steps", Kind::Steps),
     ("bytes", Kind::Bytes),
     ("altered", Kind::Altered),
+    ("canon", Kind::Canon),
 ];
 
 impl Kind {
@@ -63,6 +65,11 @@ impl Kind {
                 finish::case(room, &mut rng)
             }
             Kind::Altered => altered::case(room, seed, index, &mut rng),
+            Kind::Canon => {
+                let bytes = canon::bytes(seed, index, &mut rng);
+                room.start(&bytes, at);
+                canon::case(room, &mut rng)
+            }
         }
     }
 
@@ -80,6 +87,7 @@ impl Kind {
             Kind::Altered => {
                 vec![("step", vec![0, 3, 4, 5, 6, 7, 10, 12]), ("write", vec![0, 3, 4, 5, 6, 7, 11, 12])]
             }
+            Kind::Canon => vec![("rewrite", (0..=8).chain(10..=11).collect()), ("finish", vec![0, 9, 10, 11])],
         }
     }
 }

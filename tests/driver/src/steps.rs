@@ -187,7 +187,7 @@ pub fn write_out(room: &mut Room, rng: &mut Rng, model: &Forest, words: usize, t
     room.tally.answer("write", answer);
     let due = (0..model.records.len()).any(|r| model.due(r) != Due::Done);
     let (closed, open) = model.paths();
-    let bytes = if due { Vec::new() } else { Answer::Paths { closed, open }.tray() };
+    let bytes = if due { Vec::new() } else { Answer::Paths { closed, open, reversed: model.reverse }.tray() };
     let number = match () {
         _ if words < WORDS => 10,
         _ if due => 12,

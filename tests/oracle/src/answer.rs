@@ -7,7 +7,12 @@ pub const SMALL_TRAY: u8 = 11;
 #[derive(Clone, Debug, PartialEq)]
 pub enum Answer {
     Refused(u8),
-    Paths { closed: Vec<Vec<Pt>>, open: Vec<Vec<Pt>> },
+    /// The lists, and whether they were written under `reverse_solution`.
+    Paths {
+        closed: Vec<Vec<Pt>>,
+        open: Vec<Vec<Pt>>,
+        reversed: bool,
+    },
 }
 
 /// One path as an output field: x, y for each point.
@@ -28,6 +33,15 @@ fn doubled_area(path: &[Pt]) -> i64 {
     sum
 }
 
+/// The word follows the sense that the ring had before reversal.
+fn word(area: i64, reversed: bool) -> &'static str {
+    match (area.signum(), reversed) {
+        (0, _) => "flat",
+        (1, false) | (-1, true) => "piece",
+        _ => "hole",
+    }
+}
+
 fn points(path: &[Pt]) -> String {
     path.iter().map(|(x, y)| format!(" {x},{y}")).collect()
 }
@@ -37,7 +51,7 @@ impl Answer {
     pub fn tray(&self) -> Vec<u8> {
         match self {
             Answer::Refused(_) => Vec::new(),
-            Answer::Paths { closed, open } => {
+            Answer::Paths { closed, open, .. } => {
                 let closed = closed.iter().map(|path| path_field(6, path));
                 closed.chain(open.iter().map(|path| path_field(7, path))).flatten().collect()
             }
@@ -45,19 +59,14 @@ impl Answer {
     }
 
     pub fn listing(&self) -> String {
-        let (closed, open) = match self {
+        let (closed, open, reversed) = match self {
             Answer::Refused(number) => return format!("refused {number}\n"),
-            Answer::Paths { closed, open } => (closed, open),
+            Answer::Paths { closed, open, reversed } => (closed, open, *reversed),
         };
         let mut out = format!("closed {} open {}\n", closed.len(), open.len());
         for path in closed {
             let area = doubled_area(path);
-            let word = match area.signum() {
-                1 => "piece",
-                -1 => "hole",
-                _ => "flat",
-            };
-            out += &format!("{word} {} {area}{}\n", path.len(), points(path));
+            out += &format!("{} {} {area}{}\n", word(area, reversed), path.len(), points(path));
         }
         for path in open {
             out += &format!("line {}{}\n", path.len(), points(path));

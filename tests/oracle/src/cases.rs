@@ -41,21 +41,22 @@ pub fn load(path: &str) -> Result<Vec<Case>, String> {
     parse(&content).map_err(|why| format!("{path}: {why}"))
 }
 
-/// Runs each case through the oracle and compares with its expectation.
-pub fn expect(path: &str) -> Result<(), String> {
+/// Compares each case's answer, given as text, with its expectation.
+pub fn hold(path: &str, mut answer: impl FnMut(&Case) -> Result<(String, String), String>) -> Result<(), String> {
     let cases = load(path)?;
-    let mut oracle = Oracle::default();
     for case in &cases {
-        let listing = oracle.answer(&case.job).listing();
-        if listing != case.expected {
+        let (got, expected) = answer(case).map_err(|why| format!("{path}: case {}: {why}", case.name))?;
+        if got != expected {
             let line = |text: &str| text.trim_end().replace('\n', " / ");
-            return Err(format!(
-                "{path}: case {}: expected {}, got {}",
-                case.name,
-                line(&case.expected),
-                line(&listing)
-            ));
+            let (expected, got) = (line(&expected), line(&got));
+            return Err(format!("{path}: case {}: expected {expected}, got {got}", case.name));
         }
     }
     output(format!("{path}: {} cases as expected\n", cases.len()).as_bytes())
+}
+
+/// Each case's listing, by the oracle.
+pub fn expect(path: &str) -> Result<(), String> {
+    let mut oracle = Oracle::default();
+    hold(path, |case| Ok((oracle.answer(&case.job).listing(), case.expected.clone())))
 }

@@ -59,7 +59,7 @@ fn chain_ends(job: &Job, record: usize) -> bool {
 }
 
 /// `get_real_outrec`: the first with points among a record and its owners.
-fn resolve(job: &Job, record: u16) -> Option<usize> {
+pub fn resolve(job: &Job, record: u16) -> Option<usize> {
     let mut at = record;
     while at != NONE {
         if job.records[at as usize].first != NONE {

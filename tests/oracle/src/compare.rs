@@ -112,7 +112,7 @@ impl Comparer {
         self.stats.add("accepted", 1);
         self.stats.add("closed path", closed.len() as u64);
         self.stats.add("open path", open.len() as u64);
-        let answer = Answer::Paths { closed, open };
+        let answer = Answer::Paths { closed, open, reversed: done.reverse };
         let length = answer.tray().len();
         expect(length <= TRAY, "a tray of more bytes than always suffice")?;
         expect(answer.clone().within(length) == answer, "a tray that just fits")?;

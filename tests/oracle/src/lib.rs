@@ -3,10 +3,13 @@ include!(concat!(env!("OUT_DIR"), "/clipper/modules.rs"));
 
 pub mod answer;
 pub mod batch;
+pub mod canon;
+pub mod canon_cases;
 pub mod cases;
 pub mod charge;
 pub mod check;
 pub mod compare;
+pub mod copies;
 pub mod fraction;
 pub mod gen;
 pub mod guard;

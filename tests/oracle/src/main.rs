@@ -2,7 +2,8 @@
 use ::oracle::oracle::Oracle;
 use ::oracle::text::number;
 use ::oracle::{
-    answer, batch, cases, charge, gen, guard, output, raw, runs, search, show, stepped, stored, text, vectors,
+    answer, batch, canon, canon_cases, cases, charge, gen, guard, output, raw, runs, search, show, stepped, stored,
+    text, vectors,
 };
 use std::io::Read;
 
@@ -34,6 +35,13 @@ fn run(words: &[&str]) -> Result<(), String> {
             answer::Answer::Refused(number) => Err(format!("the job is refused with {number}, so it has no tray")),
             answer => output(&answer.tray()),
         },
+        ["canon"] => match canon::rewrite(&input()?) {
+            Err(number) => Err(format!("refused {number}")),
+            Ok(written) => output(&written),
+        },
+        ["canon", "expect", file] => canon_cases::expect(file),
+        ["canon", "make", folder] => canon_cases::make(folder),
+        ["canon", seed, count, threads] => canon_cases::compare(number(seed)?, number(count)?, number(threads)?),
         ["opened"] => output(show::opened(&input()?).as_bytes()),
         ["acts"] => output(show::acts(&input()?).as_bytes()),
         ["alone"] => output(show::alone(&input()?).as_bytes()),

@@ -2,7 +2,7 @@
 use crate::answer::Answer;
 use crate::engine::ClipperBase;
 use crate::guard::{Guard, Ran};
-use crate::job::{Job, POINTS, RECORDS};
+use crate::job::{Job, POINTS, RECORDS, REVERSE};
 use crate::model::forest::Forest;
 use crate::real::{self, Joined, FULL};
 use crate::{check, read};
@@ -60,7 +60,8 @@ impl Oracle {
         if self.full(&opened, model_full) {
             return Answer::Refused(FULL);
         }
+        let reversed = opened.job.settings & REVERSE != 0;
         let (closed, open) = real::paths(opened.base);
-        Answer::Paths { closed, open }
+        Answer::Paths { closed, open, reversed }
     }
 }

@@ -40,6 +40,7 @@ pub fn paths(bytes: &[u8]) -> Result<String, String> {
     let mut copy = real::copy(&base);
     real::clean_all(&mut copy);
     let (points, records) = (copy.outpt_arena.len(), copy.outrec_list.len());
+    let reversed = base.reverse_solution;
     let (closed, open) = real::paths(base);
-    Ok(format!("ends with points {points} records {records}\n{}", Answer::Paths { closed, open }.listing()))
+    Ok(format!("ends with points {points} records {records}\n{}", Answer::Paths { closed, open, reversed }.listing()))
 }

@@ -33,6 +33,15 @@ impl Rng {
         self.below(n) == 0
     }
 
+    /// The numbers below `n` in some order.
+    pub fn order(&mut self, n: usize) -> Vec<u16> {
+        let mut order: Vec<u16> = (0..n as u16).collect();
+        for k in (1..n).rev() {
+            order.swap(k, self.below(k + 1));
+        }
+        order
+    }
+
     pub fn pick<T: Copy>(&mut self, from: &[T]) -> T {
         from[self.below(from.len())]
     }

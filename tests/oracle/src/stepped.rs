@@ -1,4 +1,4 @@
-// Cases of the program crate `stepped`: stored jobs and jobs written by hand, stepped in rising order, in reverse, in turn, or by a list. README.md has the formats.
+// Cases of the program crate `stepped_cases`: stored jobs and jobs written by hand, stepped in rising order, in reverse, in turn, or by a list. README.md has the formats.
 use crate::answer::Answer;
 use crate::batch::{read_part, write_part};
 use crate::gen;
@@ -194,7 +194,8 @@ fn tell(oracle: &mut Oracle, case: &Case) -> Result<String, String> {
     let mut out = if rising { show::rising(&mut forest) } else { show::listed(&mut forest, &case.steps) };
     let (closed, open) = forest.paths();
     let done = busy(&forest).is_empty();
-    let answer = if done { Answer::Paths { closed, open } } else { Answer::Refused(OUT_OF_TURN) };
+    let answer =
+        if done { Answer::Paths { closed, open, reversed: forest.reverse } } else { Answer::Refused(OUT_OF_TURN) };
     if rising && done && case.progress.is_empty() && oracle.answer(&case.job) != answer {
         return Err("the real run has other paths than the model".into());
     }

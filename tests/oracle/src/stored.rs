@@ -13,7 +13,7 @@ use std::collections::{HashMap, HashSet};
 use std::io::{self, BufWriter, Write};
 
 /// The cases of a seed list: `SEED INDEX name` on each line.
-fn seeded(path: &str) -> Result<Vec<Case>, String> {
+pub fn seeded(path: &str) -> Result<Vec<Case>, String> {
     let content = std::fs::read_to_string(path).map_err(|why| format!("cannot read {path}: {why}"))?;
     let mut out = Vec::new();
     for line in content.lines().filter(|line| !line.starts_with('#') && !line.is_empty()) {

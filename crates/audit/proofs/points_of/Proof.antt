@@ -1,7 +1,7 @@
--- points_of meets its contract.
+-- points_of meets its contract: one walk is enough where no point that it met fails a test.
 use borrow.Author.Needs.{needs}
-use Rattle.audit.proofs.Testing.{says-off, says-links}
 use Rattle.audit.proofs.Marking.{no-marks}
+use Rattle.audit.proofs.Trying.{passes, records}
 use Rattle.audit.proofs.points_of.Statement.{statement}
 use Rattle.audit.proofs.points_of.Tie as tie
 
@@ -11,6 +11,6 @@ points-of-spec =
     (tie.spec
     (λ c κs. search (needs, no-marks))
     (λ c κs. search needs)
-    (λ c. search says-off)
+    (λ c. search (needs, passes))
     (λ c κs. search needs)
-    (λ c. search says-links))
+    (λ c. search (needs, records, no-marks)))

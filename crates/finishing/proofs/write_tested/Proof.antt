@@ -1,6 +1,6 @@
 -- `write_tested` meets its contract.
 use borrow.Author.Needs.{needs}
-use Rattle.finishing.proofs.Calls.{sound-words, ready-words, write-early, write-done}
+use Rattle.finishing.proofs.Calls.{sound-words, write-early, write-done}
 use Rattle.finishing.proofs.write_tested.Statement.{statement}
 use Rattle.finishing.proofs.write_tested.Tie as tie
 
@@ -10,6 +10,6 @@ write-tested-spec =
     (tie.spec
     (λ c κs. search (sound-words, needs))
     (λ c. search write-early)
-    (λ c κs. search (ready-words, needs))
+    (λ c κs. search (sound-words, needs))
     (λ c. search needs)
     (λ c. search write-done))

@@ -1,6 +1,5 @@
 -- `joins::get_real_outrec` meets its contract: each hop leaves fewer.
 use borrow.Author.Needs.{needs}
-use Prim.Native.Nat.{suc}
 use Rattle.job.specs.Limits as limit
 use Rattle.store.specs.Named.{firstOf, ownerOf}
 use Rattle.joins.proofs.Resolving.{hops}
@@ -12,7 +11,7 @@ abbrev Inv-loop : tie.InvT-loop
 Inv-loop w r q₀ f₀ q f = Going w r q f
 
 abbrev μ-loop : tie.MeasureT-loop
-μ-loop w r q₀ f₀ q f = hops (firstOf w) (ownerOf w) (suc limit.RECORDS) q
+μ-loop w r q₀ f₀ q f = hops (firstOf w) (ownerOf w) limit.RECORDS q
 
 pub get-real-outrec-spec : {M : Type 1} → statement M
 get-real-outrec-spec =

@@ -12,4 +12,4 @@ put-listing-spec =
     (λ c κs. search needs)
     (λ c κs. open-asked _ _ _ _ (c .before .before .before .before .before .before .before .before .before .before .before .pre) (c .before .before .before .put-lines .ensures .0))
     (λ c. search needs)
-    (λ c. listing-poured (c .before .before .before .before .before .before .before .before .before .before .before .before .before .before .args .closed) (c .before .before .before .before .before .before .before .before .before .before .before .before .before .before .args .opened) _ _ _ (c .before .before .before .before .before .before .before .before .before .before .before .before .before .before .args .t .now) _ _ _ _ _ (c .before .before .before .before .before .before .before .before .before .before .put-counts .ensures) (c .before .before .before .before .before .before .put-lines .ensures .1) (c .before .before .before .before .before .before .put-lines .ensures .0) (c .before .before .put-lines2 .ensures .1)))
+    (λ c. listing-poured (c .before .before .before .before .before .before .before .before .before .before .before .before .before .before .args .rev) (c .before .before .before .before .before .before .before .before .before .before .before .before .before .before .args .closed) (c .before .before .before .before .before .before .before .before .before .before .before .before .before .before .args .opened) _ _ _ (c .before .before .before .before .before .before .before .before .before .before .before .before .before .before .args .t .now) _ _ _ _ _ (c .before .before .before .before .before .before .before .before .before .before .put-counts .ensures) (c .before .before .before .before .before .before .put-lines .ensures .1) (c .before .before .before .before .before .before .put-lines .ensures .0) (c .before .before .put-lines2 .ensures .1)))

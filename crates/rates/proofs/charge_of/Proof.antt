@@ -1,5 +1,4 @@
 -- `charge_of` meets its contract: the product does not wrap.
-use Rattle.rates.specs.Charge.{chargeOf}
 use Rattle.rates.proofs.Charging.{product-fits, is-charge}
 use Rattle.rates.proofs.charge_of.Statement.{statement}
 use Rattle.rates.proofs.charge_of.Tie as tie

@@ -1,5 +1,4 @@
 -- `in_range` meets its contract.
-use borrow.Author.Needs.{needs}
 use Rattle.rates.proofs.Digits.{low, high, within}
 use Rattle.rates.proofs.in_range.Statement.{statement}
 use Rattle.rates.proofs.in_range.Tie as tie

@@ -79,15 +79,8 @@ pub fn edges(rng: &mut Rng, job: &mut Job, segments: usize, joins: usize) {
 
 /// The same job with its points and records numbered otherwise and its rings started elsewhere.
 pub fn renumber(rng: &mut Rng, job: &mut Job) {
-    let mix = |rng: &mut Rng, n: usize| {
-        let mut order: Vec<u16> = (0..n as u16).collect();
-        for k in (1..n).rev() {
-            order.swap(k, rng.below(k + 1));
-        }
-        order
-    };
-    let point = mix(rng, job.points.len());
-    let record = mix(rng, job.records.len());
+    let point = rng.order(job.points.len());
+    let record = rng.order(job.records.len());
     let name = |record: &[u16], r: u16| if r == NONE { NONE } else { record[r as usize] };
     let mut points = job.points.clone();
     for (k, p) in job.points.iter().enumerate() {

@@ -17,6 +17,6 @@ charged-spec =
     (λ c. search needs)
     (λ c.
     let s = c .before .before .before .before .before .before .before .before .before .before .before .before .before in
-    told-all (chargedOf (s .args .rate) (s .args .closed) (s .args .opened) (s .args .t .now)) _ _ _ _
-    (charged-poured (s .args .rate) (s .args .closed) (s .args .opened) (s .args .t .now) _ _ _ _ _ _ (c .before .before .before .before .before .before .before .before .before .before .charge-in .ensures) (c .before .before .before .before .before .before .before .before .put-listing .ensures) (c .before .before .before .before .put-charge .ensures))
+    told-all (chargedOf (s .args .rev) (s .args .rate) (s .args .closed) (s .args .opened) (s .args .t .now)) _ _ _ _
+    (charged-poured (s .args .rev) (s .args .rate) (s .args .closed) (s .args .opened) (s .args .t .now) _ _ _ _ _ _ (c .before .before .before .before .before .before .before .before .before .before .charge-in .ensures) (c .before .before .before .before .before .before .before .before .put-listing .ensures) (c .before .before .before .before .put-charge .ensures))
     (c .answer .ensures)))

@@ -5,7 +5,8 @@ use native.Mathlib.Omega.{arith}
 use lib.ListN.{length}
 use borrow.Author.Needs.{needs}
 use Rattle.reading.specs.Fill.{fillOf}
-use Rattle.reading.proofs.Going.{Going, begun, empty, falls, next, stop, done}
+use Rattle.reading.proofs.Going.{Going, begun, empty, stop, done}
+use Rattle.reading.proofs.Running.{still-within, run-next, run-falls}
 use Rattle.reading.proofs.fill.fill.Statement.{statement}
 use Rattle.reading.proofs.fill.fill.Tie as tie
 
@@ -30,8 +31,9 @@ fill-spec =
     let p = c .before .before .before .before .before .before .before .before .before .before .before .before .pre in
     (record { words = omega (arith, l .inv .1, p .words); segments = omega (arith, l .inv .2, p .segments); joins = omega (arith, l .inv .3, p .joins) }, l .inv .0 .within, search needs))
     (λ c. search needs)
-    (λ c. search (needs, falls))
-    (λ c. (search (needs, next), search needs, search needs, search needs))
+    (λ c κs. search (needs, still-within))
+    (λ c. search (needs, run-falls))
+    (λ c. (search (needs, run-next), search needs, search needs, search needs))
     (λ c. search needs)
     (λ c. search needs)
     (λ c. search needs)

@@ -3,7 +3,7 @@ use mathlib.Core.Path.{_≡_, refl}
 use borrow.Author.Needs.{needs}
 use Rattle.job.specs.Limits.{RECORDS}
 use Rattle.store.specs.Named.{firstOf, ownerOf}
-use Rattle.rows.specs.Owners.{findIn}
+use Rattle.joins.specs.Resolve.{findIn}
 use Rattle.rows.proofs.Chains.{here, nowhere, hop, spent}
 use Rattle.rows.proofs.resolving.walk.Statement.{statement}
 use Rattle.rows.proofs.resolving.walk.Tie as tie

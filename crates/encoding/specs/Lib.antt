@@ -1,0 +1,4 @@
+-- A drawing as a job's bytes.
+pub mod Sheet
+pub mod Encode
+pub mod OneWay

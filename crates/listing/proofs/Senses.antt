@@ -1,0 +1,67 @@
+-- "Holes stay holes when the knife runs the other way": under either setting of `reverse_solution` a ring's path has the same word, and the charge is the same.
+use Prim.Native.Nat.{ℕ, zero, suc}
+use mathlib.Core.Path.{_≡_, refl, sym, ap, _∙_}
+use mathlib.Core.Bool.{Bool, true, false, not}
+use mathlib.Core.List.{List, [], _∷_, map, reverse}
+use mathlib.Core.Option.{Option, none, some}
+use lib.IntN.{ℤ, pos, negsuc, natAbs, negℤ, _+ℤ_, negℤ-+ℤ}
+use Rattle.exact.proofs.Size.{size-neg}
+use Rattle.rings.specs.Circle.{omap}
+use Rattle.rates.specs.Charge.{chargeOf}
+use Rattle.geometry.specs.declared.Point.{Point}
+use Rattle.geometry.specs.Plane.{areaOutpt}
+use Rattle.geometry.proofs.Circles.{area-reversed}
+use Rattle.store.specs.Words.{Store}
+use Rattle.store.specs.Value.{reverseSolution}
+use Rattle.lone.specs.Plane.{plane}
+use Rattle.lone.specs.Path.{buildPath64FromOutpt}
+use Rattle.paths.specs.Path.{closedPaths}
+use Rattle.opposite.specs.Opposite.{turnedOver, opposite}
+use Rattle.opposite.proofs.Paths.{path-turned}
+use Rattle.opposite.proofs.Stores.{reversed-other, closed-other}
+use Rattle.listing.specs.Lines.{wordOf}
+use Rattle.listing.specs.Charge.{netArea, chargeText, chargeLine}
+use Rattle.listing.specs.Senses.{pathWord, ringWord, wordsOf}
+
+word-turned : (rev : Bool) (z : ℤ) → wordOf (not rev) (negℤ z) ≡ wordOf rev z
+word-turned rev (pos zero) = refl
+word-turned true (pos (suc n)) = refl
+word-turned false (pos (suc n)) = refl
+word-turned true (negsuc n) = refl
+word-turned false (negsuc n) = refl
+
+path-stays : (rev : Bool) (path : List Point) → pathWord (not rev) (reverse path) ≡ pathWord rev path
+path-stays rev path = ap (wordOf (not rev)) (area-reversed path) ∙ word-turned rev (areaOutpt path)
+
+-- of a ring by value
+pub holes-stay : (keep : Bool) (ring : List Point) → ringWord keep true ring ≡ ringWord keep false ring
+holes-stay keep ring = ap (omap (pathWord true)) (path-turned keep false ring) ∙ go (buildPath64FromOutpt (plane keep) false false ring)
+  where
+    go : (path : Option (List Point)) → omap (pathWord true) (omap reverse path) ≡ omap (pathWord false) path
+    go none = refl
+    go (some path) = ap some (path-stays false path)
+
+-- of every closed path of a store
+all-stay : (rev : Bool) (paths : List (List Point)) → map (pathWord (not rev)) (opposite paths) ≡ map (pathWord rev) paths
+all-stay rev [] = refl
+all-stay rev (path ∷ paths) = rw (path-stays rev path, all-stay rev paths)
+
+pub words-stay : (s : Store) → wordsOf (turnedOver s) ≡ wordsOf s
+words-stay s =
+    ap (λ (paths : List (List Point)). map (pathWord (reverseSolution (turnedOver s))) paths) (closed-other s)
+    ∙ ap (λ (rev : Bool). map (pathWord rev) (opposite (closedPaths s))) (reversed-other s)
+    ∙ all-stay (reverseSolution s) (closedPaths s)
+
+-- the net area changes its sign only
+pub net-turned : (paths : List (List Point)) → netArea (opposite paths) ≡ negℤ (netArea paths)
+net-turned [] = refl
+net-turned (path ∷ paths) =
+    ap (λ (z : ℤ). z +ℤ netArea (opposite paths)) (area-reversed path)
+    ∙ ap (λ (z : ℤ). negℤ (areaOutpt path) +ℤ z) (net-turned paths)
+    ∙ sym (negℤ-+ℤ (areaOutpt path) (netArea paths))
+
+-- so the charge is the same at every rate
+pub charge-stays : (s : Store) (rate : ℕ) → chargeLine rate (closedPaths (turnedOver s)) ≡ chargeLine rate (closedPaths s)
+charge-stays s rate =
+    ap (chargeLine rate) (closed-other s)
+    ∙ ap (λ (n : ℕ). chargeText (chargeOf n rate)) (ap natAbs (net-turned (closedPaths s)) ∙ size-neg (netArea (closedPaths s)))

@@ -1,0 +1,2 @@
+-- Marks of a job's points.
+pub mod Marks

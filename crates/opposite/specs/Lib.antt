@@ -1,0 +1,2 @@
+-- A store under the other setting, and paths in opposite order.
+pub mod Opposite

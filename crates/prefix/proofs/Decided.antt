@@ -1,0 +1,66 @@
+-- 42,005 bytes decide a job: what follows them changes nothing of opening it or of finishing it in one call.
+use mathlib.Core.Path.{_≡_, refl, ap}
+use mathlib.Core.Bool.{Bool, true, false, cond}
+use mathlib.Core.List.{List}
+use Prim.Native.Nat.{ℕ, _≤_}
+use native.Mathlib.Omega.{arith}
+use lib.Dec.{ltb}
+use lib.ListN.{length, take, replicate}
+use lib.Seq.{take-take}
+use Rattle.job.specs.declared.refusal.Refusal.the-variants as refusal
+use Rattle.store.specs.Field.{LENGTH}
+use Rattle.reading.specs.declared.fill.Outcome.the-variants.{Ok}
+use Rattle.reading.specs.declared.fill.Outcome.the-variants as outcome
+use Rattle.reading.specs.Fill as fill
+use Rattle.reading.specs.Fill.{fillOf}
+use Rattle.reading.specs.Read.{withCounts, readOf}
+use Rattle.accepting.specs.Accept.{judged, acceptOf}
+use Rattle.opening.specs.declared.open.Opened.the-variants.{Accepted, Refused}
+use Rattle.opening.specs.Open.{End, end, afterRows, stagesOf, settled, openOf}
+use Rattle.finishing.specs.InOneCall.{afterOpening, finishOf}
+use Rattle.prefix.specs.Decides.{LONGEST, DECIDES}
+use Rattle.prefix.proofs.Alike.{fill-same, fill-longest}
+
+-- all stages after reading
+abbrev onwards : ℕ → fill.ReadEnd → End
+onwards n T = cond (ltb n LENGTH) (end (Refused refusal.Full) (replicate n 0)) (settled n (afterRows (judged (withCounts T))))
+
+-- what opening reads, over words that are zero
+abbrev readIn : List ℕ → ℕ → fill.ReadEnd
+readIn bytes n = fillOf bytes (replicate n 0) (replicate 256 0) (replicate 2560 0)
+
+open-reads : (bytes : List ℕ) (n : ℕ) → openOf bytes n ≡ onwards n (readIn bytes n)
+unfolding openOf stagesOf acceptOf readOf
+open-reads bytes n = refl
+
+-- inputs that begin alike
+module _ (a b : List ℕ) (e : take DECIDES a ≡ take DECIDES b) (n : ℕ) where
+  pub open-same : openOf a n ≡ openOf b n
+  open-same = rw (open-reads a n, open-reads b n, fill-same a b e (replicate n 0) (replicate 256 0) (replicate 2560 0))
+
+  pub finish-same : (t : List ℕ) → finishOf a n t ≡ finishOf b n t
+  unfolding finishOf
+  finish-same t = ap (λ (r : End). afterOpening r t) open-same
+
+-- THE LAWS: 42,005 bytes, or all where there are fewer
+pub open-decided : (bytes : List ℕ) (n : ℕ) → openOf (take DECIDES bytes) n ≡ openOf bytes n
+open-decided bytes n = open-same (take DECIDES bytes) bytes (take-take DECIDES DECIDES bytes (omega arith)) n
+
+pub finish-decided : (bytes : List ℕ) (n : ℕ) (t : List ℕ) → finishOf (take DECIDES bytes) n t ≡ finishOf bytes n t
+finish-decided bytes n t = finish-same (take DECIDES bytes) bytes (take-take DECIDES DECIDES bytes (omega arith)) n t
+
+-- and no job longer than 41,988 bytes is accepted
+pub longest : (bytes : List ℕ) (n : ℕ) (w : List ℕ) → openOf bytes n ≡ end Accepted w → length bytes ≤ LONGEST
+longest bytes n w e = by (readIn bytes n) refl (ltb n LENGTH) (rw (open-reads bytes n) at e)
+  where
+    by : (T : fill.ReadEnd) → readIn bytes n ≡ T → (t : Bool) → cond t (end (Refused refusal.Full) (replicate n 0)) (settled n (afterRows (judged (withCounts T)))) ≡ end Accepted w → length bytes ≤ LONGEST
+    by (fill.end (Ok j) v ts ks) f t d = fill-longest bytes j v ts ks (replicate n 0) (replicate 256 0) (replicate 2560 0) f
+    by (fill.end (outcome.Refused x) v ts ks) f true d = absurd (let z : _≡_ {A = ℕ} 0 1 = cc in omega arith)
+    by (fill.end (outcome.Refused x) v ts ks) f false d = absurd (let z : _≡_ {A = ℕ} 0 1 = cc in omega arith)
+
+-- the two numbers
+pub longest-is : LONGEST ≡ 41988
+longest-is = refl
+
+pub decides-is : DECIDES ≡ 42005
+decides-is = refl

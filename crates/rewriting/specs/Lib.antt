@@ -1,0 +1,6 @@
+-- Definitions of rewriting a job.
+pub mod Rewrite
+pub mod Numbers
+pub mod Fields
+pub mod Stages
+pub mod Answers

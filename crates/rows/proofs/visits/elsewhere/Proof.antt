@@ -1,0 +1,12 @@
+-- `rows::visits::elsewhere` meets its contract: what the point resolves to, compared.
+use borrow.Author.Needs.{needs}
+use Rattle.rows.proofs.visits.elsewhere.Statement.{statement}
+use Rattle.rows.proofs.visits.elsewhere.Tie as tie
+
+pub elsewhere-spec : {M : Type 1} → statement M
+elsewhere-spec =
+    tie.close
+    (tie.spec
+    (λ c κs. search needs)
+    (λ c κs. search needs)
+    (λ c. rw (c .find .ensures, c .before .read .ensures .0)))

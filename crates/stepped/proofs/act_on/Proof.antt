@@ -1,8 +1,0 @@
--- `stepped::act_on`: a live record of a sound work space can be decided.
-use borrow.Author.Needs.{needs}
-use Rattle.turns.proofs.Steps.{steps}
-use Rattle.stepped.proofs.act_on.Statement.{statement}
-use Rattle.stepped.proofs.act_on.Tie as tie
-
-pub act-on-spec : {M : Type 1} → statement M
-act-on-spec = tie.close (tie.spec (λ c κs. search needs) (λ c κs. search (steps, needs)) (λ c. search needs) (λ c. search needs))

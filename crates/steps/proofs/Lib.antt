@@ -1,0 +1,5 @@
+-- Laws of the code of a step.
+pub mod Applying
+pub mod Steps
+pub mod Gliding
+pub mod Looping

@@ -1,0 +1,15 @@
+-- `glide_split` meets its contract.
+use borrow.Author.Needs.{needs}
+use Rattle.steps.proofs.Gliding.{due-going, split-up}
+use Rattle.steps.proofs.glide.glide_split.Statement.{statement}
+use Rattle.steps.proofs.glide.glide_split.Tie as tie
+
+pub glide-split-spec : {M : Type 1} → statement M
+glide-split-spec =
+    tie.close
+    (tie.spec
+    (λ c κs. search needs)
+    (λ c κs. search (due-going, needs))
+    (λ c κs. search needs)
+    (λ c. search needs)
+    (λ c. search split-up))

@@ -1,0 +1,17 @@
+-- `step_ring` meets its contract.
+use borrow.Author.Needs.{needs}
+use Rattle.steps.proofs.Steps.{applies, went, no-room}
+use Rattle.steps.proofs.step.step_ring.Statement.{statement}
+use Rattle.steps.proofs.step.step_ring.Tie as tie
+
+pub step-ring-spec : {M : Type 1} → statement M
+step-ring-spec =
+    tie.close
+    (tie.spec
+    (λ c κs. search needs)
+    (λ c κs. search needs)
+    (λ c κs. search (applies, needs))
+    (λ c. search needs)
+    (λ c. search (went))
+    (λ c. search needs)
+    (λ c. search (no-room)))

@@ -1,0 +1,4 @@
+-- What the code of a step is about: its answers by the names of the definitions, and what its functions require.
+pub mod Code
+pub mod Glide
+pub mod Applies

@@ -1,0 +1,185 @@
+// Turns of the removal and of the split loop that only move on, many at once: a loop walks by reading, and the present place is written once. As many steps leave the same words.
+use crate::step::is_live;
+use job::Job;
+use store::Col;
+use store::get;
+use store::set;
+use turns::Due;
+use turns::decide::edges_at;
+use turns::decide::present_of;
+use turns::decide::removable_at;
+use turns::ring::due_at;
+use turns::ring::next_of;
+use turns::ring::prev_of;
+ghost use mathlib.Core.Path.{_≡_};
+ghost use Prim.Native.Nat.{_<_, _≤_, _^_};
+ghost use lib.ListN.{length};
+ghost use Rattle.job.specs.Limits as limit;
+ghost use Rattle.rings.specs.Progress.{removal, triangle, split, done};
+ghost use Rattle.geometry.specs.Plane.{segmentsIntersect};
+ghost use Rattle.store.specs.Field.{pt, NEXT, LENGTH};
+ghost use Rattle.store.specs.Words.{cell};
+ghost use Rattle.store.specs.Value.{pointOf};
+ghost use Rattle.store.specs.Good.{SoundWords};
+ghost use Rattle.turns.specs.Reads.{Three, Steps};
+ghost use Rattle.steps.specs.Glide.{Glides, DueAt, leaves, placeOf, stillIn, GlidesTo};
+
+// How a loop's walk ended: at a point where more is due than moving on, or past the loop's end, at the point that its last turn moved on to.
+pub enum WalkEnd {
+    At(usize),
+    Past(usize),
+}
+
+// The removal loop, up to a point to drop or past its end.
+fn removal_walk(w: &[u32], i: usize) -> WalkEnd
+    requires { ⌜ DueAt removal (now w) i ⌝ }
+    ensures { λ r. ⌜ GlidesTo triangle (now (w .entry)) i r ⌝ }
+{
+    let s = get(w, Col::Start, i);
+    let mut x = present_of(w, i);
+    let mut p = prev_of(w, x);
+    let mut left: usize = Job::POINTS;
+    while 0 < left {
+        let n = next_of(w, x);
+        let gone = removable_at(w, p, x, n);
+        if gone {
+            return WalkEnd::At(x);
+        }
+        if n == s {
+            return WalkEnd::Past(n);
+        }
+        p = x;
+        x = n;
+        left -= 1;
+    }
+    WalkEnd::At(x)
+}
+
+// Whether the edge from p to x and the edge from y on cross.
+fn crosses_at(w: &[u32], p: usize, x: usize, y: usize) -> bool
+    requires { ⌜ Three (now w) p x y ⌝ }
+    ensures { λ r. ⌜ r ≡ segmentsIntersect (pointOf (now (w .entry)) p) (pointOf (now (w .entry)) x) (pointOf (now (w .entry)) y) (pointOf (now (w .entry)) (cell (pt NEXT) (now (w .entry)) y)) ⌝ }
+{
+    let z = next_of(w, y);
+    let e = edges_at(w, p, x, y, z);
+    geometry::segments_intersect(e)
+}
+
+// The split loop, up to a crossing or past its end.
+fn split_walk(w: &[u32], i: usize) -> WalkEnd
+    requires { ⌜ DueAt split (now w) i ⌝ }
+    ensures { λ r. ⌜ GlidesTo done (now (w .entry)) i r ⌝ }
+{
+    let f = get(w, Col::First, i);
+    let s = get(w, Col::Start, i);
+    let mut x = present_of(w, i);
+    let mut p = prev_of(w, x);
+    let mut left: usize = Job::POINTS;
+    while 0 < left {
+        let y = next_of(w, x);
+        let hit = crosses_at(w, p, x, y);
+        if hit {
+            return WalkEnd::At(x);
+        }
+        if y == f {
+            return WalkEnd::Past(y);
+        }
+        if y == s {
+            return WalkEnd::Past(y);
+        }
+        p = x;
+        x = y;
+        left -= 1;
+    }
+    WalkEnd::At(x)
+}
+
+// A walk's end is written; m is the mark past the loop's end.
+fn put_end(w: &mut [u32], i: usize, r: WalkEnd, m: usize)
+    requires { ⌜ (LENGTH ≤ length (now w)) × (i < limit.RECORDS) × (placeOf r < limit.POINTS) × (m < 2 ^ 32) ⌝ }
+    ensures { λ _. ⌜ now (w .exit) ≡ leaves m (now (w .entry)) i r ⌝ }
+{
+    match r {
+        WalkEnd::At(x) => {
+            set(w, Col::Present, i, x);
+            return;
+        }
+        WalkEnd::Past(x) => {
+            set(w, Col::Present, i, x);
+            set(w, Col::Mark, i, m);
+            return;
+        }
+    }
+}
+
+// Whether a walk is still in its loop.
+fn still_in(r: WalkEnd) -> bool
+    ensures { λ b. ⌜ b ≡ stillIn r ⌝ }
+{
+    match r {
+        WalkEnd::At(_) => true,
+        WalkEnd::Past(_) => false,
+    }
+}
+
+// The removal loop's turns at once; not where a loop begins, since a point dropped begins it again.
+fn glide_removal(w: &mut [u32], i: usize) -> bool
+    requires { ⌜ DueAt removal (now w) i ⌝ }
+    ensures { λ r. ⌜ Glides i (now (w .entry)) (now (w .exit)) r ⌝ }
+{
+    let s = get(w, Col::Start, i);
+    let x = get(w, Col::Present, i);
+    if x == s {
+        return true;
+    }
+    let r = removal_walk(w, i);
+    put_end(w, i, r, 2);
+    true
+}
+
+// The split loop's turns at once.
+fn glide_split(w: &mut [u32], i: usize) -> bool
+    requires { ⌜ DueAt split (now w) i ⌝ }
+    ensures { λ r. ⌜ Glides i (now (w .entry)) (now (w .exit)) r ⌝ }
+{
+    let r = split_walk(w, i);
+    put_end(w, i, r, 4);
+    still_in(r)
+}
+
+// The same for an unfinished ring in either loop; any other stays.
+fn glide_ring(w: &mut [u32], i: usize) -> bool
+    requires { ⌜ Steps (now w) i ⌝ }
+    ensures { λ r. ⌜ Glides i (now (w .entry)) (now (w .exit)) r ⌝ }
+{
+    let d = due_at(w, i);
+    match d {
+        Due::Validity => {
+            return true;
+        }
+        Due::Removal => {
+            return glide_removal(w, i);
+        }
+        Due::Triangle => {
+            return true;
+        }
+        Due::Split => {
+            return glide_split(w, i);
+        }
+        Due::Done => {
+            return true;
+        }
+    }
+}
+
+// Steps on record i that only move on, none or many. Answers whether it is an unfinished closed ring then.
+pub fn glide(w: &mut [u32], i: usize) -> bool
+    requires { ⌜ SoundWords (now w) ⌝ }
+    ensures { λ r. ⌜ Glides i (now (w .entry)) (now (w .exit)) r ⌝ }
+{
+    let live = is_live(w, i);
+    if live {
+        return glide_ring(w, i);
+    }
+    false
+}
