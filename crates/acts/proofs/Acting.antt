@@ -7,7 +7,7 @@ use mathlib.Core.Option.{none, some}
 use native.Mathlib.Omega.{arith}
 use Rattle.rings.specs.Progress.{Due, removal}
 use Rattle.lone.proofs.Acting.{count}
-use Rattle.lone.specs.Ring.{Act, discard, dropPoint, moveOn, toFirst, double, cut, ringsNew, takesPoints, offcutsNew}
+use Rattle.lone.specs.Act.{Act, discard, dropPoint, moveOn, toFirst, double, cut, ringsNew, takesPoints, offcutsNew}
 use Rattle.store.proofs.Keeping.{Kept}
 use Rattle.store.proofs.Storing.{hit}
 use Rattle.store.specs.Field.{pt, rc, X, Y, NEXT, PRESENT}

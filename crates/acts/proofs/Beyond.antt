@@ -10,7 +10,7 @@ use lib.Seq.{set-append-left}
 use borrow.Author.Tests.{ltb-true}
 use Rattle.lone.specs.Lone.{Geo}
 use Rattle.lone.specs.Forest.{Answer, ok, full, outOfTurn}
-use Rattle.lone.specs.Ring.{Act, stay, discard, dropPoint, moveOn, toFirst, double, cut}
+use Rattle.lone.specs.Act.{Act, stay, discard, dropPoint, moveOn, toFirst, double, cut}
 use Rattle.store.proofs.Storing.{ends, length-put, length-writes}
 use Rattle.store.specs.Field.{Field, size, base, LENGTH}
 use Rattle.store.specs.Good.{Sound}

@@ -18,7 +18,7 @@ use Rattle.rings.specs.Count.{occ}
 use Rattle.rings.specs.Place.{place}
 use Rattle.rings.specs.Progress.{Ring, tidy, removal}
 use Rattle.rings.specs.Whole.{Whole}
-use Rattle.lone.specs.Ring.{dropPoint, apply}
+use Rattle.lone.specs.Act.{dropPoint, apply}
 use Rattle.store.proofs.Keeping.{Kept, Local, local-kept}
 use Rattle.store.proofs.Storing.{unwritten, hit, miss}
 use Rattle.store.specs.Field.{pt, rc, NEXT, PREV, FIRST, MARK, PRESENT, START}

@@ -7,7 +7,7 @@ use mathlib.Core.List.{List}
 use mathlib.Core.Option.{Option}
 use lib.ListN.{length}
 use Rattle.rings.specs.Progress.{Ring}
-use Rattle.lone.specs.Ring.{Act, stay, discard, dropPoint, moveOn, toFirst, double, cut}
+use Rattle.lone.specs.Act.{Act, stay, discard, dropPoint, moveOn, toFirst, double, cut}
 use Rattle.lone.specs.Lone.{Geo}
 use Rattle.lone.specs.Forest.{Answer, ok, full, outOfTurn, isOk, Forest, State, closedRing, at, answer, stepState, stepForest}
 use Rattle.lone.specs.Order.{machine}

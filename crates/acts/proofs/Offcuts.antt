@@ -16,7 +16,7 @@ use Rattle.rings.specs.Links.{Linked}
 use Rattle.rings.specs.Place.{place}
 use Rattle.rings.specs.Progress.{Ring, Due, atStart, validity}
 use Rattle.lone.proofs.Acting.{count}
-use Rattle.lone.specs.Ring.{cut, takesPoints, ringsNew}
+use Rattle.lone.specs.Act.{cut, takesPoints, ringsNew}
 use Rattle.store.proofs.Keeping.{Kept, kept-new, sound-after, once-new, lone-other, past}
 use Rattle.store.proofs.Storing.{unwritten, hit, miss}
 use Rattle.store.specs.Field.{pt, rc, X, Y, NEXT, PREV, REC, FLAGS, OWNER, PRESENT, START, CUT, NONE}

@@ -10,7 +10,7 @@ use Rattle.rings.proofs.Linking.{prev-is}
 use Rattle.rings.specs.Circle.{lastOf}
 use Rattle.rings.specs.Progress.{Due}
 use Rattle.rings.specs.Whole.{Whole}
-use Rattle.lone.specs.Ring.{Act, stay, discard, dropPoint, moveOn, toFirst, double, cut, takesPoints}
+use Rattle.lone.specs.Act.{Act, stay, discard, dropPoint, moveOn, toFirst, double, cut, takesPoints}
 use Rattle.store.proofs.Storing.{view-writes, length-writes}
 use Rattle.store.specs.Field.{pt, rc, NEXT, PREV, PRESENT, LENGTH}
 use Rattle.store.specs.Sound.{pts, recs, Closed}

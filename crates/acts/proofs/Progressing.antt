@@ -18,7 +18,7 @@ use Rattle.rings.specs.Place.{place}
 use Rattle.rings.specs.Progress.{Ring, Due, tidyAt, tidy, resting, validity, removal, triangle, split, done}
 use Rattle.rings.specs.Walk.{walk}
 use Rattle.rings.specs.Whole.{Whole}
-use Rattle.lone.specs.Ring.{discard, moveOn, toFirst, apply}
+use Rattle.lone.specs.Act.{discard, moveOn, toFirst, apply}
 use Rattle.store.proofs.Keeping.{Local, local-kept, once-same, sound-after}
 use Rattle.store.proofs.Soundness.{whole, first-on}
 use Rattle.store.proofs.Storing.{unwritten, hit}
@@ -103,7 +103,7 @@ module _ (W : Type 0) (s : Store) (o : Sound s) (i : ℕ) (c : Closed s i) where
         let t = turned (s (pt NEXT)) (s (pt PREV)) x (b .others) (b .whole .linked) in
         let f : ℕ = ahead (suc (length (b .others))) (b .far) in
         let st : Option ℕ = omap (ahead (suc (length (b .others)))) (place (s (rc START) i) (x ∷ b .others)) in
-        let outOfTurn : occ x (b .others) ≡ 0 = omega (arith, b .whole .once x, one-here x) in
+        let not-there : occ x (b .others) ≡ 0 = omega (arith, b .whole .once x, one-here x) in
         let w : Whole (s (pt NEXT)) (s (pt PREV)) (pts s) (s (pt NEXT) x ∷ t .0) = subst (Whole (s (pt NEXT)) (s (pt PREV)) (pts s)) (t .1) (whole-spin _ _ _ 1 (x ∷ b .others) (b .whole)) in
         let a : Positioned s′ i (s (pt NEXT) x) (t .0) f st d =
         record {
@@ -111,8 +111,8 @@ module _ (W : Type 0) (s : Store) (o : Sound s) (i : ℕ) (c : Closed s i) where
           present-is = hit i (s (pt NEXT) x) x;
           mark-is = hit i (markOf d) (s (rc MARK) i);
           whole = whole-same s s′ i move-on _ w;
-          first-at = ap (place (s (rc FIRST) i)) (sym (t .1)) ∙ place-turn (s (rc FIRST) i) x (b .others) outOfTurn ∙ ap (omap (ahead (suc (length (b .others))))) (b .first-at);
-          start-at = ap (place (s (rc START) i)) (sym (t .1)) ∙ place-turn (s (rc START) i) x (b .others) outOfTurn;
+          first-at = ap (place (s (rc FIRST) i)) (sym (t .1)) ∙ place-turn (s (rc FIRST) i) x (b .others) not-there ∙ ap (omap (ahead (suc (length (b .others))))) (b .first-at);
+          start-at = ap (place (s (rc START) i)) (sym (t .1)) ∙ place-turn (s (rc START) i) x (b .others) not-there;
         } in
         let oc : (k : ℕ) → occ k (s (pt NEXT) x ∷ t .0) ≡ occ k (ringAt s i) = λ k. ap (occ k) (sym (t .1)) ∙ occ-turn k (x ∷ b .others) ∙ sym (b .occs k) in
         let g : Good s′ i = good-is s′ i _ _ f st d a (λ k p. point-in s s′ i move-on k (o .good i (c .known) .points-in k (rw (oc k) at p))) (o .good i (c .known) .owner) in

@@ -16,7 +16,7 @@ use Rattle.rings.specs.Count.{one, occ}
 use Rattle.rings.specs.Place.{place}
 use Rattle.rings.specs.Progress.{Ring, Due, tidy, tidyAt}
 use Rattle.rings.specs.Whole.{Whole}
-use Rattle.lone.specs.Ring.{cut, apply}
+use Rattle.lone.specs.Act.{cut, apply}
 use Rattle.store.proofs.Keeping.{Kept, Local, local-kept}
 use Rattle.store.proofs.Storing.{unwritten, hit, miss}
 use Rattle.store.specs.Field.{pt, rc, X, Y, NEXT, PREV, REC, PRESENT, START}

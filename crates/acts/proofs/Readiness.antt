@@ -14,7 +14,7 @@ use Rattle.rings.specs.Count.{occ}
 use Rattle.rings.specs.Place.{isHere, place}
 use Rattle.rings.specs.Progress.{Ring, Due, validity, removal, triangle, split, done, mapRing, resting, isDone}
 use Rattle.lone.specs.Lone.{Geo, isZero, actOf, decide, removalTurn, splitTurn, doSplitOp, isValidClosedPath, tooSmall, keepsOffcut}
-use Rattle.lone.specs.Ring.{discard, dropPoint, moveOn, toFirst, double, cut}
+use Rattle.lone.specs.Act.{discard, dropPoint, moveOn, toFirst, double, cut}
 use Rattle.store.proofs.Soundness.{whole, first-on}
 use Rattle.store.specs.Field.{pt, rc, X, Y, NEXT, PREV, PRESENT, START, FIRST}
 use Rattle.store.specs.Sound.{pts, ringAt, Closed, dueAt, loneAt}

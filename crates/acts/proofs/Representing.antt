@@ -20,7 +20,7 @@ use Rattle.lone.proofs.Stepping.{at-closed, step-length, step-every}
 use Rattle.lone.specs.Forest.{State, initial, toList, Entry, closedRing, Forest, at, cutFrom, stepState, stepEntries, carryOut}
 use Rattle.lone.specs.Lone.{Geo, actOf, stepRing, offcutRing, takesRing}
 use Rattle.lone.specs.Order.{machine}
-use Rattle.lone.specs.Ring.{Act, apply, offcut, takesPoints, ringsNew, offcutsNew}
+use Rattle.lone.specs.Act.{Act, apply, offcut, takesPoints, ringsNew, offcutsNew}
 use Rattle.store.proofs.Keeping.{Kept, ring-other, lone-other}
 use Rattle.store.proofs.Soundness.{from-first, present-on}
 use Rattle.store.specs.Field.{pt, rc, NEXT, PREV, FLAGS, FIRST, MARK, PRESENT, START, CUT}

@@ -16,7 +16,7 @@ use Rattle.lone.proofs.Stepping as lone
 use Rattle.lone.specs.Forest.{State, toList, Entry, Forest, at, cutFrom, Answer, ok, full, outOfTurn, answer, answerTo, carryOut, stepForest, runForest, isOk}
 use Rattle.lone.specs.Lone.{Geo, actOf, offcutRing, takesRing}
 use Rattle.lone.specs.Order.{machine}
-use Rattle.lone.specs.Ring.{Act, stay, discard, dropPoint, moveOn, toFirst, double, cut, offcut, takesPoints, ringsNew}
+use Rattle.lone.specs.Act.{Act, stay, discard, dropPoint, moveOn, toFirst, double, cut, offcut, takesPoints, ringsNew}
 use Rattle.lone.specs.Forest as forest
 use Rattle.store.specs.Field.{rc, START, CUT, LENGTH}
 use Rattle.store.specs.Sound.{pts, recs, ringless, isOpen, dueAt, Closed, loneDue, loneAt}

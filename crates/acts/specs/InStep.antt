@@ -11,7 +11,7 @@ use Rattle.rings.specs.Progress.{Ring, mapRing}
 use Rattle.lone.specs.Forest.{State, Entry, openRing, closedRing, Forest, at, ok}
 use Rattle.lone.specs.Forest as forest
 use Rattle.lone.specs.Lone.{Geo}
-use Rattle.lone.specs.Ring.{ringsNew}
+use Rattle.lone.specs.Act.{ringsNew}
 use Rattle.store.specs.Field.{rc, START, CUT, NONE}
 use Rattle.store.specs.Words.{Store}
 use Rattle.store.specs.Sound.{pts, recs, ringless, ringAt, isOpen, loneAt}

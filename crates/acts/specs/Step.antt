@@ -5,7 +5,7 @@ use mathlib.Core.List.{List}
 use lib.Dec.{leb, ltb}
 use Rattle.job.specs.Limits as limit
 use Rattle.rings.specs.Progress.{isDone, mapRing}
-use Rattle.lone.specs.Ring.{Act, takesPoints}
+use Rattle.lone.specs.Act.{Act, takesPoints}
 use Rattle.lone.specs.Lone.{Geo, actOf}
 use Rattle.lone.specs.Forest.{Answer, ok, full, outOfTurn}
 use Rattle.store.specs.Words.{Store, view}

@@ -9,7 +9,7 @@ use Rattle.lone.proofs.Acting.{count, takes-is}
 use Rattle.lone.specs.Forest.{Answer, ok, full, outOfTurn, Forest, runForest, stepForest}
 use Rattle.lone.specs.Lone.{Geo}
 use Rattle.lone.specs.Order.{machine}
-use Rattle.lone.specs.Ring.{takesPoints}
+use Rattle.lone.specs.Act.{takesPoints}
 use Rattle.store.specs.Field.{rc, START}
 use Rattle.store.specs.Sound.{pts}
 use Rattle.store.specs.Good.{Sound}

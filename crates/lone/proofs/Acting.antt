@@ -12,7 +12,7 @@ use Rattle.rings.specs.Count.{one, occ}
 use Rattle.rings.specs.Progress.{Ring, tidy, mapRing}
 use Rattle.rings.proofs.Counting.{sumBy-append, occ-turn, occ-spin, occ-rest, occ-last}
 use Rattle.rings.proofs.Mapping.{map-turn, map-spin, map-back, map-rest, map-take2, map-cutCircle, tidy-map}
-use Rattle.lone.specs.Ring.{Act, stay, discard, dropPoint, moveOn, toFirst, double, cut, apply, offcut, takesPoints, ringsNew, offcutsNew}
+use Rattle.lone.specs.Act.{Act, stay, discard, dropPoint, moveOn, toFirst, double, cut, apply, offcut, takesPoints, ringsNew, offcutsNew}
 use Rattle.lone.specs.Lone.{Geo, actOf, stepRing, offcutRing}
 
 module _ {A B W : Type 0} (f : A → B) (a : W → A) where

@@ -11,7 +11,7 @@ use Rattle.rings.specs.Circle.{back, cutCircle, cutStart, ahead, omap}
 use Rattle.rings.specs.Place.{isHere}
 use Rattle.rings.specs.Progress.{Due, validity, removal, triangle, split, done, Ring, tidyAt, tidy}
 use Rattle.rings.proofs.Circles.{length-turn, length-spin, length-initOf}
-use Rattle.lone.specs.Ring.{Act, discard, dropPoint, moveOn, toFirst, cut, apply, offcut, takesPoints}
+use Rattle.lone.specs.Act.{Act, discard, dropPoint, moveOn, toFirst, cut, apply, offcut, takesPoints}
 use Rattle.lone.specs.Lone.{Geo, isDone, isZero, decide, actOf, stepRing, offcutRing, takesRing}
 use Rattle.lone.specs.Forest.{Fed, opening, enter, Every}
 use Rattle.lone.specs.Order.{machine, ForestFits, ForestNeverEnds}

@@ -17,7 +17,7 @@ use Rattle.rings.specs.Count.{occ}
 use Rattle.rings.specs.Progress.{Due, validity, removal, triangle, split, done, Ring, atStart, tidyAt, tidy}
 use Rattle.rings.proofs.Circles.{length-turn, length-spin, length-initOf}
 use Rattle.rings.proofs.Counting.{one-here}
-use Rattle.lone.specs.Ring.{Act, stay, discard, dropPoint, moveOn, toFirst, double, cut, apply, offcut}
+use Rattle.lone.specs.Act.{Act, stay, discard, dropPoint, moveOn, toFirst, double, cut, apply, offcut}
 use Rattle.lone.specs.Lone.{Geo, isValidClosedPath, decide, actOf, stepRing}
 use Rattle.lone.specs.Kept.{AtMost, OnCircle, PlacesOnRing, HasStart, SplitSize, LongEnough, GeoLaws}
 use Rattle.lone.proofs.Turning.{Crosses, validity-cases, removal-cases, triangle-cases, split-cases}

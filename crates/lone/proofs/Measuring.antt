@@ -10,7 +10,7 @@ use lib.ListN.{length, length-append}
 use Rattle.rings.specs.Circle.{rest, back, cutCircle}
 use Rattle.rings.specs.Progress.{Due, validity, removal, triangle, split, done, Ring, tidyAt, tidy}
 use Rattle.rings.proofs.Circles.{length-turn, length-spin, length-initOf}
-use Rattle.lone.specs.Ring.{Act, stay, discard, dropPoint, moveOn, toFirst, double, cut, apply, takesPoints}
+use Rattle.lone.specs.Act.{Act, stay, discard, dropPoint, moveOn, toFirst, double, cut, apply, takesPoints}
 use Rattle.lone.specs.Lone.{Geo, actOf, stepRing, takesRing}
 use Rattle.lone.specs.Order.{machine}
 use Rattle.lone.specs.Kept.{OnCircle, PlacesOnRing, HasStart}

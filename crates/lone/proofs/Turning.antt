@@ -9,7 +9,7 @@ use lib.ListN.{length}
 use Rattle.rings.specs.Circle.{spin, lastOf, back, headOr, oneOrThree, cutCircle, ahead, omap}
 use Rattle.rings.specs.Place.{isHere}
 use Rattle.rings.specs.Progress.{validity, removal, triangle, split, done}
-use Rattle.lone.specs.Ring.{Act, discard, dropPoint, moveOn, toFirst, double, cut}
+use Rattle.lone.specs.Act.{Act, discard, dropPoint, moveOn, toFirst, double, cut}
 use Rattle.lone.specs.Lone.{Geo, isZero, isValidClosedPath, removalTurn, tooSmall, keepsOffcut, doSplitOp, splitTurn, decide}
 
 -- the crossing that a doubling or a cut has tested, on the circle x ∷ xs

@@ -1,5 +1,5 @@
 -- The lone ring, in the order in which to read it.
-pub mod Ring
+pub mod Act
 pub mod Lone
 pub mod Path
 pub mod Forest

@@ -11,7 +11,7 @@ use Rattle.rings.specs.Circle.{spin, lastOf, back, headOr, oneOrThree, cutCircl
 use Rattle.rings.specs.Place.{isHere}
 use Rattle.rings.specs.Progress.{Due, validity, removal, triangle, split, done, Ring, tidy}
 pub use Rattle.rings.specs.Progress.{isDone}
-use Rattle.lone.specs.Ring.{Act, stay, discard, dropPoint, moveOn, toFirst, double, cut, apply, offcut, takesPoints}
+use Rattle.lone.specs.Act.{Act, stay, discard, dropPoint, moveOn, toFirst, double, cut, apply, offcut, takesPoints}
 
 -- the geometry that the rules read, over points of a kind P. The real one is crate geometry's, in Plane.antt
 pub record Geo (P : Type 0) : Type 0 where

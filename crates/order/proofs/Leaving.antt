@@ -7,7 +7,7 @@ use lib.ListN.{length}
 use Rattle.job.specs.Limits.{POINTS, RECORDS}
 use Rattle.lone.specs.Lone.{Geo}
 use Rattle.lone.specs.Forest.{Answer, ok, full, outOfTurn}
-use Rattle.lone.specs.Ring.{Act, stay, discard, dropPoint, moveOn, toFirst, double, cut}
+use Rattle.lone.specs.Act.{Act, stay, discard, dropPoint, moveOn, toFirst, double, cut}
 use Rattle.lone.specs.Rounds.{enough}
 use Rattle.store.specs.Field.{LENGTH}
 use Rattle.store.specs.Good.{Sound}

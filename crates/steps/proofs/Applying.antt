@@ -11,7 +11,7 @@ use lib.ListN.{length}
 use borrow.Author.Tests.{eq-eqb, ne-eqb}
 use Rattle.rings.specs.Progress.{Due}
 use Rattle.geometry.specs.declared.Point.{Point}
-use Rattle.lone.specs.Ring.{double, cut, takesPoints}
+use Rattle.lone.specs.Act.{double, cut, takesPoints}
 use Rattle.job.specs.Limits as limit
 use Rattle.store.specs.Field.{PointCol, pt, rc, ct, NEXT, PREV, REC, OWNER, FIRST, MARK, PRESENT, START, POINTS, RECORDS, LENGTH, NONE}
 use Rattle.store.specs.Named.{nextOf, prevOf}

@@ -15,7 +15,7 @@ use Rattle.rings.proofs.Members.{prev-next}
 use Rattle.geometry.specs.declared.Point.{Point}
 use Rattle.geometry.specs.declared.Edges.{Edges}
 use Rattle.geometry.specs.Plane.{segmentsIntersect}
-use Rattle.lone.specs.Ring.{Act, moveOn}
+use Rattle.lone.specs.Act.{Act, moveOn}
 use Rattle.lone.specs.Forest.{ok}
 use Rattle.store.specs.Field.{Field, pt, rc, ct, NEXT, PREV, FIRST, MARK, PRESENT, START, POINTS, RECORDS, LENGTH, size, base}
 use Rattle.store.specs.Words.{Store, put, cell, view}

@@ -9,7 +9,7 @@ use lib.Dec.{eqb, ltb, leb}
 use borrow.Author.Tests.{eq-eqb, ne-eqb, lt-ltb, le-ltb, leb-true}
 use Rattle.rings.specs.Progress.{Due, isDone}
 use Rattle.geometry.specs.declared.Point.{Point}
-use Rattle.lone.specs.Ring.{Act, cut, takesPoints}
+use Rattle.lone.specs.Act.{Act, cut, takesPoints}
 use Rattle.lone.specs.Forest.{ok, full, outOfTurn}
 use Rattle.store.specs.Field.{rc, ct, FLAGS, FIRST, MARK, POINTS, RECORDS}
 use Rattle.store.specs.Words.{Store, view, cell}

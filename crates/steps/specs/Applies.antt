@@ -7,7 +7,7 @@ use lib.ListN.{length}
 use Rattle.job.specs.Limits as limit
 use Rattle.geometry.specs.declared.Point.{Point}
 use Rattle.geometry.specs.Table.{InTable}
-use Rattle.lone.specs.Ring.{Act, stay, discard, dropPoint, moveOn, toFirst, double, cut, takesPoints}
+use Rattle.lone.specs.Act.{Act, stay, discard, dropPoint, moveOn, toFirst, double, cut, takesPoints}
 use Rattle.store.specs.Field.{pt, rc, ct, NEXT, PREV, PRESENT, POINTS, RECORDS, LENGTH}
 use Rattle.store.specs.Words.{view}
 use Rattle.store.specs.Sound.{pts, recs}

@@ -25,7 +25,7 @@ ghost use Rattle.acts.specs.Apply.{ringWrites, afterW};
 ghost use Rattle.turns.specs.Code.{dueIs, actIs};
 ghost use Rattle.store.specs.Value.{wordOf};
 ghost use Rattle.turns.specs.Form.{raised};
-ghost use Rattle.lone.specs.Ring.{cut};
+ghost use Rattle.lone.specs.Act.{cut};
 ghost use Rattle.steps.specs.Applies.{Reach, PointFits, NewPoint, CutFits, OffcutFits, Applies};
 
 // The progress mark of a step due.

@@ -10,7 +10,7 @@ use turns::decide::decide;
 ghost use mathlib.Core.Path.{_≡_};
 ghost use Prim.Native.Nat.{_+_, _<_, _≤_};
 ghost use lib.ListN.{length};
-ghost use Rattle.lone.specs.Ring.{takesPoints};
+ghost use Rattle.lone.specs.Act.{takesPoints};
 ghost use Rattle.store.specs.Field.{LENGTH};
 ghost use Rattle.store.specs.Words.{view};
 ghost use Rattle.acts.specs.Apply.{takesRecord};

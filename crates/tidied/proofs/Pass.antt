@@ -13,7 +13,7 @@ use Rattle.rings.specs.Circle.{turn, spin, lastOf, headOr, oneOrThree, ahead, o
 use Rattle.rings.specs.Place.{isHere}
 use Rattle.rings.specs.Progress.{Due, validity, removal, triangle, split, done, Ring, atStart, tidyAt}
 use Rattle.rings.proofs.Circles.{length-turn, spin-round}
-use Rattle.lone.specs.Ring.{Act, discard, dropPoint, moveOn, toFirst, double, cut, apply}
+use Rattle.lone.specs.Act.{Act, discard, dropPoint, moveOn, toFirst, double, cut, apply}
 use Rattle.lone.specs.Lone.{Geo, fromFirst, isValidClosedPath, removalTurn, decide, actOf, stepRing}
 use Rattle.lone.specs.Forest.{initial, stepsState}
 use Rattle.lone.specs.Order.{machine}

@@ -15,7 +15,7 @@ use Rattle.rings.specs.Progress.{Ring, Due, validity, removal, triangle, split,
 use Rattle.rings.specs.Whole.{Whole}
 use Rattle.lone.specs.Kept.{GeoLaws}
 use Rattle.lone.specs.Lone.{Geo, actOf, decide, isValidClosedPath}
-use Rattle.lone.specs.Ring.{discard, toFirst}
+use Rattle.lone.specs.Act.{discard, toFirst}
 use Rattle.store.proofs.Soundness.{whole, first-on}
 use Rattle.store.specs.Field.{pt, rc, NEXT, PREV, FIRST}
 use Rattle.store.specs.Sound.{pts, ringAt, Closed, dueAt, loneAt}

@@ -25,7 +25,7 @@ use Rattle.geometry.specs.Crossing.{crossing, pointAt}
 use Rattle.geometry.specs.Within.{edgesOf, Paired, Crossed}
 use Rattle.geometry.proofs.Differences.{paired-of}
 use Rattle.geometry.proofs.Crossings.{crossed-as}
-use Rattle.lone.specs.Ring.{Act, stay, discard, dropPoint, moveOn, toFirst, double, cut}
+use Rattle.lone.specs.Act.{Act, stay, discard, dropPoint, moveOn, toFirst, double, cut}
 use Rattle.lone.specs.Lone.{isValidClosedPath}
 use Rattle.lone.specs.Plane.{plane}
 use Rattle.store.specs.Field.{pt, rc, ct, NEXT, PREV, FIRST, PRESENT, START, SETTINGS}

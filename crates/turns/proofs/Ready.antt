@@ -8,7 +8,7 @@ use lib.IntN.{ℤ}
 use Rattle.geometry.specs.declared.Point.{Point}
 use Rattle.geometry.specs.Table.{InTable}
 use Rattle.geometry.proofs.Crossings.{crossing-in-table}
-use Rattle.lone.specs.Ring.{Act}
+use Rattle.lone.specs.Act.{Act}
 use Rattle.lone.specs.Plane.{plane}
 use Rattle.lone.proofs.Plane.{plane-laws}
 use Rattle.numbers.specs.Raised.{coordinate}

@@ -62,8 +62,8 @@ module _ {P : Type 0} (of : ℕ → ℕ → P) (G : Geo P) (s : Store) where
       → eqb (s (pt NEXT) x) st ≡ isHere (omap (ahead (suc (length xs))) (place st (x ∷ xs)))
   turn-is x xs st w =
       let t = turned (s (pt NEXT)) (s (pt PREV)) x xs (w .linked) in
-      let outOfTurn : occ x xs ≡ 0 = omega (arith, w .once x, one-here x) in
-      sym (here-is st (s (pt NEXT) x) (t .0)) ∙ ap (λ (l : List ℕ). isHere (place st l)) (sym (t .1)) ∙ ap isHere (place-turn st x xs outOfTurn)
+      let not-there : occ x xs ≡ 0 = omega (arith, w .once x, one-here x) in
+      sym (here-is st (s (pt NEXT) x) (t .0)) ∙ ap (λ (l : List ℕ). isHere (place st l)) (sym (t .1)) ∙ ap isHere (place-turn st x xs not-there)
 
   -- the decision on the store is the lone ring's on the values
   pub removal-is : Sound s → (i : ℕ) → Closed s i → dueAt s i ≡ removal → removalAt of G s i ≡ actOf G (mapRing (value of s) (loneAt s i))

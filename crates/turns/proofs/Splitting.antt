@@ -21,7 +21,7 @@ use Rattle.rings.specs.Walk.{walk}
 use Rattle.rings.specs.Whole.{Whole}
 use Rattle.lone.specs.Kept.{GeoLaws}
 use Rattle.lone.specs.Lone.{Geo, isZero, actOf, decide, splitTurn, doSplitOp}
-use Rattle.lone.specs.Ring.{moveOn}
+use Rattle.lone.specs.Act.{moveOn}
 use Rattle.store.specs.Field.{pt, rc, NEXT, PREV, PRESENT, START, FIRST}
 use Rattle.store.specs.Sound.{pts, Closed, dueAt, loneAt}
 use Rattle.store.specs.Good.{Sound}

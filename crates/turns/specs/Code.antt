@@ -2,8 +2,8 @@
 use Rattle.geometry.specs.declared.Point.{Point}
 use Rattle.rings.specs.Progress.{validity, removal, triangle, split, done}
 use Rattle.rings.specs.Progress as rings
-use Rattle.lone.specs.Ring.{stay, discard, dropPoint, moveOn, toFirst, double, cut}
-use Rattle.lone.specs.Ring as lone
+use Rattle.lone.specs.Act.{stay, discard, dropPoint, moveOn, toFirst, double, cut}
+use Rattle.lone.specs.Act as lone
 use Rattle.turns.specs.declared.Due.{Due}
 use Rattle.turns.specs.declared.Due.the-variants.{Validity, Removal, Triangle, Split, Done}
 use Rattle.turns.specs.declared.Act.{Act}

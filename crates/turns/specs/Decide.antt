@@ -6,7 +6,7 @@ use lib.Dec.{eqb}
 use lib.IntN.{ℤ}
 use Rattle.rings.specs.Progress.{Due, validity, removal, triangle, split, done}
 use Rattle.rings.specs.Walk.{walk}
-use Rattle.lone.specs.Ring.{Act, stay, discard, dropPoint, moveOn, toFirst, double, cut}
+use Rattle.lone.specs.Act.{Act, stay, discard, dropPoint, moveOn, toFirst, double, cut}
 use Rattle.lone.specs.Lone.{Geo, isValidClosedPath, tooSmall}
 pub use Rattle.lone.specs.Lone.{keepsBy}
 use Rattle.store.specs.Field.{pt, rc, NEXT, PREV, FIRST, PRESENT, START}

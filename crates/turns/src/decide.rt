@@ -21,7 +21,7 @@ ghost use Rattle.rings.specs.Progress.{split, done};
 ghost use Rattle.geometry.specs.Plane.{samePoint, areaTriangle};
 ghost use Rattle.geometry.specs.Table.{InTable};
 ghost use Rattle.geometry.specs.Within.{Paired, Crossed};
-ghost use Rattle.lone.specs.Ring.{dropPoint, discard};
+ghost use Rattle.lone.specs.Act.{dropPoint, discard};
 ghost use Rattle.store.specs.Field.{rc, FIRST, PRESENT, LENGTH};
 ghost use Rattle.store.specs.Words.{cell, view};
 ghost use Rattle.store.specs.Value.{preserveCollinear};
