@@ -1,5 +1,5 @@
 -- What holds of a job that was read, and of one that is accepted: each law goes by the cases of what was left.
-use mathlib.Core.Path.{_≡_, refl, sym, subst}
+use mathlib.Core.Path.{_≡_, refl, sym, _∙_, subst}
 use mathlib.Core.List.{List, [], _∷_}
 use mathlib.Core.Bool.{_||_}
 use Prim.Native.Nat.{ℕ, _*_, _≤_}
@@ -9,7 +9,7 @@ use Rattle.job.specs.declared.Job.{Job}
 use Rattle.job.specs.declared.refusal.Refusal.{Refusal}
 use Rattle.store.specs.Field.{LENGTH, ct, SETTINGS, POINTS, RECORDS}
 use Rattle.store.specs.Words.{write}
-use Rattle.store.specs.Named.{pointsOf, recordsOf}
+use Rattle.store.specs.Named.{pointsOf, recordsOf, firstOf}
 use Rattle.store.proofs.Storing.{length-writes}
 use Rattle.audit.specs.Tests.{anyBelow, noSuch, noSuchOf}
 use Rattle.reading.specs.declared.fill.Outcome.{Outcome}
@@ -17,9 +17,10 @@ use Rattle.reading.specs.declared.fill.Outcome.the-variants.{Ok, Refused}
 use Rattle.reading.specs.Fill.{ReadEnd, end, fillOf}
 use Rattle.reading.specs.Needs.{Space}
 use Rattle.reading.specs.Read.{counted, withCounts, readOf}
-use Rattle.reading.specs.Alike.{Counts, Bits}
+use Rattle.reading.specs.Alike.{Counts, Bits, Unringed}
 use Rattle.reading.proofs.Counted.{filled, counts}
-use Rattle.reading.proofs.Bits.{bits-of}
+use Rattle.reading.proofs.Bits.{fields-of}
+use Rattle.reading.proofs.Placing.{no-first}
 use Rattle.audit.specs.declared.Verdict.{Verdict}
 use Rattle.audit.specs.declared.Verdict.the-variants as verdict
 use Rattle.rows.specs.Rows.{unnamed, rowsOf}
@@ -33,13 +34,14 @@ use Rattle.accepting.specs.Accepted.{Accepted}
 pub record Whole (j : Job) (w ss js : List ℕ) : Type 0 where
   pub counts : Counts j w
   pub bits : Bits w
+  pub unringed : Unringed w
   pub space : Space w ss js
 
 pub read-whole : (bytes w ss js : List ℕ) → Space w ss js → (j : Job) (v ts ks : List ℕ) → readOf bytes w ss js ≡ end (Ok j) v ts ks → Whole j v ts ks
 unfolding readOf
-read-whole bytes w ss js s j v ts ks e = by (fillOf bytes w ss js) refl e (bits-of bytes w ss js (s .words) j v ts ks e)
+read-whole bytes w ss js s j v ts ks e = by (fillOf bytes w ss js) refl e (fields-of bytes w ss js (s .words) j v ts ks e)
   where
-    by : (T : ReadEnd) → fillOf bytes w ss js ≡ T → withCounts T ≡ end (Ok j) v ts ks → Bits v → Whole j v ts ks
+    by : (T : ReadEnd) → fillOf bytes w ss js ≡ T → withCounts T ≡ end (Ok j) v ts ks → Bits v × Unringed v → Whole j v ts ks
     by (end (Ok i) u us ls) f d q =
         let g = filled bytes i u us ls w ss js f in
         let a : i ≡ j = cc (d) in
@@ -51,7 +53,8 @@ read-whole bytes w ss js s j v ts ks e = by (fillOf bytes w ss js) refl e (bits-
         rw (← a, ← b, ← c, ← k)
         (record {
           counts = counts u i n (g .within);
-          bits = subst Bits (sym b) q;
+          bits = subst Bits (sym b) (q .0);
+          unringed = subst Unringed (sym b) (q .1);
           space = record { words = omega (arith, l, n); segments = omega (arith, s .segments, g .segments); joins = omega (arith, s .joins, g .joins) };
         })
     by (end (Refused x) u us ls) f d q = absurd (let z : _≡_ {A = ℕ} 0 1 = cc in omega arith)
@@ -96,9 +99,10 @@ accepted bytes w ss js s j v ts ks e = by (readOf bytes w ss js) refl e
         record {
           counts = g .counts;
           bits = g .bits;
+          unringed = g .unringed;
           clear = c;
           chains = chain-ends c;
-          ready = ready f c;
+          ready = ready f c (λ k h z. g .unringed .reasons k h ∙ sym (no-first (firstOf u k) z));
           segments = or-left (unnamed u us (i .segments)) (unnamed u ls (2 * i .joins)) y;
           joins = or-right (unnamed u us (i .segments)) (unnamed u ls (2 * i .joins)) y;
           closed = c .edges;

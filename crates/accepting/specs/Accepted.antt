@@ -6,7 +6,7 @@ use mathlib.Core.List.{List}
 use Rattle.job.specs.Limits.{RECORDS}
 use Rattle.job.specs.declared.Job.{Job}
 use Rattle.store.specs.Named.{recordsOf, ownerOf}
-use Rattle.reading.specs.Alike.{Counts, Bits}
+use Rattle.reading.specs.Alike.{Counts, Bits, Unringed}
 use Rattle.rows.specs.Owners.{endsIn}
 use Rattle.rows.specs.Rows.{unnamed, openEdge}
 use Rattle.rows.specs.Found.{Clear}
@@ -16,6 +16,7 @@ use Rattle.joins.specs.Resolved.{Ready}
 pub record Accepted (j : Job) (w ss js : List ℕ) : Type 0 where
   pub counts : Counts j w
   pub bits : Bits w
+  pub unringed : Unringed w
   pub clear : Clear w ss (j .segments) js (j .joins)
   pub chains : (i : ℕ) → i < recordsOf w → endsIn RECORDS (ownerOf w) i ≡ true
   pub ready : Ready w

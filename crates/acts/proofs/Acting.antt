@@ -5,7 +5,7 @@ use mathlib.Core.Bool.{Bool, true, false}
 use mathlib.Core.List.{List, _∷_}
 use mathlib.Core.Option.{none, some}
 use native.Mathlib.Omega.{arith}
-use Rattle.rings.specs.Progress.{Due, removal}
+use Rattle.rings.specs.Progress.{Due, removal, Discard}
 use Rattle.lone.proofs.Acting.{count}
 use Rattle.lone.specs.Act.{Act, discard, dropPoint, moveOn, toFirst, double, cut, ringsNew, takesPoints, offcutsNew}
 use Rattle.store.proofs.Keeping.{Kept}
@@ -33,7 +33,7 @@ use Rattle.acts.specs.Writes.{moveWrites, toFirstWrites, discardWrites, 
 module _ {P : Type 0} (f : Coding P) where
   -- what an act needs
   pub data Ready (s : Store) (i : ℕ) : Act P → Type 0 where
-    to-discard : Ready s i discard
+    to-discard : (y : Discard) → Ready s i (discard y)
     to-move : (d₀ d : Due) → dueAt s i ≡ d₀ → inLoop d₀ ≡ true → Ready s i (moveOn d)
     to-go-first : (d₀ d : Due) → dueAt s i ≡ d₀ → inLoop d₀ ≡ false → Ready s i (toFirst d)
     to-drop : dueAt s i ≡ removal → (b : Loop s i (s (rc PRESENT) i) removal) (z w : ℕ) (r : List ℕ) → b .others ≡ z ∷ w ∷ r → Ready s i dropPoint
@@ -111,7 +111,7 @@ module _ {P : Type 0} (f : Coding P) where
 
     -- every act that is ready and has room
     pub act-steps : (act : Act P) → Ready s i act → pts s + takesPoints act ≤ 2048 → recs s + takesRecord act ≤ 512 → Acted s (after f s i act) i act
-    act-steps act to-discard h m = quiet (onStore s (discardWrites i)) discard refl refl (discard-steps P s o i c)
+    act-steps act (to-discard y) h m = quiet (onStore s (discardWrites i y)) (discard y) refl refl (discard-steps P s o i c y)
     act-steps act (to-move d₀ d e g) h m = quiet (onStore s (moveWrites s i d)) (moveOn d) refl refl (move-steps P s o i c d d₀ e g)
     act-steps act (to-go-first d₀ d e g) h m = quiet (onStore s (toFirstWrites s i d)) (toFirst d) refl refl (to-first-steps P s o i c d d₀ e g)
     act-steps act (to-drop e b z w r g) h m = quiet (onStore s (dropWrites s i)) dropPoint refl refl (drop-steps P s o i c e b z w r g)

@@ -52,7 +52,7 @@ module _ (m : List ℕ) where
 
     after-more : (act : Act P) → Inside f v i act → afterW f (v ++ m) i act ≡ afterW f v i act ++ m
     after-more stay h = refl
-    after-more discard h = by-list (λ (s : Store). discardWrites i) h
+    after-more (discard y) h = by-list (λ (s : Store). discardWrites i y) h
     after-more dropPoint h = by-list (λ (s : Store). dropWrites s i) h
     after-more (moveOn d) h = by-list (λ (s : Store). moveWrites s i d) h
     after-more (toFirst d) h = by-list (λ (s : Store). toFirstWrites s i d) h

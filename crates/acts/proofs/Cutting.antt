@@ -4,6 +4,7 @@ use mathlib.Core.Path.{_≡_, refl, ap, _∙_, sym, subst}
 use mathlib.Core.Logic.{inl, inr}
 use mathlib.Core.Bool.{false}
 use mathlib.Core.List.{List, _∷_}
+use mathlib.Core.Option.{none}
 use native.Mathlib.Omega.{arith}
 use lib.ListN.{length}
 use Rattle.rings.proofs.Counting.{occ-last, occ-head, occ-lastOf, all-in}
@@ -104,7 +105,7 @@ module _ (W : Type 0) (v : W) (s : Store) (o : Sound s) (i : ℕ) (c : Closed s 
         cut-from = refl;
         start-is = inr (record { known = c .known; same = refl; looped = λ k. (c, b .looping) });
         ring = λ h. lone-is (onStore s (cutWrites s i d)) i _ _ _ _ d positioned
-            ∙ ap (λ (l : List ℕ). tidy (apply (λ (v : W). pts s) (cut v false false d) (record { circle = s (rc PRESENT) i ∷ l; first = b .far; start = place (s (rc START) i) (s (rc PRESENT) i ∷ l); due = d₀ }))) (sym e)
+            ∙ ap (λ (l : List ℕ). tidy (apply (λ (v : W). pts s) (cut v false false d) (record { circle = s (rc PRESENT) i ∷ l; first = b .far; start = place (s (rc START) i) (s (rc PRESENT) i ∷ l); due = d₀; why = none }))) (sym e)
             ∙ ap (λ (R : Ring ℕ). tidy (apply (λ (v : W). pts s) (cut v false false d) R)) (sym (b .lone-is));
         made = refl;
       }

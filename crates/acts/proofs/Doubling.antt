@@ -4,7 +4,7 @@ use mathlib.Core.Path.{_≡_, refl, ap, _∙_, sym, subst}
 use mathlib.Core.Logic.{_≢_, inl, inr}
 use mathlib.Core.Bool.{cond}
 use mathlib.Core.List.{List, [], _∷_, _++_}
-use mathlib.Core.Option.{Option}
+use mathlib.Core.Option.{Option, none}
 use native.Mathlib.Omega.{arith}
 use native.Mathlib.Decide.{ℕ-discrete}
 use lib.Dec.{eqb}
@@ -158,8 +158,8 @@ module _ (W : Type 0) (v : W) (s : Store) (o : Sound s) (i : ℕ) (c : Closed s 
           cut-from = refl;
           start-is = inr (record { known = c .known; same = refl; looped = λ k. (c, b .looping) });
           ring = λ started. lone-is (onStore s (doubleWrites s i vx vy d)) i _ _ _ _ d positioned
-              ∙ ap (λ (st : Option ℕ). tidyAt (s (rc PRESENT) i ∷ y ∷ r ++ (pts s ∷ [])) (b .far) st d) (aside (s (rc START) i) (started v refl))
-              ∙ ap (λ (l : List ℕ). tidy (apply (λ (v : W). pts s) (double v d) (record { circle = s (rc PRESENT) i ∷ l; first = b .far; start = place (s (rc START) i) (s (rc PRESENT) i ∷ b .others); due = d₀ }))) (sym e)
+              ∙ ap (λ (st : Option ℕ). tidyAt (s (rc PRESENT) i ∷ y ∷ r ++ (pts s ∷ [])) (b .far) st d none) (aside (s (rc START) i) (started v refl))
+              ∙ ap (λ (l : List ℕ). tidy (apply (λ (v : W). pts s) (double v d) (record { circle = s (rc PRESENT) i ∷ l; first = b .far; start = place (s (rc START) i) (s (rc PRESENT) i ∷ b .others); due = d₀; why = none }))) (sym e)
               ∙ ap (λ (R : Ring ℕ). tidy (apply (λ (v : W). pts s) (double v d) R)) (sym (b .lone-is));
           made = refl;
         }

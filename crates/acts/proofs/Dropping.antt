@@ -4,7 +4,7 @@ use mathlib.Core.Path.{_≡_, refl, ap, _∙_, sym, subst}
 use mathlib.Core.Logic.{inl, inr}
 use mathlib.Core.Bool.{cond}
 use mathlib.Core.List.{List, _∷_}
-use mathlib.Core.Option.{some}
+use mathlib.Core.Option.{none, some}
 use native.Mathlib.Omega.{arith}
 use native.Mathlib.Decide.{ℕ-discrete}
 use lib.Dec.{eqb}
@@ -107,7 +107,7 @@ module _ (W : Type 0) (s : Store) (o : Sound s) (i : ℕ) (c : Closed s i) (m : 
           cut-from = refl;
           start-is = inl (rw (hit i (s (pt NEXT) (s (rc PRESENT) i)) (s (rc START) i), next-z) (whole₀ .below z (omega (arith, one-here z))));
           ring = λ h. lone-is (onStore s (dropWrites s i)) i z (w ∷ r) _ _ removal positioned
-              ∙ ap (λ (l : List ℕ). tidy (apply (λ (v : W). pts s) dropPoint (record { circle = s (rc PRESENT) i ∷ l; first = b .far; start = place (s (rc START) i) (s (rc PRESENT) i ∷ l); due = removal }))) (sym e)
+              ∙ ap (λ (l : List ℕ). tidy (apply (λ (v : W). pts s) dropPoint (record { circle = s (rc PRESENT) i ∷ l; first = b .far; start = place (s (rc START) i) (s (rc PRESENT) i ∷ l); due = removal; why = none }))) (sym e)
               ∙ ap (λ (R : Ring ℕ). tidy (apply (λ (v : W). pts s) dropPoint R)) (sym (b .lone-is));
           made = refl;
         }

@@ -1,7 +1,8 @@
 -- A store of one ring of three points, in step with the forest of its lone ring: so the statements above are about something.
 use Prim.Native.Nat.{ℕ, zero, suc, _+_, _≤_, _<_}
-use mathlib.Core.Path.{_≡_, refl}
+use mathlib.Core.Path.{_≡_, refl, sym}
 use mathlib.Core.Logic.{inl}
+use mathlib.Core.Bool.{true≢false}
 use mathlib.Core.List.{List, [], _∷_, map}
 use mathlib.Core.Option.{none}
 use native.Mathlib.Omega.{arith}
@@ -13,7 +14,7 @@ use Rattle.rings.specs.Walk.{run}
 use Rattle.lone.specs.Forest.{Forest, closedRing, initial, runForest, at, cutFrom}
 use Rattle.lone.specs.Lone.{Geo}
 use Rattle.lone.specs.Order.{machine}
-use Rattle.store.specs.Field.{pt, rc, ct, X, Y, NEXT, PREV, REC, FLAGS, OWNER, FIRST, MARK, PRESENT, START, CUT, SETTINGS, POINTS, RECORDS, NONE}
+use Rattle.store.specs.Field.{pt, rc, ct, X, Y, NEXT, PREV, REC, FLAGS, OWNER, FIRST, MARK, PRESENT, START, CUT, REASON, TAKER, SETTINGS, POINTS, RECORDS, NONE}
 use Rattle.store.specs.Sound.{ringAt}
 use Rattle.store.specs.Good.{PointIn, Good, Sound}
 use Rattle.store.specs.Words.{Store}
@@ -48,6 +49,8 @@ three (rc MARK) i = 0
 three (rc PRESENT) i = 0
 three (rc START) i = 0
 three (rc CUT) i = NONE
+three (rc REASON) i = 0
+three (rc TAKER) i = 0
 three (ct SETTINGS) i = 0
 three (ct POINTS) i = 3
 three (ct RECORDS) i = 1
@@ -70,6 +73,7 @@ good-0 =
       owner = inl refl;
       meant = λ c. omega arith;
       going = λ c e. rw ring-0 (omega arith);
+      told = λ e. absurd (true≢false (sym e));
     }
 
 once : (k : ℕ) → occ k (0 ∷ 1 ∷ 2 ∷ []) ≤ 1

@@ -31,7 +31,7 @@ use Rattle.acts.proofs.Stepping.{answer-is, view-step, stepW-is, length
 -- no act writes the settings
 pub settings-after : {P : Type 0} (f : Coding P) (s : Store) (i : ℕ) (act : Act P) → after f s i act (ct SETTINGS) 0 ≡ s (ct SETTINGS) 0
 settings-after f s i stay = refl
-settings-after f s i discard = refl
+settings-after f s i (discard y) = refl
 settings-after f s i dropPoint = refl
 settings-after f s i (moveOn d) = refl
 settings-after f s i (toFirst d) = refl

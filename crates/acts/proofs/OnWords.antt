@@ -71,7 +71,7 @@ module _ {P : Type 0} (f : Coding P) where
   -- what an act writes is within the columns
   abbrev pub Inside : List ℕ → ℕ → Act P → Type 0
   Inside w i stay = Unit {0}
-  Inside w i discard = Within (discardWrites i)
+  Inside w i (discard y) = Within (discardWrites i y)
   Inside w i dropPoint = Within (dropWrites (view w) i)
   Inside w i (moveOn d) = Within (moveWrites (view w) i d)
   Inside w i (toFirst d) = Within (toFirstWrites (view w) i d)
@@ -81,7 +81,7 @@ module _ {P : Type 0} (f : Coding P) where
   -- so the words show the store
   view-inside : (w : List ℕ) (i : ℕ) → LENGTH ≤ length w → (act : Act P) → Inside w i act → view (afterW f w i act) ≡ after f (view w) i act
   view-inside w i l stay h = refl
-  view-inside w i l discard h = view-writes w (discardWrites i) l h
+  view-inside w i l (discard y) h = view-writes w (discardWrites i y) l h
   view-inside w i l dropPoint h = view-writes w (dropWrites (view w) i) l h
   view-inside w i l (moveOn d) h = view-writes w (moveWrites (view w) i d) l h
   view-inside w i l (toFirst d) h = view-writes w (toFirstWrites (view w) i d) l h
@@ -112,7 +112,7 @@ module _ {P : Type 0} (f : Coding P) where
         go false true h m = (ring false (omega arith), offcut (onWords w (ringWrites f (view w) i v false d)) (onStore (view w) (ringWrites f (view w) i v false d)) (view-writes w (ringWrites f (view w) i v false d) long (ring false (omega arith))) (omega arith) (omega arith))
 
     pub inside : (act : Act P) → Ready f (view w) i act → pts (view w) + takesPoints act ≤ 2048 → recs (view w) + takesRecord act ≤ 512 → Inside w i act
-    inside act to-discard h m = (k, (k, tt))
+    inside act (to-discard y) h m = (k, (k, (k, tt)))
     inside act (to-move d₀ d e g) h m = (k, (k, tt))
     inside act (to-go-first d₀ d e g) h m = (k, (k, (k, tt)))
     inside act (to-drop e b z u r g) h m = within-drop (view w) o i c (about (view w) o i c _ b z (u ∷ r) g)
@@ -124,7 +124,7 @@ module _ {P : Type 0} (f : Coding P) where
 
   pub length-after : (w : List ℕ) (i : ℕ) (act : Act P) → length (afterW f w i act) ≡ length w
   length-after w i stay = refl
-  length-after w i discard = length-writes w (discardWrites i)
+  length-after w i (discard y) = length-writes w (discardWrites i y)
   length-after w i dropPoint = length-writes w (dropWrites (view w) i)
   length-after w i (moveOn d) = length-writes w (moveWrites (view w) i d)
   length-after w i (toFirst d) = length-writes w (toFirstWrites (view w) i d)

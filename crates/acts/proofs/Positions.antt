@@ -2,7 +2,7 @@
 use Prim.Native.Nat.{ℕ, zero, suc, _≤_, _<_}
 use mathlib.Core.Path.{_≡_, refl, ap, _∙_, sym, subst}
 use mathlib.Core.Logic.{_⊎_}
-use mathlib.Core.Bool.{true, false}
+use mathlib.Core.Bool.{true, false, true≢false}
 use mathlib.Core.List.{List, _∷_}
 use mathlib.Core.Option.{Option, none, some}
 use native.Mathlib.Omega.{arith}
@@ -81,18 +81,18 @@ module _ (s : Store) (i x : ℕ) (l : List ℕ) (f : ℕ) (st : Option ℕ) (d :
   circle-walk : walk (s (pt NEXT)) (s (rc PRESENT) i) ≡ x ∷ l
   circle-walk = ap (walk (s (pt NEXT))) (a .present-is) ∙ ring-is _ _ (pts s) x l (a .few) (a .whole)
 
-  loop-is : (due : Due) → looping s i due ≡ record { circle = x ∷ l; first = f; start = st; due = due }
+  loop-is : (due : Due) → looping s i due ≡ record { circle = x ∷ l; first = f; start = st; due = due; why = none }
   loop-is due = rw circle-walk (cc (a .first-at, a .start-at))
 
-  pub lone-is : loneAt s i ≡ tidyAt (x ∷ l) f st d
+  pub lone-is : loneAt s i ≡ tidyAt (x ∷ l) f st d none
   lone-is = rw (ringed, a .mark-is, due-mark d) (go d)
     where
-      go : (due : Due) → loneDue s i due ≡ tidyAt (x ∷ l) f st due
-      go validity = ap (resting validity) first-walk
+      go : (due : Due) → loneDue s i due ≡ tidyAt (x ∷ l) f st due none
+      go validity = ap (resting validity none) first-walk
       go removal = loop-is removal
-      go triangle = ap (resting triangle) first-walk
+      go triangle = ap (resting triangle none) first-walk
       go split = loop-is split
-      go done = ap (resting done) first-walk
+      go done = ap (resting done none) first-walk
 
   pub good-is : ((k : ℕ) → 0 < occ k (x ∷ l) → PointIn s k) → (s (rc OWNER) i ≡ NONE) ⊎ (s (rc OWNER) i < recs s) → Good s i
   good-is put ow =
@@ -102,6 +102,7 @@ module _ (s : Store) (i x : ℕ) (l : List ℕ) (f : ℕ) (st : Option ℕ) (d :
         owner = ow;
         meant = λ c. rw (a .mark-is) (mark-le d);
         going = λ c e. rw (occ-from (s (rc PRESENT) i), a .present-is) (occ-head x l);
+        told = λ e. absurd (true≢false (sym e ∙ ringed));
       }
 
   -- no new record, and no point but the record's own and fresh ones: the store is sound
@@ -128,7 +129,7 @@ pub record Loop (s : Store) (i x : ℕ) (d : Due) : Type 0 where
   pub occs : (k : ℕ) → occ k (ringAt s i) ≡ occ k (x ∷ others)
   pub first-at : place (s (rc FIRST) i) (x ∷ others) ≡ some far
   pub looping : inLoop (dueAt s i) ≡ true
-  pub lone-is : loneAt s i ≡ record { circle = x ∷ others; first = far; start = place (s (rc START) i) (x ∷ others); due = d }
+  pub lone-is : loneAt s i ≡ record { circle = x ∷ others; first = far; start = place (s (rc START) i) (x ∷ others); due = d; why = none }
 
 pub loop : (s : Store) → Sound s → (i x : ℕ) (d : Due) → Closed s i → s (rc PRESENT) i ≡ x → dueAt s i ≡ d → inLoop d ≡ true → Loop s i x d
 loop s o i x d c px m h =
@@ -146,7 +147,7 @@ loop s o i x d c px m h =
     going done e = let y : _≡_ {A = ℕ} 0 1 = cc in absurd (omega arith)
 
     go : (due : Due) → inLoop due ≡ true → (l : List ℕ) (f : ℕ) → walk (s (pt NEXT)) (s (rc PRESENT) i) ≡ s (rc PRESENT) i ∷ l → place (s (rc FIRST) i) (s (rc PRESENT) i ∷ l) ≡ some f
-        → loneDue s i due ≡ record { circle = s (rc PRESENT) i ∷ l; first = f; start = place (s (rc START) i) (s (rc PRESENT) i ∷ l); due = due }
+        → loneDue s i due ≡ record { circle = s (rc PRESENT) i ∷ l; first = f; start = place (s (rc START) i) (s (rc PRESENT) i ∷ l); due = due; why = none }
     go validity e l f w p = let y : _≡_ {A = ℕ} 0 1 = cc in absurd (omega arith)
     go removal e l f w p = rw w (cc)
     go triangle e l f w p = let y : _≡_ {A = ℕ} 0 1 = cc in absurd (omega arith)

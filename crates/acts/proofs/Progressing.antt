@@ -4,7 +4,7 @@ use mathlib.Core.Path.{_≡_, refl, ap, _∙_, sym, subst}
 use mathlib.Core.Logic.{_≢_, inl, inr}
 use mathlib.Core.Bool.{Bool, true, false}
 use mathlib.Core.List.{List, [], _∷_, _++_}
-use mathlib.Core.Option.{Option, some}
+use mathlib.Core.Option.{Option, none, some}
 use native.Mathlib.Omega.{arith}
 use lib.ListN.{length}
 use borrow.Author.Tests.{eq-eqb}
@@ -15,14 +15,15 @@ use Rattle.rings.specs.Circle.{omap, ahead, turn}
 use Rattle.rings.specs.Count.{occ}
 use Rattle.rings.specs.Links.{Linked}
 use Rattle.rings.specs.Place.{place}
-use Rattle.rings.specs.Progress.{Ring, Due, tidyAt, tidy, resting, validity, removal, triangle, split, done}
+use Rattle.rings.specs.Progress.{Ring, Due, tidyAt, tidy, resting, gone, validity, removal, triangle, split, done, Discard, atValidity, whileRemoving, atSplit}
 use Rattle.rings.specs.Walk.{walk}
 use Rattle.rings.specs.Whole.{Whole}
 use Rattle.lone.specs.Act.{discard, moveOn, toFirst, apply}
 use Rattle.store.proofs.Keeping.{Local, local-kept, once-same, sound-after}
 use Rattle.store.proofs.Soundness.{whole, first-on}
 use Rattle.store.proofs.Storing.{unwritten, hit}
-use Rattle.store.specs.Field.{RecordCol, pt, rc, ct, X, Y, NEXT, PREV, REC, FIRST, MARK, PRESENT, START, POINTS, RECORDS, NONE}
+use Rattle.store.specs.Field.{RecordCol, pt, rc, ct, X, Y, NEXT, PREV, REC, FIRST, MARK, PRESENT, START, REASON, POINTS, RECORDS, NONE}
+use Rattle.store.specs.Reason.{JOINED, reasonNumber, discardOf, isKept}
 use Rattle.store.specs.Sound.{pts, recs, ringless, ringAt, dueAt, markOf, Closed, loneDue, loneAt}
 use Rattle.store.specs.Good.{PointIn, Good, Sound}
 use Rattle.store.specs.Words.{Store}
@@ -73,6 +74,22 @@ module _ (s s′ : Store) (i : ℕ) (R : OnRecord s s′ i) where
       outside : (k : ℕ) → pts s ≤ k → occ k (ringAt s i) ≤ 1
       outside k l = whole s o i h .once k
 
+-- the rule that discarded a ring, as it is kept
+pub discard-reason : (y : Discard) → discardOf (reasonNumber y) ≡ some y
+discard-reason atValidity = refl
+discard-reason whileRemoving = refl
+discard-reason atSplit = refl
+
+discard-kept : (y : Discard) → isKept (reasonNumber y) ≡ true
+discard-kept atValidity = refl
+discard-kept whileRemoving = refl
+discard-kept atSplit = refl
+
+not-joined : (y : Discard) → reasonNumber y ≢ JOINED
+not-joined atValidity e = omega arith
+not-joined whileRemoving e = omega arith
+not-joined atSplit e = omega arith
+
 -- the circle seen from the next place
 pub turned : (n p : ℕ → ℕ) (x : ℕ) (xs : List ℕ) → Linked n p (x ∷ xs) → (l : List ℕ) × (turn (x ∷ xs) ≡ n x ∷ l)
 turned n p x [] w = ([], ap (λ (y : ℕ). y ∷ []) (sym (w .0)))
@@ -80,15 +97,15 @@ turned n p x (y ∷ ys) w = (ys ++ (x ∷ []), ap (λ (z : ℕ). z ∷ ys ++ (x 
 
 -- outside the loops the lone ring is the ring from the first point
 pub rested : (s : Store) (i : ℕ) (d : Due) → inLoop d ≡ false → (l : List ℕ) → ringless s i ≡ false → dueAt s i ≡ d → walk (s (pt NEXT)) (s (rc FIRST) i) ≡ s (rc FIRST) i ∷ l
-    → loneAt s i ≡ resting d (s (rc FIRST) i ∷ l)
+    → loneAt s i ≡ resting d none (s (rc FIRST) i ∷ l)
 rested s i d h l r m w = rw (r, m) (go d h)
   where
-    go : (due : Due) → inLoop due ≡ false → loneDue s i due ≡ resting due (s (rc FIRST) i ∷ l)
-    go validity e = ap (resting validity) w
+    go : (due : Due) → inLoop due ≡ false → loneDue s i due ≡ resting due none (s (rc FIRST) i ∷ l)
+    go validity e = ap (resting validity none) w
     go removal e = let y : _≡_ {A = ℕ} 0 1 = cc in absurd (omega arith)
-    go triangle e = ap (resting triangle) w
+    go triangle e = ap (resting triangle none) w
     go split e = let y : _≡_ {A = ℕ} 0 1 = cc in absurd (omega arith)
-    go done e = ap (resting done) w
+    go done e = ap (resting done none) w
 
 module _ (W : Type 0) (s : Store) (o : Sound s) (i : ℕ) (c : Closed s i) where
   module _ (d : Due) where
@@ -123,7 +140,7 @@ module _ (W : Type 0) (s : Store) (o : Sound s) (i : ℕ) (c : Closed s i) where
           flags = refl;
           cut-from = refl;
           start-is = inr (record { known = c .known; same = refl; looped = λ k. (c, b .looping) });
-          ring = λ h. lone-is s′ i _ _ f st d a ∙ ap (λ (y : List ℕ). tidyAt y f st d) (sym (t .1)) ∙ ap (λ (r : Ring ℕ). tidy (apply (λ (v : W). pts s) (moveOn d) r)) (sym (b .lone-is));
+          ring = λ h. lone-is s′ i _ _ f st d a ∙ ap (λ (y : List ℕ). tidyAt y f st d none) (sym (t .1)) ∙ ap (λ (r : Ring ℕ). tidy (apply (λ (v : W). pts s) (moveOn d) r)) (sym (b .lone-is));
           made = refl;
         }
 
@@ -135,7 +152,7 @@ module _ (W : Type 0) (s : Store) (o : Sound s) (i : ℕ) (c : Closed s i) where
         let s′ : Store = onStore s (toFirstWrites s i d) in
         let x : ℕ = s (rc FIRST) i in
         let b : Seen (s (pt NEXT)) (s (pt PREV)) (pts s) (ringAt s i) x = seen _ _ (pts s) (ringAt s i) x (o .few-points) (whole s o i (c .known)) (first-on s i (c .ringed)) in
-        let q : loneAt s i ≡ resting d₀ (x ∷ b .others) = rested s i d₀ h (b .others) (c .ringed) m (b .walked) in
+        let q : loneAt s i ≡ resting d₀ none (x ∷ b .others) = rested s i d₀ h (b .others) (c .ringed) m (b .walked) in
         let a : Positioned s′ i x (b .others) 0 (some 0) d =
         record {
           few = o .few-points;
@@ -157,15 +174,16 @@ module _ (W : Type 0) (s : Store) (o : Sound s) (i : ℕ) (c : Closed s i) where
           made = refl;
         }
 
-  discards : OnRecord s (onStore s (discardWrites i)) i
-  discards = record { counts = λ f. refl; points = λ f. refl; records = λ f j n. unwritten s (discardWrites i) (rc f) j (inr n, (inr n, tt)) }
+  discards : (y : Discard) → OnRecord s (onStore s (discardWrites i y)) i
+  discards y = record { counts = λ f. refl; points = λ f. refl; records = λ f j n. unwritten s (discardWrites i y) (rc f) j (inr n, (inr n, (inr n, tt))) }
 
-  pub discard-steps : ActDone {W = W} s (onStore s (discardWrites i)) i discard
-  discard-steps =
-      let s′ : Store = onStore s (discardWrites i) in
+  pub discard-steps : (y : Discard) → ActDone {W = W} s (onStore s (discardWrites i y)) i (discard y)
+  discard-steps y =
+      let s′ : Store = onStore s (discardWrites i y) in
       let e : s′ (rc FIRST) i ≡ NONE = hit i NONE (s (rc FIRST) i) in
       let n : ringless s′ i ≡ true = eq-eqb (s′ (rc FIRST) i) NONE e in
       let r : ringAt s′ i ≡ [] = rw n refl in
+      let w : s′ (rc REASON) i ≡ reasonNumber y = hit i (reasonNumber y) (s (rc REASON) i) in
       let g : Good s′ i =
       record {
         linked = rw r tt;
@@ -173,15 +191,16 @@ module _ (W : Type 0) (s : Store) (o : Sound s) (i : ℕ) (c : Closed s i) where
         owner = o .good i (c .known) .owner;
         meant = λ z. absurd (no-ring (z .ringed) n);
         going = λ z q. absurd (no-ring (z .ringed) n);
+        told = λ z. record { kept = ap isKept w ∙ discard-kept y; taker = λ q. absurd (not-joined y (sym w ∙ q)) };
       } in
       record {
-        kept = local-kept s s′ o i (c .known) (local s s′ i discards);
-        sound = still-sound s s′ i discards o (c .known) g (λ k. omega (arith, ap (occ k) r));
+        kept = local-kept s s′ o i (c .known) (local s s′ i (discards y));
+        sound = still-sound s s′ i (discards y) o (c .known) g (λ k. omega (arith, ap (occ k) r));
         points = omega arith;
         flags = refl;
         cut-from = refl;
         start-is = inr (record { known = c .known; same = refl; looped = λ k. absurd (no-ring (k .0 .ringed) n) });
-        ring = λ h. rw n refl;
+        ring = λ h. rw n (ap gone (ap discardOf w ∙ discard-reason y));
         made = refl;
       }
     where

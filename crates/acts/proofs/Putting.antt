@@ -4,7 +4,7 @@ use mathlib.Core.Path.{_≡_, refl, ap, _∙_, sym, subst}
 use mathlib.Core.Logic.{_≢_, inl, inr}
 use mathlib.Core.Bool.{true, false, cond}
 use mathlib.Core.List.{List, _∷_}
-use mathlib.Core.Option.{Option}
+use mathlib.Core.Option.{Option, none}
 use native.Mathlib.Omega.{arith}
 use native.Mathlib.Decide.{ℕ-discrete}
 use lib.Dec.{eqb}
@@ -139,8 +139,8 @@ module _ (W : Type 0) (v : W) (s : Store) (o : Sound s) (i : ℕ) (c : Closed s 
         cut-from = refl;
         start-is = inr (record { known = c .known; same = refl; looped = λ k. (c, b .looping) });
         ring = λ started. lone-is (onStore s (cutPutWrites s i vx vy d)) i _ _ _ _ d positioned
-            ∙ ap (λ (st : Option ℕ). tidyAt (lastOf u r ∷ pts s ∷ z ∷ initOf u r) 0 st d) (place-cut true (pts s) (s (rc START) i) (s (rc PRESENT) i) y z u r (q .whole .once) (started v refl))
-            ∙ ap (λ (l : List ℕ). tidy (apply (λ (v : W). pts s) (cut v true false d) (record { circle = s (rc PRESENT) i ∷ l; first = b .far; start = place (s (rc START) i) (s (rc PRESENT) i ∷ l); due = d₀ }))) (sym e)
+            ∙ ap (λ (st : Option ℕ). tidyAt (lastOf u r ∷ pts s ∷ z ∷ initOf u r) 0 st d none) (place-cut true (pts s) (s (rc START) i) (s (rc PRESENT) i) y z u r (q .whole .once) (started v refl))
+            ∙ ap (λ (l : List ℕ). tidy (apply (λ (v : W). pts s) (cut v true false d) (record { circle = s (rc PRESENT) i ∷ l; first = b .far; start = place (s (rc START) i) (s (rc PRESENT) i ∷ l); due = d₀; why = none }))) (sym e)
             ∙ ap (λ (R : Ring ℕ). tidy (apply (λ (v : W). pts s) (cut v true false d) R)) (sym (b .lone-is));
         made = refl;
       }

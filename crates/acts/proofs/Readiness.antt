@@ -3,7 +3,7 @@ use Prim.Native.Nat.{ℕ, suc, _<_}
 use mathlib.Core.Path.{_≡_, refl, sym, subst}
 use mathlib.Core.Bool.{Bool, true, false, cond, not, _||_}
 use mathlib.Core.List.{List, [], _∷_, map}
-use mathlib.Core.Option.{Option}
+use mathlib.Core.Option.{Option, none}
 use native.Mathlib.Omega.{arith}
 use lib.ListN.{length}
 use Rattle.rings.proofs.Counting.{occ-head, occ-lastOf}
@@ -12,7 +12,7 @@ use Rattle.rings.proofs.Walking.{Seen, seen}
 use Rattle.rings.specs.Circle.{lastOf, back, headOr, omap, ahead, oneOrThree, cutCircle}
 use Rattle.rings.specs.Count.{occ}
 use Rattle.rings.specs.Place.{isHere, place}
-use Rattle.rings.specs.Progress.{Ring, Due, validity, removal, triangle, split, done, mapRing, resting, isDone}
+use Rattle.rings.specs.Progress.{Ring, Due, validity, removal, triangle, split, done, atValidity, whileRemoving, atSplit, mapRing, resting, isDone}
 use Rattle.lone.specs.Lone.{Geo, isZero, actOf, decide, removalTurn, splitTurn, doSplitOp, isValidClosedPath, tooSmall, keepsOffcut}
 use Rattle.lone.specs.Act.{discard, dropPoint, moveOn, toFirst, double, cut}
 use Rattle.store.proofs.Soundness.{whole, first-on}
@@ -30,9 +30,9 @@ use Rattle.acts.specs.Rep.{inLoop}
 use Rattle.acts.specs.Value.{value}
 
 module _ {P : Type 0} (G : Geo P) (f : Coding P) (Λ : Laws G f) (s : Store) (o : Sound s) (i : ℕ) (c : Closed s i) where
-  begins : (b : Bool) → dueAt s i ≡ validity → Ready f s i (cond b (toFirst removal) discard)
+  begins : (b : Bool) → dueAt s i ≡ validity → Ready f s i (cond b (toFirst removal) (discard atValidity))
   begins true m = to-go-first validity removal m refl
-  begins false m = to-discard
+  begins false m = to-discard atValidity
 
   module _ (m : dueAt s i ≡ removal) (b : Loop s i (s (rc PRESENT) i) removal) where
     drops : (xs : List ℕ) → b .others ≡ xs → isValidClosedPath G (map (value (f .of) s) xs) ≡ true → Ready f s i dropPoint
@@ -47,9 +47,9 @@ module _ {P : Type 0} (G : Geo P) (f : Coding P) (Λ : Laws G f) (s : Store) (o 
         let x : P = value (f .of) s (s (rc PRESENT) i) in
         shape (G .removable (lastOf x xs) x (headOr x xs)) (isValidClosedPath G xs) (cond (isHere (omap (ahead (suc (length xs))) st)) triangle removal) (drops (b .others) refl)
       where
-        shape : (c₁ c₂ : Bool) (d : Due) → (c₂ ≡ true → Ready f s i dropPoint) → Ready f s i (cond c₁ (cond c₂ dropPoint discard) (moveOn d))
+        shape : (c₁ c₂ : Bool) (d : Due) → (c₂ ≡ true → Ready f s i dropPoint) → Ready f s i (cond c₁ (cond c₂ dropPoint (discard whileRemoving)) (moveOn d))
         shape true true d h = h refl
-        shape true false d h = to-discard
+        shape true false d h = to-discard whileRemoving
         shape false c₂ d h = to-move removal d m refl
 
   module _ (m : dueAt s i ≡ split) (b : Loop s i (s (rc PRESENT) i) split) where
@@ -89,9 +89,9 @@ module _ {P : Type 0} (G : Geo P) (f : Coding P) (Λ : Laws G f) (s : Store) (o 
         in-p : Codes f (lastOf (value (f .of) s u) (map (value (f .of) s) r))
         in-p = subst (Codes f) (map-lastOf (value (f .of) s) u r) (on (lastOf u r) (omega (arith, occ-lastOf u r)))
 
-        shape : (c₁ c₂ sm put off : Bool) (d₁ d₂ d₃ : Due) (v : P) → (c₁ ≡ true → Codes f v) → Ready f s i (cond c₁ (cond c₂ (double (value (f .of) s z) d₁) (cond sm discard (cut v put off d₂))) (moveOn d₃))
+        shape : (c₁ c₂ sm put off : Bool) (d₁ d₂ d₃ : Due) (v : P) → (c₁ ≡ true → Codes f v) → Ready f s i (cond c₁ (cond c₂ (double (value (f .of) s z) d₁) (cond sm (discard atSplit) (cut v put off d₂))) (moveOn d₃))
         shape true true sm put off d₁ d₂ d₃ v h = to-double split d₁ b y (z ∷ u ∷ r) e (value (f .of) s z) in-z
-        shape true false true put off d₁ d₂ d₃ v h = to-discard
+        shape true false true put off d₁ d₂ d₃ v h = to-discard atSplit
         shape true false false put off d₁ d₂ d₃ v h = to-cut split d₂ b y z u r e v (h refl) put off
         shape false c₂ sm put off d₁ d₂ d₃ v h = to-move split d₃ m refl
 
@@ -102,7 +102,7 @@ module _ {P : Type 0} (G : Geo P) (f : Coding P) (Λ : Laws G f) (s : Store) (o 
       first : Seen (s (pt NEXT)) (s (pt PREV)) (pts s) (ringAt s i) (s (rc FIRST) i)
       first = seen _ _ (pts s) (ringAt s i) (s (rc FIRST) i) (o .few-points) (whole s o i (c .known)) (first-on s i (c .ringed))
 
-      rest : (d : Due) → inLoop d ≡ false → dueAt s i ≡ d → loneAt s i ≡ resting d (s (rc FIRST) i ∷ first .others)
+      rest : (d : Due) → inLoop d ≡ false → dueAt s i ≡ d → loneAt s i ≡ resting d none (s (rc FIRST) i ∷ first .others)
       rest d h m = rested s i d h (first .others) (c .ringed) m (first .walked)
 
       go : (d : Due) → dueAt s i ≡ d → isDone d ≡ false → Ready f s i (actOf G (mapRing (value (f .of) s) (loneAt s i)))

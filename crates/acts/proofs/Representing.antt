@@ -23,8 +23,9 @@ use Rattle.lone.specs.Order.{machine}
 use Rattle.lone.specs.Act.{Act, apply, offcut, takesPoints, ringsNew, offcutsNew}
 use Rattle.store.proofs.Keeping.{Kept, ring-other, lone-other}
 use Rattle.store.proofs.Soundness.{from-first, present-on}
-use Rattle.store.specs.Field.{pt, rc, NEXT, PREV, FLAGS, FIRST, MARK, PRESENT, START, CUT}
+use Rattle.store.specs.Field.{pt, rc, NEXT, PREV, FLAGS, FIRST, MARK, PRESENT, START, CUT, REASON}
 use Rattle.store.specs.Sound.{pts, recs, ringless, ringAt, isOpen, dueAt, loneDue, loneAt}
+use Rattle.store.specs.Reason.{discardOf}
 use Rattle.store.specs.Good.{Sound}
 use Rattle.store.specs.Words.{Store}
 use Rattle.acts.specs.InStep.{orNone, Holds, no-ring, an-open, a-closed, InStep}
@@ -102,7 +103,7 @@ lone-points s o i h closed k = go (ringless s i) refl
         subst (λ (c : List ℕ). 0 < occ k c) (from-first s i e) (subst (λ (n : ℕ). 0 < n) (t .occs k) (subst (λ (c : List ℕ). 0 < occ k c) (t .walked) p))
     by e done m p = p
 
-    go : (b : Bool) → ringless s i ≡ b → 0 < occ k (cond b gone (loneDue s i (dueAt s i)) .circle) → 0 < occ k (cond b [] (walk (s (pt NEXT)) (s (rc FIRST) i)))
+    go : (b : Bool) → ringless s i ≡ b → 0 < occ k (cond b (gone (discardOf (s (rc REASON) i))) (loneDue s i (dueAt s i)) .circle) → 0 < occ k (cond b [] (walk (s (pt NEXT)) (s (rc FIRST) i)))
     go true e p = p
     go false e p = by e (dueAt s i) refl p
 

@@ -18,7 +18,8 @@ use Rattle.lone.specs.Lone.{Geo, actOf, offcutRing, takesRing}
 use Rattle.lone.specs.Order.{machine}
 use Rattle.lone.specs.Act.{Act, stay, discard, dropPoint, moveOn, toFirst, double, cut, offcut, takesPoints, ringsNew}
 use Rattle.lone.specs.Forest as forest
-use Rattle.store.specs.Field.{rc, START, CUT, LENGTH}
+use Rattle.store.specs.Field.{rc, START, CUT, REASON, LENGTH}
+use Rattle.store.specs.Reason.{discardOf}
 use Rattle.store.specs.Sound.{pts, recs, ringless, isOpen, dueAt, Closed, loneDue, loneAt}
 use Rattle.store.specs.Good.{Sound}
 use Rattle.store.specs.Words.{Store, view}
@@ -52,7 +53,7 @@ module _ {P : Type 0} (G : Geo P) (f : Coding P) where
   -- an act cuts off as many rings as it takes records
   pub cut-count : (act : Act P) (R : Ring P) → length (toList (offcut (λ (v : P). v) act R)) ≡ takesRecord act
   cut-count stay R = refl
-  cut-count discard R = refl
+  cut-count (discard y) R = refl
   cut-count dropPoint R = refl
   cut-count (moveOn d) R = refl
   cut-count (toFirst d) R = refl
@@ -73,7 +74,7 @@ module _ {P : Type 0} (G : Geo P) (f : Coding P) where
     pub live-is : live s i ≡ true → Closed s i × (isDone (dueAt s i) ≡ false)
     live-is = by (ltb i (recs s)) (isOpen s i) (ringless s i) refl refl refl
       where
-        by : (a b e : Bool) → ltb i (recs s) ≡ a → isOpen s i ≡ b → ringless s i ≡ e → a && (not b && not (isDone (cond e gone (loneDue s i (dueAt s i)) .due))) ≡ true → Closed s i × (isDone (dueAt s i) ≡ false)
+        by : (a b e : Bool) → ltb i (recs s) ≡ a → isOpen s i ≡ b → ringless s i ≡ e → a && (not b && not (isDone (cond e (gone (discardOf (s (rc REASON) i))) (loneDue s i (dueAt s i)) .due))) ≡ true → Closed s i × (isDone (dueAt s i) ≡ false)
         by true true e l o r h = absurd (no-way h)
         by true false true l o r h = absurd (no-way h)
         by true false false l o r h = (record { known = ltb-true i (recs s) l; ringed = r; closed = o }, not-true (isDone (dueAt s i)) (rw (due-is s i (dueAt s i)) at h))
@@ -167,7 +168,7 @@ module _ {P : Type 0} (G : Geo P) (f : Coding P) where
 
   -- an act that puts a point into its ring is one of a loop
   puts-in-loop : (s : Store) (i : ℕ) (act : Act P) → Ready f s i act → (v : P) → ringsNew act ≡ some v → inLoop (dueAt s i) ≡ true
-  puts-in-loop s i act to-discard v e = let z : _≡_ {A = ℕ} 0 1 = cc in absurd (omega arith)
+  puts-in-loop s i act (to-discard y) v e = let z : _≡_ {A = ℕ} 0 1 = cc in absurd (omega arith)
   puts-in-loop s i act (to-move d₀ d h g) v e = let z : _≡_ {A = ℕ} 0 1 = cc in absurd (omega arith)
   puts-in-loop s i act (to-go-first d₀ d h g) v e = let z : _≡_ {A = ℕ} 0 1 = cc in absurd (omega arith)
   puts-in-loop s i act (to-drop h b z w r g) v e = let y : _≡_ {A = ℕ} 0 1 = cc in absurd (omega arith)

@@ -18,7 +18,7 @@ module _ {P : Type 0} where
   -- the records that an act takes
   abbrev pub takesRecord : Act P → ℕ
   takesRecord stay = 0
-  takesRecord discard = 0
+  takesRecord (discard y) = 0
   takesRecord dropPoint = 0
   takesRecord (moveOn d) = 0
   takesRecord (toFirst d) = 0
@@ -40,7 +40,7 @@ module _ {P : Type 0} (f : Coding P) where
   -- the words after it
   abbrev pub afterW : List ℕ → ℕ → Act P → List ℕ
   afterW w i stay = w
-  afterW w i discard = onWords w (discardWrites i)
+  afterW w i (discard y) = onWords w (discardWrites i y)
   afterW w i dropPoint = onWords w (dropWrites (view w) i)
   afterW w i (moveOn d) = onWords w (moveWrites (view w) i d)
   afterW w i (toFirst d) = onWords w (toFirstWrites (view w) i d)

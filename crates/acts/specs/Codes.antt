@@ -18,7 +18,7 @@ module _ {P : Type 0} (f : Coding P) where
   -- the store after an act on record i
   abbrev pub after : Store → ℕ → Act P → Store
   after s i stay = s
-  after s i discard = onStore s (discardWrites i)
+  after s i (discard y) = onStore s (discardWrites i y)
   after s i dropPoint = onStore s (dropWrites s i)
   after s i (moveOn d) = onStore s (moveWrites s i d)
   after s i (toFirst d) = onStore s (toFirstWrites s i d)

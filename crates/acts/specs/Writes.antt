@@ -4,8 +4,9 @@ use Prim.Native.Nat.{ℕ, suc}
 use mathlib.Core.Bool.{cond}
 use mathlib.Core.List.{List, [], _∷_, _++_}
 use lib.Dec.{eqb}
-use Rattle.rings.specs.Progress.{Due, done}
-use Rattle.store.specs.Field.{pt, rc, ct, NEXT, PREV, REC, OWNER, FIRST, MARK, PRESENT, START, RECORDS, NONE}
+use Rattle.rings.specs.Progress.{Due, done, Discard}
+use Rattle.store.specs.Field.{pt, rc, ct, NEXT, PREV, REC, OWNER, FIRST, MARK, PRESENT, START, REASON, RECORDS, NONE}
+use Rattle.store.specs.Reason.{reasonNumber}
 use Rattle.store.specs.Sound.{pts, recs, markOf}
 use Rattle.store.specs.Words.{Store, Write, write}
 use Rattle.store.specs.Primitive.{pointWrites, linkWrites, unlinkWrites, startWrites}
@@ -18,9 +19,9 @@ moveWrites s i d = write (rc PRESENT) i (s (pt NEXT) (s (rc PRESENT) i)) ∷ wri
 abbrev pub toFirstWrites : Store → ℕ → Due → List Write
 toFirstWrites s i d = write (rc PRESENT) i (s (rc FIRST) i) ∷ write (rc START) i (s (rc FIRST) i) ∷ write (rc MARK) i (markOf d) ∷ []
 
--- the record is emptied
-abbrev pub discardWrites : ℕ → List Write
-discardWrites i = write (rc FIRST) i NONE ∷ write (rc MARK) i (markOf done) ∷ []
+-- the record is emptied, and keeps which rule said so
+abbrev pub discardWrites : ℕ → Discard → List Write
+discardWrites i y = write (rc FIRST) i NONE ∷ write (rc MARK) i (markOf done) ∷ write (rc REASON) i (reasonNumber y) ∷ []
 
 -- a new point k between p and n
 abbrev pub putWrites : ℕ → ℕ → ℕ → ℕ → ℕ → ℕ → List Write

@@ -20,9 +20,9 @@ use Rattle.store.specs.Sound.{ringless, ringAt, dueOf}
 use Rattle.store.specs.Good.{PointIn, Sound}
 use Rattle.store.proofs.Soundness.{whole, first-on}
 use Rattle.audit.specs.declared.Verdict.the-variants.{Passed}
-use Rattle.audit.specs.Tests.{reachedBy, offTable, noSuch, noSuchOf, loose, shared, misplaced, testsOf}
+use Rattle.audit.specs.Tests.{reachedBy, offTable, noSuch, noSuchOf, lostTaker, loose, shared, misplaced, untold, testsOf}
 use Rattle.audit.proofs.Reaching.{only-reached}
-use Rattle.audit.proofs.Saying.{all-none, none-reached, table-on, such-not, tied-not, owned-not, alone-not, misplaced-not, Passing, passing, passed}
+use Rattle.audit.proofs.Saying.{all-none, none-reached, table-on, such-not, tied-not, owned-not, taker-not, alone-not, misplaced-not, untold-not, Passing, passing, passed}
 use Rattle.audit.proofs.Deciding.{passing-sound}
 
 module _ (w : List ℕ) (s : Sound (view w)) where
@@ -119,9 +119,11 @@ module _ (w : List ℕ) (s : Sound (view w)) where
         placed = none-reached w (offTable w) on-table;
         numbered = none-reached w (noSuch w) numbered;
         owned = all-none (recordsOf w) (noSuchOf w) (λ i h. owned-not w i (s .good i h .owner) (first-is i h));
+        taken = all-none (recordsOf w) (lostTaker w) (λ i h. taker-not w i (s .good i h .told));
         tied = none-reached w (loose w) tied;
         apart = all-none (recordsOf w) (shared w) (λ j h. alone-not w j (apart j h));
         meant = all-none (recordsOf w) (misplaced w) placed;
+        told-all = all-none (recordsOf w) (untold w) (λ i h. untold-not w i (s .good i h .told));
       }
 
 pub passed-sound : (w : List ℕ) → testsOf w ≡ Passed → Sound (view w)

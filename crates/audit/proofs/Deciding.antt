@@ -23,9 +23,9 @@ use Rattle.store.specs.Named.{pointsOf, recordsOf, nextOf, prevOf, firstOf, pro
 use Rattle.store.specs.Sound.{ringless, ringAt, dueOf}
 use Rattle.store.specs.Good.{Good, Sound}
 use Rattle.store.proofs.Soundness.{whole}
-use Rattle.audit.specs.Tests.{isIn, reachedBy, offTable, noSuch, noSuchOf, loose, shared, misplaced}
+use Rattle.audit.specs.Tests.{isIn, reachedBy, offTable, noSuch, noSuchOf, lostTaker, loose, shared, misplaced, untold}
 use Rattle.audit.proofs.Reaching.{Reached, reached, in-true, in-false}
-use Rattle.audit.proofs.Saying.{none-of, reached-none, on-table, such, tied, owned, alone, mark-low, place-on, Passing, Placed, Numbered, Tied}
+use Rattle.audit.proofs.Saying.{none-of, reached-none, on-table, such, tied, owned, told, alone, mark-low, place-on, Passing, Placed, Numbered, Tied}
 
 -- what holds of the first of a ring, and with each point of its next, holds of all
 along : (n p : ℕ → ℕ) (m : ℕ) (P : ℕ → Type 0) → ((k : ℕ) → P k → n k < m → P (n k)) → (a : ℕ) (l : List ℕ) (b : ℕ) → Seg n p (a ∷ l ++ (b ∷ [])) → ((k : ℕ) → 0 < occ k (a ∷ l) → k < m) → P a → (k : ℕ) → 0 < occ k (a ∷ l) → P k
@@ -204,6 +204,7 @@ module _ (w : List ℕ) (t : Passing w) where
         owner = owned w i (none-of (recordsOf w) (noSuchOf w) (t .owned) i h) .owner;
         meant = λ c. mark-low w i (c .ringed) (c .closed) a;
         going = λ c e. place-on w i (c .ringed) (c .closed) a (not-done (progressOf w i) e);
+        told = λ e. told w i e (none-of (recordsOf w) (lostTaker w) (t .taken) i h) (none-of (recordsOf w) (untold w) (t .told-all) i h);
       }
 
   pub passing-sound : Sound (view w)

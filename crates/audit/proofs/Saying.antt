@@ -13,10 +13,12 @@ use Rattle.job.specs.declared.refusal.Refusal.the-variants.{Crowded, OffTheTabl
 use Rattle.rings.specs.Count.{occ}
 use Rattle.store.specs.Field.{pt, X, Y, NONE}
 use Rattle.store.specs.Words.{view}
-use Rattle.store.specs.Named.{pointsOf, recordsOf, nextOf, prevOf, recOf, ownerOf, firstOf, progressOf, presentOf}
+use Rattle.store.specs.Named.{pointsOf, recordsOf, nextOf, prevOf, recOf, ownerOf, firstOf, progressOf, presentOf, keptOf, takerOf}
+use Rattle.store.specs.Reason.{JOINED, isKept}
+use Rattle.store.specs.Good.{Told}
 use Rattle.store.specs.Sound.{ringless, ringAt, isOpen}
 use Rattle.audit.specs.declared.Verdict.the-variants.{Passed, Refused}
-use Rattle.audit.specs.Tests.{isIn, anyBelow, anyReached, anyRecord, reachedBy, crowded, offTable, noSuch, noSuchOf, namesNothing, loose, shared, misplaced, testsOf}
+use Rattle.audit.specs.Tests.{isIn, anyBelow, anyReached, anyRecord, reachedBy, crowded, offTable, noSuch, noSuchOf, namesNothing, lostTaker, loose, shared, misplaced, untold, testsOf}
 use Rattle.audit.proofs.Reaching.{in-true, in-false, true-in, false-in}
 
 clash : {A : Type 0} → _≡_ {A = Bool} true false → A
@@ -146,6 +148,31 @@ module _ (w : List ℕ) (i : ℕ) where
   pub owned-not : (ownerOf w i ≡ NONE) ⊎ (ownerOf w i < recordsOf w) → (firstOf w i ≡ NONE) ⊎ (firstOf w i < pointsOf w) → noSuchOf w i ≡ false
   owned-not h g = both-false (namesNothing (recordsOf w) (ownerOf w i)) (namesNothing (pointsOf w) (firstOf w i)) (names-not (recordsOf w) (ownerOf w i) h) (names-not (pointsOf w) (firstOf w i) g)
 
+  -- of a record without a ring: why it has none
+  module _ (r : ringless (view w) i ≡ true) where
+    pub told : lostTaker w i ≡ false → untold w i ≡ false → Told (view w) i
+    told e u =
+        record {
+          kept = not-false (isKept (keptOf w i)) (and-true (ringless (view w) i) (not (isKept (keptOf w i))) u r);
+          taker = λ z. not-below (takerOf w i) (recordsOf w)
+              (and-true (eqb (keptOf w i) JOINED) (not (ltb (takerOf w i) (recordsOf w))) (and-true (ringless (view w) i) (eqb (keptOf w i) JOINED && not (ltb (takerOf w i) (recordsOf w))) e r) (eq-eqb (keptOf w i) JOINED z));
+        }
+
+  pub taker-not : (ringless (view w) i ≡ true → Told (view w) i) → lostTaker w i ≡ false
+  taker-not h = go (ringless (view w) i) refl (ℕ-discrete (keptOf w i) JOINED)
+    where
+      go : (b : Bool) → ringless (view w) i ≡ b → Dec (keptOf w i ≡ JOINED) → (b && (eqb (keptOf w i) JOINED && not (ltb (takerOf w i) (recordsOf w)))) ≡ false
+      go false e d = refl
+      go true e (yes z) = rw (eq-eqb (keptOf w i) JOINED z, lt-ltb (takerOf w i) (recordsOf w) (h e .taker z))
+      go true e (no z) = rw (ne-eqb (keptOf w i) JOINED z)
+
+  pub untold-not : (ringless (view w) i ≡ true → Told (view w) i) → untold w i ≡ false
+  untold-not h = go (ringless (view w) i) refl
+    where
+      go : (b : Bool) → ringless (view w) i ≡ b → (b && not (isKept (keptOf w i))) ≡ false
+      go false e = refl
+      go true e = ap not (h e .kept)
+
   pub alone : shared w i ≡ false → occ (firstOf w i) (reachedBy w i) ≡ 0
   alone e = false-in (firstOf w i) (reachedBy w i) e
 
@@ -200,28 +227,34 @@ module _ (w : List ℕ) where
     pub placed : anyReached w (offTable w) ≡ false
     pub numbered : anyReached w (noSuch w) ≡ false
     pub owned : anyRecord w (noSuchOf w) ≡ false
+    pub taken : anyRecord w (lostTaker w) ≡ false
     pub tied : anyReached w (loose w) ≡ false
     pub apart : anyRecord w (shared w) ≡ false
     pub meant : anyRecord w (misplaced w) ≡ false
+    pub told-all : anyRecord w (untold w) ≡ false
 
   pub passing : testsOf w ≡ Passed → Passing
   unfolding testsOf
   passing e =
-      let o = all-off (crowded w) (anyReached w (offTable w)) (anyReached w (noSuch w) || anyRecord w (noSuchOf w)) (anyReached w (loose w)) (anyRecord w (shared w) || anyRecord w (misplaced w)) e in
+      let o = all-off (crowded w) (anyReached w (offTable w)) (anyReached w (noSuch w) || (anyRecord w (noSuchOf w) || anyRecord w (lostTaker w))) (anyReached w (loose w)) (anyRecord w (shared w) || (anyRecord w (misplaced w) || anyRecord w (untold w))) e in
       let c = or-false (ltb limit.POINTS (pointsOf w)) (ltb limit.RECORDS (recordsOf w)) (o .counts) in
-      let n = or-false (anyReached w (noSuch w)) (anyRecord w (noSuchOf w)) (o .numbers) in
-      let m = or-false (anyRecord w (shared w)) (anyRecord w (misplaced w)) (o .rings) in
+      let n = or-false (anyReached w (noSuch w)) (anyRecord w (noSuchOf w) || anyRecord w (lostTaker w)) (o .numbers) in
+      let t = or-false (anyRecord w (noSuchOf w)) (anyRecord w (lostTaker w)) (n .1) in
+      let m = or-false (anyRecord w (shared w)) (anyRecord w (misplaced w) || anyRecord w (untold w)) (o .rings) in
+      let u = or-false (anyRecord w (misplaced w)) (anyRecord w (untold w)) (m .1) in
       record {
         points = ltb-false limit.POINTS (pointsOf w) (c .0);
         records = ltb-false limit.RECORDS (recordsOf w) (c .1);
         placed = o .coordinates;
         numbered = n .0;
-        owned = n .1;
+        owned = t .0;
+        taken = t .1;
         tied = o .links;
         apart = m .0;
-        meant = m .1;
+        meant = u .0;
+        told-all = u .1;
       }
 
   pub passed : Passing → testsOf w ≡ Passed
   unfolding testsOf
-  passed p = rw (le-ltb limit.POINTS (pointsOf w) (p .points), le-ltb limit.RECORDS (recordsOf w) (p .records), p .placed, p .numbered, p .owned, p .tied, p .apart, p .meant)
+  passed p = rw (le-ltb limit.POINTS (pointsOf w) (p .points), le-ltb limit.RECORDS (recordsOf w) (p .records), p .placed, p .numbered, p .owned, p .taken, p .tied, p .apart, p .meant, p .told-all)

@@ -20,7 +20,7 @@ use Rattle.job.specs.declared.refusal.Refusal.the-variants.{Crowded, OffTheTabl
 use Rattle.audit.specs.declared.Verdict.{Verdict}
 use Rattle.audit.specs.declared.Verdict.the-variants.{Passed, Refused}
 use Rattle.audit.specs.declared.PointTest.the-variants.{Table, Numbers, Links}
-use Rattle.audit.specs.Tests.{isIn, anyBelow, anyRecord, crowded, noSuchOf, misplaced, testsOf}
+use Rattle.audit.specs.Tests.{isIn, anyBelow, anyRecord, crowded, noSuchOf, misplaced, testsOf, lostTaker, untold}
 use Rattle.audit.specs.Marks.{isMarked, markFrom, marksBy, meets, AllMarked, anyMarked, linksOf, passesOf, recordsOnly, pointsTested}
 
 -- ---- the first number below n that fails
@@ -155,7 +155,7 @@ module _ (w : List ℕ) (i f : ℕ) (ef : f ≡ firstOf w i) where
 
 -- ---- the tests together
 
-module _ (w ms : List ℕ) (s a : Bool) (ea : a ≡ (anyMarked w ms Numbers || anyRecord w (noSuchOf w))) where
+module _ (w ms : List ℕ) (s a : Bool) (ea : a ≡ (anyMarked w ms Numbers || (anyRecord w (noSuchOf w) || anyRecord w (lostTaker w)))) where
   pub says-no-such : a ≡ true → Refused NoSuch ≡ linksOf w ms s
   unfolding linksOf
   says-no-such h = rw (sym ea ∙ h)
@@ -169,10 +169,10 @@ module _ (w ms : List ℕ) (s a : Bool) (ea : a ≡ (anyMarked w ms Numbers || a
     unfolding linksOf
     says-shared h k = rw (sym ea ∙ ha, sym eb ∙ h, k)
 
-    module _ (hb : b ≡ false) (hs : s ≡ false) (d : Bool) (ed : d ≡ anyRecord w (misplaced w)) where
-      pub says-misplaced : d ≡ true → Refused Muddled ≡ linksOf w ms s
+    module _ (hb : b ≡ false) (hs : s ≡ false) (d : Bool) (ed : d ≡ (anyRecord w (misplaced w) || anyRecord w (untold w))) where
+      pub says-muddled : d ≡ true → Refused Muddled ≡ linksOf w ms s
       unfolding linksOf
-      says-misplaced h = rw (sym ea ∙ ha, sym eb ∙ hb, hs, sym ed ∙ h)
+      says-muddled h = rw (sym ea ∙ ha, sym eb ∙ hb, hs, sym ed ∙ h)
 
       pub says-passed : d ≡ false → Passed ≡ linksOf w ms s
       unfolding linksOf
@@ -184,16 +184,16 @@ says-off w ms s a e h = rw (sym e ∙ h)
 pub says-links : (w ms : List ℕ) (s a : Bool) (r : Verdict) → a ≡ anyMarked w ms Table → a ≡ false → r ≡ linksOf w ms s → r ≡ passesOf w ms s
 says-links w ms s a r e h g = rw (sym e ∙ h) g
 
-module _ (w : List ℕ) (s a : Bool) (ea : a ≡ anyRecord w (noSuchOf w)) where
+module _ (w : List ℕ) (s a : Bool) (ea : a ≡ (anyRecord w (noSuchOf w) || anyRecord w (lostTaker w))) where
   pub only-no-such : a ≡ true → Refused NoSuch ≡ recordsOnly w s
   only-no-such h = rw (sym ea ∙ h)
 
   pub only-shared : a ≡ false → s ≡ true → Refused Muddled ≡ recordsOnly w s
   only-shared h k = rw (sym ea ∙ h, k)
 
-  module _ (ha : a ≡ false) (hs : s ≡ false) (d : Bool) (ed : d ≡ anyRecord w (misplaced w)) where
-    pub only-misplaced : d ≡ true → Refused Muddled ≡ recordsOnly w s
-    only-misplaced h = rw (sym ea ∙ ha, hs, sym ed ∙ h)
+  module _ (ha : a ≡ false) (hs : s ≡ false) (d : Bool) (ed : d ≡ (anyRecord w (misplaced w) || anyRecord w (untold w))) where
+    pub only-muddled : d ≡ true → Refused Muddled ≡ recordsOnly w s
+    only-muddled h = rw (sym ea ∙ ha, hs, sym ed ∙ h)
 
     pub only-passed : d ≡ false → Passed ≡ recordsOnly w s
     only-passed h = rw (sym ea ∙ ha, hs, sym ed ∙ h)

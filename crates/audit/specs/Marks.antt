@@ -11,11 +11,11 @@ use Rattle.audit.specs.declared.Verdict.{Verdict}
 use Rattle.audit.specs.declared.Verdict.the-variants.{Passed, Refused}
 use Rattle.store.specs.Field.{LENGTH}
 use Rattle.store.specs.Named.{pointsOf, recordsOf, nextOf, firstOf}
-use Rattle.audit.specs.Tests.{anyBelow, anyRecord, offTable, noSuch, loose, noSuchOf, misplaced}
+use Rattle.audit.specs.Tests.{anyBelow, anyRecord, offTable, noSuch, loose, noSuchOf, lostTaker, misplaced, untold}
 use Rattle.audit.specs.declared.PointTest.{PointTest}
 use Rattle.audit.specs.declared.PointTest.the-variants.{Table, Numbers, Links}
 use Rattle.audit.specs.declared.RecordTest.{RecordTest}
-use Rattle.audit.specs.declared.RecordTest.the-variants.{Named, Placed}
+use Rattle.audit.specs.declared.RecordTest.the-variants.{Named, Taken, Placed, Told}
 
 -- a work space whose counts are within the limits
 pub record Counted (w : List ℕ) : Type 0 where
@@ -66,7 +66,9 @@ pub record MarkedFrom (w ms : List ℕ) (a : ℕ) (ms′ : List ℕ) (r : Bool) 
 
 abbrev pub failsOf : RecordTest → List ℕ → ℕ → Bool
 failsOf Named w i = noSuchOf w i
+failsOf Taken w i = lostTaker w i
 failsOf Placed w i = misplaced w i
+failsOf Told w i = untold w i
 
 -- a marked point fails the test
 abbrev pub anyMarked : List ℕ → List ℕ → PointTest → Bool
@@ -75,16 +77,18 @@ anyMarked w ms t = anyBelow (pointsOf w) (λ k. isMarked ms k && fails t w k)
 -- the tests by the marks; whether records share a ring is known by then
 unfoldable pub linksOf : List ℕ → List ℕ → Bool → Verdict
 linksOf w ms shares =
-    cond (anyMarked w ms Numbers || anyRecord w (λ i. noSuchOf w i)) (Refused NoSuch)
+    cond (anyMarked w ms Numbers || (anyRecord w (λ i. noSuchOf w i) || anyRecord w (λ i. lostTaker w i))) (Refused NoSuch)
     (cond (anyMarked w ms Links) (Refused Loose)
-    (cond (shares || anyRecord w (λ i. misplaced w i)) (Refused Muddled) Passed))
+    (cond (shares || (anyRecord w (λ i. misplaced w i) || anyRecord w (λ i. untold w i))) (Refused Muddled) Passed))
 
 abbrev pub passesOf : List ℕ → List ℕ → Bool → Verdict
 passesOf w ms shares = cond (anyMarked w ms Table) (Refused OffTheTable) (linksOf w ms shares)
 
 -- the same where no marked point fails a test
 abbrev pub recordsOnly : List ℕ → Bool → Verdict
-recordsOnly w shares = cond (anyRecord w (λ i. noSuchOf w i)) (Refused NoSuch) (cond (shares || anyRecord w (λ i. misplaced w i)) (Refused Muddled) Passed)
+recordsOnly w shares =
+    cond (anyRecord w (λ i. noSuchOf w i) || anyRecord w (λ i. lostTaker w i)) (Refused NoSuch)
+    (cond (shares || (anyRecord w (λ i. misplaced w i) || anyRecord w (λ i. untold w i))) (Refused Muddled) Passed)
 
 unfoldable pub pointsTested : List ℕ → Verdict
 pointsTested w = passesOf w (marksBy w (recordsOf w)) (anyRecord w (λ i. meets w i))

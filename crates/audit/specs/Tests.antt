@@ -11,7 +11,8 @@ use Rattle.audit.specs.declared.Verdict.{Verdict}
 use Rattle.audit.specs.declared.Verdict.the-variants.{Passed, Refused}
 use Rattle.store.specs.Field.{pt, X, Y, NEXT, NONE}
 use Rattle.store.specs.Words.{view}
-use Rattle.store.specs.Named.{pointsOf, recordsOf, nextOf, prevOf, recOf, ownerOf, firstOf, progressOf, presentOf}
+use Rattle.store.specs.Named.{pointsOf, recordsOf, nextOf, prevOf, recOf, ownerOf, firstOf, progressOf, presentOf, keptOf, takerOf}
+use Rattle.store.specs.Reason.{JOINED, isKept}
 use Rattle.store.specs.Sound.{ringless, ringAt, isOpen}
 
 -- the number stands in the list
@@ -66,6 +67,10 @@ namesNothing n v = not (eqb v NONE) && not (ltb v n)
 abbrev pub noSuchOf : List ℕ → ℕ → Bool
 noSuchOf w i = namesNothing (recordsOf w) (ownerOf w i) || namesNothing (pointsOf w) (firstOf w i)
 
+-- document 02: "a taker's number naming nothing meets 5", of a record without a ring that keeps that it was joined into another
+abbrev pub lostTaker : List ℕ → ℕ → Bool
+lostTaker w i = ringless (view w) i && (eqb (keptOf w i) JOINED && not (ltb (takerOf w i) (recordsOf w)))
+
 -- "links (6)": "next of prev, or prev of next, isn't the point"
 abbrev pub loose : List ℕ → ℕ → Bool
 loose w k = not (eqb (nextOf w (prevOf w k)) k) || not (eqb (prevOf w (nextOf w k)) k)
@@ -80,6 +85,10 @@ misplaced w i =
     not (ringless (view w) i) && not (isOpen (view w) i)
     && (ltb 4 (progressOf w i) || (ltb (progressOf w i) 4 && not (isIn (presentOf w i) (ringAt (view w) i))))
 
+-- document 02: "A ringless record without one of the first five reasons kept meets 7"
+abbrev pub untold : List ℕ → ℕ → Bool
+untold w i = ringless (view w) i && not (isKept (keptOf w i))
+
 -- ---- the tests together, in the paper's order
 
 -- the first that fails
@@ -87,6 +96,6 @@ unfoldable pub testsOf : List ℕ → Verdict
 testsOf w =
     cond (crowded w) (Refused Crowded)
     (cond (anyReached w (λ k. offTable w k)) (Refused OffTheTable)
-    (cond (anyReached w (λ k. noSuch w k) || anyRecord w (λ i. noSuchOf w i)) (Refused NoSuch)
+    (cond (anyReached w (λ k. noSuch w k) || (anyRecord w (λ i. noSuchOf w i) || anyRecord w (λ i. lostTaker w i))) (Refused NoSuch)
     (cond (anyReached w (λ k. loose w k)) (Refused Loose)
-    (cond (anyRecord w (λ i. shared w i) || anyRecord w (λ i. misplaced w i)) (Refused Muddled) Passed))))
+    (cond (anyRecord w (λ i. shared w i) || (anyRecord w (λ i. misplaced w i) || anyRecord w (λ i. untold w i))) (Refused Muddled) Passed))))

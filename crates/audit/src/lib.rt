@@ -2,6 +2,8 @@
 use job::Job;
 use job::refusal::Refusal;
 use store::Col;
+use store::JOINED;
+use store::NO_RING;
 use store::NONE;
 use store::get;
 use store::read;
@@ -12,12 +14,15 @@ ghost use lib.ListN.{length};
 ghost use Rattle.job.specs.Limits as limit;
 ghost use Rattle.store.specs.Field.{LENGTH};
 ghost use Rattle.store.specs.Named.{pointsOf, recordsOf, nextOf, ringOf};
-ghost use Rattle.audit.specs.Tests.{isIn, anyBelow, offTable, noSuch, noSuchOf, namesNothing, loose, misplaced, crowded, anyRecord, testsOf};
+ghost use Rattle.audit.specs.Tests.{isIn, anyBelow, offTable, noSuch, noSuchOf, namesNothing, lostTaker, loose, misplaced, untold, crowded, anyRecord, testsOf};
 ghost use Rattle.audit.specs.declared.PointTest.the-variants.{Numbers};
 ghost use Rattle.audit.specs.Marks.{Counted, isMarked, markFrom, marksBy, AllMarked, fails, faulty, failsOf, Tried, MarkedFrom, anyMarked, linksOf, passesOf, recordsOnly, pointsTested};
 
 // The word of the largest coordinate.
 const FAR: usize = 2 * (Job::COORDINATE as usize);
+
+// The last of the reasons that a record without a ring keeps.
+const LAST: usize = 5;
 
 // What the tests of a work space say.
 pub enum Verdict {
@@ -32,10 +37,12 @@ pub enum PointTest {
     Links,
 }
 
-// A test of a record: its numbers, its progress.
+// A test of a record: its numbers, the record that took it, its progress, why it has no ring.
 pub enum RecordTest {
     Named,
+    Taken,
     Placed,
+    Told,
 }
 
 // Whether a count is above its limit.
@@ -228,6 +235,26 @@ fn no_such_of(w: &[u32], i: usize) -> bool
     a | b
 }
 
+fn lost_taker(w: &[u32], i: usize) -> bool
+    requires { ⌜ LENGTH ≤ length (now w) ⌝ }
+    ensures { λ r. ⌜ r ≡ lostTaker (now (w .entry)) i ⌝ }
+{
+    let n = get(w, Col::Records, 0);
+    let f = read(w, Col::First, i);
+    let r = read(w, Col::Reason, i);
+    let t = read(w, Col::Taker, i);
+    (f == NONE) & ((r == JOINED) & !(t < n))
+}
+
+fn untold(w: &[u32], i: usize) -> bool
+    requires { ⌜ LENGTH ≤ length (now w) ⌝ }
+    ensures { λ r. ⌜ r ≡ untold (now (w .entry)) i ⌝ }
+{
+    let f = read(w, Col::First, i);
+    let r = read(w, Col::Reason, i);
+    (f == NONE) & !((NO_RING <= r) & (r <= LAST))
+}
+
 // Whether k is on the ring that starts at a.
 fn is_on_ring(w: &[u32], a: usize, k: usize) -> bool
     requires { ⌜ LENGTH ≤ length (now w) ⌝ }
@@ -280,8 +307,14 @@ fn record_fails(w: &[u32], t: RecordTest, i: usize) -> bool
         RecordTest::Named => {
             return no_such_of(w, i);
         }
+        RecordTest::Taken => {
+            return lost_taker(w, i);
+        }
         RecordTest::Placed => {
             return misplaced(w, i);
+        }
+        RecordTest::Told => {
+            return untold(w, i);
         }
     }
 }
@@ -305,13 +338,33 @@ pub fn any_record(w: &[u32], t: RecordTest) -> bool
 
 // ---- all tests, in order
 
+// Whether a number of a record names nothing: its owner's, its first point's, or a taker's.
+fn any_unnamed(w: &[u32]) -> bool
+    requires { ⌜ LENGTH ≤ length (now w) ⌝ }
+    ensures { λ r. ⌜ r ≡ (anyRecord (now (w .entry)) (noSuchOf (now (w .entry))) || anyRecord (now (w .entry)) (lostTaker (now (w .entry)))) ⌝ }
+{
+    let b = any_record(w, RecordTest::Named);
+    let c = any_record(w, RecordTest::Taken);
+    b | c
+}
+
 // Whether a number names nothing: of a marked point, or of a record.
 fn any_no_such(w: &[u32], marks: &[u8; Job::POINTS]) -> bool
     requires { ⌜ LENGTH ≤ length (now w) ⌝ }
-    ensures { λ r. ⌜ r ≡ (anyMarked (now (w .entry)) (now (marks .entry)) Numbers || anyRecord (now (w .entry)) (noSuchOf (now (w .entry)))) ⌝ }
+    ensures { λ r. ⌜ r ≡ (anyMarked (now (w .entry)) (now (marks .entry)) Numbers || (anyRecord (now (w .entry)) (noSuchOf (now (w .entry))) || anyRecord (now (w .entry)) (lostTaker (now (w .entry))))) ⌝ }
 {
     let a = any_marked(w, marks, PointTest::Numbers);
-    let b = any_record(w, RecordTest::Named);
+    let b = any_unnamed(w);
+    a | b
+}
+
+// Whether a record's progress is misplaced, or a record without a ring keeps no reason.
+fn any_muddled(w: &[u32]) -> bool
+    requires { ⌜ LENGTH ≤ length (now w) ⌝ }
+    ensures { λ r. ⌜ r ≡ (anyRecord (now (w .entry)) (misplaced (now (w .entry))) || anyRecord (now (w .entry)) (untold (now (w .entry)))) ⌝ }
+{
+    let a = any_record(w, RecordTest::Placed);
+    let b = any_record(w, RecordTest::Told);
     a | b
 }
 
@@ -331,7 +384,7 @@ fn links_of(w: &[u32], marks: &[u8; Job::POINTS], shares: bool) -> Verdict
     if shares {
         return Verdict::Refused(Refusal::Muddled);
     }
-    let d = any_record(w, RecordTest::Placed);
+    let d = any_muddled(w);
     if d {
         return Verdict::Refused(Refusal::Muddled);
     }
@@ -355,14 +408,14 @@ fn records_of(w: &[u32], shares: bool) -> Verdict
     requires { ⌜ LENGTH ≤ length (now w) ⌝ }
     ensures { λ r. ⌜ r ≡ recordsOnly (now (w .entry)) shares ⌝ }
 {
-    let a = any_record(w, RecordTest::Named);
+    let a = any_unnamed(w);
     if a {
         return Verdict::Refused(Refusal::NoSuch);
     }
     if shares {
         return Verdict::Refused(Refusal::Muddled);
     }
-    let d = any_record(w, RecordTest::Placed);
+    let d = any_muddled(w);
     if d {
         return Verdict::Refused(Refusal::Muddled);
     }

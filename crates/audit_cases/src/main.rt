@@ -4,7 +4,9 @@ use audit::tests_of;
 use job::Job;
 use libc::STDOUT_FILENO;
 use store::Col;
+use store::JOINED;
 use store::LENGTH;
+use store::NO_RING;
 use store::NONE;
 use store::points::start_record;
 use store::set;
@@ -109,6 +111,31 @@ fn alter_rings(w: &mut [u32])
     altered(w, Col::Flags, 1, 1);
 }
 
+// The good work space with record 1 emptied: the reason that it keeps, and its taker.
+fn emptied(w: &mut [u32], reason: usize, taker: usize)
+    requires { ⌜ (LENGTH ≤ length (now w)) × (reason < 2 ^ 32) × (taker < 2 ^ 32) ⌝ }
+{
+    build(w);
+    set(w, Col::First, 1, NONE);
+    set(w, Col::Reason, 1, reason);
+    set(w, Col::Taker, 1, taker);
+    let r = tests_of(w);
+    say(r);
+}
+
+// Reasons and takers.
+fn alter_reasons(w: &mut [u32])
+    requires { ⌜ LENGTH ≤ length (now w) ⌝ }
+{
+    emptied(w, 0, 0);
+    emptied(w, NO_RING, 2);
+    emptied(w, JOINED, 0);
+    emptied(w, JOINED, 2);
+    emptied(w, 5, 2);
+    emptied(w, 6, 0);
+    emptied(w, JOINED, NONE);
+}
+
 fn main() {
     let mut w = [0u32; LENGTH];
     build(&mut w);
@@ -116,4 +143,5 @@ fn main() {
     say(r);
     alter_numbers(&mut w);
     alter_rings(&mut w);
+    alter_reasons(&mut w);
 }

@@ -9,7 +9,7 @@ use lib.Dec.{ltb}
 use lib.ListN.{length}
 use borrow.Author.Tests.{eq-eqb, ne-eqb, ltb-true}
 use Rattle.store.specs.declared.points.Room.the-variants.{At, Full}
-use Rattle.store.specs.Field.{pt, rc, REC, FLAGS, LENGTH}
+use Rattle.store.specs.Field.{RecordCol, pt, rc, REC, FLAGS, LENGTH}
 use Rattle.store.specs.Words.{Store, view, Write, onWords}
 use Rattle.store.specs.Stores.{onStore}
 use Rattle.store.specs.Named.{nextOf, prevOf, pointsOf}
@@ -25,6 +25,7 @@ use Rattle.joins.specs.Needs.{Point}
 use Rattle.joins.proofs.Homes.{home-of, next-lives, prev-lives, prev-next, on-ring, table}
 use Rattle.joins.proofs.Growing.{Grown, grown-res, grown-resolved, grown-lives}
 use Rattle.joins.proofs.Joining.{Shut, OpenKept, ring-kept}
+use Rattle.joins.proofs.Open.{opened-self, opened-on}
 use Rattle.joins.proofs.Resolving.{res-same}
 use Rattle.segments.specs.Level.{xOf}
 
@@ -43,6 +44,18 @@ keeps-on w x y a b =
       old = λ i k z. b .old i k (a .old i k z);
       xs = λ k h. b .xs k (omega (arith, a .more)) ∙ a .xs k h;
     }
+
+-- every word of the records, and the open rings
+pub record Copied (s u : Store) : Type 0 where
+  pub count : recs u ≡ recs s
+  pub words : (f : RecordCol) (j : ℕ) → u (rc f) j ≡ s (rc f) j
+  pub opened : OpenKept s u
+
+pub copied-self : (s : Store) → Copied s s
+copied-self s = record { count = refl; words = λ f j. refl; opened = opened-self s }
+
+pub copied-on : (s u v : Store) → Copied s u → Copied u v → Copied s v
+copied-on s u v a b = record { count = b .count ∙ a .count; words = λ f j. b .words f j ∙ a .words f j; opened = opened-on s u v (a .opened) (b .opened) }
 
 -- like is copied to the next free place, between q's prev and q
 module _ (w : List ℕ) (o : Ready w) (room : pointsOf w < 2048) (i q like : ℕ) (a : Lives (view w) i q) (b : Lives (view w) i like) where
@@ -77,6 +90,8 @@ module _ (w : List ℕ) (o : Ready w) (room : pointsOf w < 2048) (i q like : ℕ
         records = refl;
         first = λ j. refl;
         owner = λ j. refl;
+        reasons = λ j. refl;
+        takers = λ j. refl;
         named-new = rw (eq-eqb (pointsOf w) (pointsOf w) refl);
         named-else = λ j d. rw (ne-eqb j (pointsOf w) d);
         x-new = rw (eq-eqb (pointsOf w) (pointsOf w) refl);
@@ -107,29 +122,33 @@ module _ (w : List ℕ) (o : Ready w) (room : pointsOf w < 2048) (i q like : ℕ
   unfolding writes
   copy-points = grown-words .points
 
-  -- where the ring is closed
-  flags-same : (j : ℕ) → view (onWords w writes) (rc FLAGS) j ≡ view w (rc FLAGS) j
+  words-same : (f : RecordCol) (j : ℕ) → view (onWords w writes) (rc f) j ≡ view w (rc f) j
   unfolding writes
-  flags-same j = ap (λ (s : Store). s (rc FLAGS) j) seen
+  words-same f j = ap (λ (s : Store). s (rc f) j) seen
 
+  -- where the ring is closed
   at-home : (k h : ℕ) → Lives (view (onWords w writes)) h k → isOpen (view (onWords w writes)) h ≡ false → Shut (view (onWords w writes)) k
   at-home k h z e j y = subst (λ (x : ℕ). isOpen (view (onWords w writes)) x ≡ false) (res-same (view (onWords w writes)) (view (onWords w writes) (pt REC) k) h j (z .res) (y .res)) e
 
-  pub copy-open : isOpen (view w) i ≡ false → OpenKept (view w) (view (onWords w (copyWrites (view w) like ++ linkWrites (prevOf w q) (pointsOf w) q)))
+  pub copy-open : isOpen (view w) i ≡ false → Copied (view w) (view (onWords w (copyWrites (view w) like ++ linkWrites (prevOf w q) (pointsOf w) q)))
   unfolding writes
   copy-open shut =
       let g = grown-words in
       record {
-        records = omega (arith, g .records);
-        points = omega (arith, g .points);
-        flags = λ j h. flags-same j;
-        new = λ j h e. absurd (omega (arith, g .records));
-        rings = λ j h e. ring-kept (view w) (view (onWords w writes)) j (g .first j) (λ k p. g .links .next-else k (λ z. omega (arith, o .resolved .whole j h .below k p)) (off j h (λ z. apart j e z) k p));
-        xs = λ k h. g .x-else k (λ e. omega arith);
-        ys = λ k h. g .y-else k (λ e. omega arith);
-        shut = λ k h s.
-            let z = home-of (view w) (o .resolved) k h in
-            at-home k (z .0) (grown-lives (view w) (view (onWords w writes)) (o .resolved) i q like room a b g (z .0) k (z .1)) (rw (flags-same (z .0)) (s (z .0) (z .1)));
+        count = g .records;
+        words = words-same;
+        opened = record {
+          records = omega (arith, g .records);
+          points = omega (arith, g .points);
+          flags = λ j h. words-same FLAGS j;
+          new = λ j h e. absurd (omega (arith, g .records));
+          rings = λ j h e. ring-kept (view w) (view (onWords w writes)) j (g .first j) (λ k p. g .links .next-else k (λ z. omega (arith, o .resolved .whole j h .below k p)) (off j h (λ z. apart j e z) k p));
+          xs = λ k h. g .x-else k (λ e. omega arith);
+          ys = λ k h. g .y-else k (λ e. omega arith);
+          shut = λ k h s.
+              let z = home-of (view w) (o .resolved) k h in
+              at-home k (z .0) (grown-lives (view w) (view (onWords w writes)) (o .resolved) i q like room a b g (z .0) k (z .1)) (rw (words-same FLAGS (z .0)) (s (z .0) (z .1)));
+        };
       }
     where
       apart : (j : ℕ) → isOpen (view w) j ≡ true → j ≡ i → ⊥
@@ -152,7 +171,7 @@ module _ (w : List ℕ) (o : Ready w) (room : pointsOf w < 2048) (i q like : ℕ
       let g = grown-words in
       at-home (pointsOf w) i
       (record { bound = omega (arith, g .points); res = rw (g .named-new) (grown-res (view w) (view (onWords w writes)) (o .resolved) i q like room a b g (view w (pt REC) like) i (b .res)) })
-      (rw (flags-same i) shut)
+      (rw (words-same FLAGS i) shut)
 
 -- what a copy gives: it is point k
 pub record Grew (w x : List ℕ) (k : ℕ) : Type 0 where
@@ -190,9 +209,9 @@ doubles w p after t = go (ltb (pointsOf w) 2048) after refl
         record { keeps = copy-keeps w (t .ready) room (z .0) p p (z .1) (z .1); is = refl; points = copy-points w (t .ready) room (z .0) p p (z .1) (z .1) }
     go false b e = refl
 
--- a copy of a point on a closed ring leaves open rings as they are, and is on a closed ring itself
+-- a copy of a point on a closed ring leaves records and open rings as they are, and is on a closed ring itself
 abbrev pub Opens : List ℕ → Taken → Type 0
-Opens w (taken (At k) x) = OpenKept (view w) (view x) × Shut (view x) k
+Opens w (taken (At k) x) = Copied (view w) (view x) × Shut (view x) k
 Opens w (taken Full x) = x ≡ w
 
 pub opens : (w : List ℕ) (p : ℕ) (after : Bool) → Point w p → Shut (view w) p → Opens w (duplicateOp w p after)
@@ -205,7 +224,7 @@ opens w p after t shut = go (ltb (pointsOf w) 2048) after refl
         let z = home-of (view w) (t .ready .resolved) p (t .low) in
         let n = next-lives (view w) (t .ready .resolved) (z .0) p (z .1) in
         let f : prevOf w (nextOf w p) ≡ p = prev-next (view w) (t .ready .resolved) (z .0) p (z .1) in
-        subst (λ (y : ℕ). OpenKept (view w) (view (onWords w (copyWrites (view w) p ++ linkWrites y (pointsOf w) (nextOf w p)))) × Shut (view (onWords w (copyWrites (view w) p ++ linkWrites y (pointsOf w) (nextOf w p)))) (pointsOf w)) f
+        subst (λ (y : ℕ). Copied (view w) (view (onWords w (copyWrites (view w) p ++ linkWrites y (pointsOf w) (nextOf w p)))) × Shut (view (onWords w (copyWrites (view w) p ++ linkWrites y (pointsOf w) (nextOf w p)))) (pointsOf w)) f
         (copy-open w (t .ready) room (z .0) (nextOf w p) p n (z .1) (shut (z .0) (z .1)), copy-shut w (t .ready) room (z .0) (nextOf w p) p n (z .1) (shut (z .0) (z .1)))
     go true false e =
         let room : pointsOf w < 2048 = ltb-true _ _ e in

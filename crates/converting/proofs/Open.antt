@@ -1,4 +1,4 @@
--- Segments and joins on closed rings: conversion leaves every open ring as it was, and its joins are of points on closed rings.
+-- Segments and joins on closed rings: conversion leaves every word of the records and every open ring as it was, and its joins are of points on closed rings.
 use Prim.Native.Nat.{ℕ, zero, suc, _+_, _*_, _<_}
 use mathlib.Core.Path.{_≡_, refl, subst}
 use mathlib.Core.Logic.{_≢_, _⊎_, inl, inr}
@@ -20,8 +20,7 @@ use Rattle.joins.specs.Resolve.{homeOf}
 use Rattle.joins.specs.Paths.{Lives}
 use Rattle.joins.specs.Needs.{Point}
 use Rattle.joins.proofs.Resolving.{res-same}
-use Rattle.joins.proofs.Joining.{Shut, OpenKept}
-use Rattle.joins.proofs.Open.{opened-self, opened-on}
+use Rattle.joins.proofs.Joining.{Shut}
 use Rattle.converting.specs.declared.pairs.Converted.the-variants.{Joins, Full}
 use Rattle.sorting.specs.declared.HorzSegment.{HorzSegment}
 use Rattle.segments.specs.Level.{xOf}
@@ -30,7 +29,7 @@ use Rattle.segments.specs.Update.{valid, invalid, headed, endsOf, segmentThroug
 use Rattle.segments.specs.Needs.{Listed}
 use Rattle.converting.specs.Make.{Made, made, secondAt, firstAt, makeJoin, Out, out, withLefts, apartOf, joinPair, firstOne, secondOne, movedPair, pairOf, andThen, innerFrom, outerFrom, sortedSegments, pairsOf, madeOf, convertHorzSegsToJoins}
 use Rattle.converting.specs.Needs.{Making, Pairing, Overlapping, PairAt, Converting}
-use Rattle.converting.proofs.Doubling.{Grew, Doubles, doubles, Opens, opens}
+use Rattle.converting.proofs.Doubling.{Copied, copied-self, copied-on, Grew, Doubles, doubles, Opens, opens}
 use Rattle.converting.proofs.Making.{making-point, pair-overlaps, one-moved, two-moved, making-on, making-back, PairingOf, pair-kept}
 use Rattle.converting.proofs.Looping.{inner-kept}
 use Rattle.sorting.proofs.Stable.{Each, sorted-each}
@@ -45,7 +44,7 @@ pub record Shuts (w ls rs js : List ℕ) (m : ℕ) : Type 0 where
 -- ---- two copies and their join
 
 abbrev MadeOpen : List ℕ → ℕ → Made → Type 0
-MadeOpen w m (made (Joins m′) x js′) = OpenKept (view w) (view x) × ((k : ℕ) → k < 2 * m′ → Shut (view x) (getD js′ k 0))
+MadeOpen w m (made (Joins m′) x js′) = Copied (view w) (view x) × ((k : ℕ) → k < 2 * m′ → Shut (view x) (getD js′ k 0))
 MadeOpen w m (made Full x js′) = Unit {0}
 
 module _ (w js : List ℕ) (m a b : ℕ) (t : Making w js m a b) (ea : Shut (view w) a) (eb : Shut (view w) b) (p : (k : ℕ) → k < 2 * m → (getD js k 0 < pointsOf w) × Shut (view w) (getD js k 0)) where
@@ -53,30 +52,30 @@ module _ (w js : List ℕ) (m a b : ℕ) (t : Making w js m a b) (ea : Shut (vie
   unfolding makeJoin
   make-open = go (duplicateOp w a true) (doubles w a true (making-point w js m a b t)) (opens w a true (making-point w js m a b t) ea)
     where
-      next : (k : ℕ) (x : List ℕ) → Grew w x k → OpenKept (view w) (view x) → Shut (view x) k → (c : Taken) → Doubles x c → Opens x c → MadeOpen w m (secondAt js m k c)
-      next k x g o s (taken (room.At j) y) h u = (opened-on (view w) (view x) (view y) o (u .0), λ z l. at z l (ℕ-discrete z (2 * m + 1)) (ℕ-discrete z (2 * m)))
+      next : (k : ℕ) (x : List ℕ) → Grew w x k → Copied (view w) (view x) → Shut (view x) k → (c : Taken) → Doubles x c → Opens x c → MadeOpen w m (secondAt js m k c)
+      next k x g o s (taken (room.At j) y) h u = (copied-on (view w) (view x) (view y) o (u .0), λ z l. at z l (ℕ-discrete z (2 * m + 1)) (ℕ-discrete z (2 * m)))
         where
           fits : 2 * m + 1 < length js
           fits = omega (arith, t .few, t .room, g .points, h .points, h .keeps .ready .resolved .few-points)
 
           at : (z : ℕ) → z < 2 * (m + 1) → Dec (z ≡ 2 * m + 1) → Dec (z ≡ 2 * m) → Shut (view y) (getD (set (set js (2 * m) k) (2 * m + 1) j) z 0)
           at z l (yes e) f = rw (e, getD-set-same (set js (2 * m) k) (2 * m + 1) j 0 (omega (arith, fits, length-set js (2 * m) k))) (u .1)
-          at z l (no d) (yes f) = rw (getD-set-other (set js (2 * m) k) (2 * m + 1) z j 0 d, f, getD-set-same js (2 * m) k 0 (omega (arith, fits))) (u .0 .shut k (omega (arith, g .is, g .points)) s)
+          at z l (no d) (yes f) = rw (getD-set-other (set js (2 * m) k) (2 * m + 1) z j 0 d, f, getD-set-same js (2 * m) k 0 (omega (arith, fits))) (u .0 .opened .shut k (omega (arith, g .is, g .points)) s)
           at z l (no d) (no f) =
               let q = p z (omega arith) in
-              rw (getD-set-other (set js (2 * m) k) (2 * m + 1) z j 0 d, getD-set-other js (2 * m) z k 0 f) (u .0 .shut (getD js z 0) (omega (arith, q .0, g .points)) (o .shut (getD js z 0) (q .0) (q .1)))
+              rw (getD-set-other (set js (2 * m) k) (2 * m + 1) z j 0 d, getD-set-other js (2 * m) z k 0 f) (u .0 .opened .shut (getD js z 0) (omega (arith, q .0, g .points)) (o .opened .shut (getD js z 0) (q .0) (q .1)))
       next k x g o s (taken room.Full y) h u = tt
 
       go : (c : Taken) → Doubles w c → Opens w c → MadeOpen w m (firstAt js m b c)
       go (taken (room.At k) x) g o =
           let pb : Point x b = record { ready = g .keeps .ready; low = omega (arith, g .keeps .more, t .two) } in
-          next k x g (o .0) (o .1) (duplicateOp x b false) (doubles x b false pb) (opens x b false pb (o .0 .shut b (t .two) eb))
+          next k x g (o .0) (o .1) (duplicateOp x b false) (doubles x b false pb) (opens x b false pb (o .0 .opened .shut b (t .two) eb))
       go (taken room.Full x) g o = tt
 
 -- ---- a pair
 
 abbrev pub OutOpen : List ℕ → List ℕ → Out → Type 0
-OutOpen w rs (out (Joins m) x ls js) = OpenKept (view w) (view x) × Shuts x ls rs js m
+OutOpen w rs (out (Joins m) x ls js) = Copied (view w) (view x) × Shuts x ls rs js m
 OutOpen w rs (out Full x ls js) = Unit {0}
 
 -- a point of the same ring
@@ -110,13 +109,13 @@ module _ (w ls rs fs js : List ℕ) (m i j : ℕ) (t : PairAt w ls rs fs js m i 
         at : (z : ℕ) → z < 256 → getD rs z 0 ≢ NONE → Dec (z ≡ j) → Dec (z ≡ i) → Shut (view x) (getD (set (set ls i (firstOne w ls fs i j)) j (secondOne w ls fs i j)) z 0)
         at z h d (yes e) f =
             rw (e, getD-set-same (set ls i (firstOne w ls fs i j)) j (secondOne w ls fs i j) 0 (omega (arith, o .low, o .lefts, length-set ls i (firstOne w ls fs i j))))
-            (p .0 .shut (secondOne w ls fs i j) (two-moved w ls rs fs i j o .same .one .bound) on-two)
+            (p .0 .opened .shut (secondOne w ls fs i j) (two-moved w ls rs fs i j o .same .one .bound) on-two)
         at z h d (no e) (yes f) =
             rw (getD-set-other (set ls i (firstOne w ls fs i j)) j z (secondOne w ls fs i j) 0 e, f, getD-set-same ls i (firstOne w ls fs i j) 0 (omega (arith, o .low, o .before, o .lefts)))
-            (p .0 .shut (firstOne w ls fs i j) (one-moved w ls rs fs i j o .same .one .bound) on-one)
+            (p .0 .opened .shut (firstOne w ls fs i j) (one-moved w ls rs fs i j o .same .one .bound) on-one)
         at z h d (no e) (no f) =
             rw (getD-set-other (set ls i (firstOne w ls fs i j)) j z (secondOne w ls fs i j) 0 e, getD-set-other ls i z (firstOne w ls fs i j) 0 f)
-            (p .0 .shut (getD ls z 0) (bound z h d) (s .lefts z h d))
+            (p .0 .opened .shut (getD ls z 0) (bound z h d) (s .lefts z h d))
     left-of (made Full x js′) p = tt
 
     named : (k : ℕ) → k < 2 * m → (getD js k 0 < pointsOf w) × Shut (view w) (getD js k 0)
@@ -132,13 +131,13 @@ module _ (w ls rs fs js : List ℕ) (m i j : ℕ) (t : PairAt w ls rs fs js m i 
   pair-open = go (apartOf w ls rs fs i j) refl
     where
       go : (z : Bool) → apartOf w ls rs fs i j ≡ z → OutOpen w rs (cond z (out (Joins m) w ls js) (movedPair w ls fs js m i j))
-      go true e = (opened-self (view w), s)
+      go true e = (copied-self (view w), s)
       go false e = side (pair-overlaps w ls rs fs js m i j t e) (eqb (getD fs i 0) 1)
 
 -- ---- the loops
 
-open-on : (w x rs : List ℕ) (c : Out) → OpenKept (view w) (view x) → OutOpen x rs c → OutOpen w rs c
-open-on w x rs (out (Joins m) y ls js) o p = (opened-on (view w) (view x) (view y) o (p .0), p .1)
+open-on : (w x rs : List ℕ) (c : Out) → Copied (view w) (view x) → OutOpen x rs c → OutOpen w rs c
+open-on w x rs (out (Joins m) y ls js) o p = (copied-on (view w) (view x) (view y) o (p .0), p .1)
 open-on w x rs (out Full y ls js) o p = tt
 
 after : (w rs fs : List ℕ) (g : List ℕ → List ℕ → List ℕ → ℕ → Out) (c : Out) → PairingOf rs fs c → OutOpen w rs c
@@ -148,22 +147,22 @@ after w rs fs g (out Full x ls js) q u r = tt
 
 inner-open : (f : ℕ) (rs fs : List ℕ) (i j : ℕ) (w ls js : List ℕ) (m : ℕ) → Pairing w ls rs fs js m → getD rs i 0 ≢ NONE → i < j → j + f ≡ 256 → Shuts w ls rs js m → OutOpen w rs (innerFrom f rs fs i j w ls js m)
 unfolding innerFrom
-inner-open zero rs fs i j w ls js m p v b e s = (opened-self (view w), s)
+inner-open zero rs fs i j w ls js m p v b e s = (copied-self (view w), s)
 inner-open (suc f) rs fs i j w ls js m p v b e s = go (eqb (getD rs j 0) NONE) refl (λ x ls′ js′ k q u. inner-open f rs fs i (j + 1) x ls′ js′ k q v (omega arith) (omega arith) u)
   where
     go : (z : Bool) → eqb (getD rs j 0) NONE ≡ z → ((x ls′ js′ : List ℕ) (k : ℕ) → Pairing x ls′ rs fs js′ k → Shuts x ls′ rs js′ k → OutOpen x rs (innerFrom f rs fs i (j + 1) x ls′ js′ k)) → OutOpen w rs (cond z (out (Joins m) w ls js) (andThen (innerFrom f rs fs i (j + 1)) (pairOf rs fs js i j w ls m)))
-    go true d r = (opened-self (view w), s)
+    go true d r = (copied-self (view w), s)
     go false d r =
         let t : PairAt w ls rs fs js m i j = record { pairing = p; before = b; low = omega arith; one = v; two = eqb-false _ _ d } in
         after w rs fs (innerFrom f rs fs i (j + 1)) (pairOf rs fs js i j w ls m) (pair-kept w ls rs fs js m i j t) (pair-open w ls rs fs js m i j t s) r
 
 pub outer-open : (f : ℕ) (rs fs : List ℕ) (i : ℕ) (w ls js : List ℕ) (m : ℕ) → Pairing w ls rs fs js m → i + f ≡ 256 → Shuts w ls rs js m → OutOpen w rs (outerFrom f rs fs i w ls js m)
 unfolding outerFrom
-outer-open zero rs fs i w ls js m p e s = (opened-self (view w), s)
+outer-open zero rs fs i w ls js m p e s = (copied-self (view w), s)
 outer-open (suc f) rs fs i w ls js m p e s = go (eqb (getD rs i 0) NONE) refl (λ x ls′ js′ k q u. outer-open f rs fs (i + 1) x ls′ js′ k q (omega arith) u)
   where
     go : (z : Bool) → eqb (getD rs i 0) NONE ≡ z → ((x ls′ js′ : List ℕ) (k : ℕ) → Pairing x ls′ rs fs js′ k → Shuts x ls′ rs js′ k → OutOpen x rs (outerFrom f rs fs (i + 1) x ls′ js′ k)) → OutOpen w rs (cond z (out (Joins m) w ls js) (andThen (outerFrom f rs fs (i + 1)) (innerFrom f rs fs i (i + 1) w ls js m)))
-    go true d r = (opened-self (view w), s)
+    go true d r = (copied-self (view w), s)
     go false d r =
         after w rs fs (outerFrom f rs fs (i + 1)) (innerFrom f rs fs i (i + 1) w ls js m) (inner-kept f rs fs i (i + 1) w ls js m p (eqb-false _ _ d) (omega arith) (omega arith))
         (inner-open f rs fs i (i + 1) w ls js m p (eqb-false _ _ d) (omega arith) (omega arith) s) r
@@ -216,7 +215,7 @@ shut-at w (a ∷ R) h (suc s) l d = shut-at w R (h .1) s (omega arith) d
 
 -- convert_horz_segs_to_joins of segments and joins on closed rings
 abbrev pub ConvertedOpen : List ℕ → Made → Type 0
-ConvertedOpen w (made (Joins m) x js) = OpenKept (view w) (view x) × ((k : ℕ) → k < 2 * m → Shut (view x) (getD js k 0))
+ConvertedOpen w (made (Joins m) x js) = Copied (view w) (view x) × ((k : ℕ) → k < 2 * m → Shut (view x) (getD js k 0))
 ConvertedOpen w (made Full x js) = Unit {0}
 
 pub convert-open : (w ps : List ℕ) (n : ℕ) (js : List ℕ) (m : ℕ) → Converting w ps n js m → ((k : ℕ) → k < n → Shut (view w) (getD ps k 0)) → ((k : ℕ) → k < 2 * m → Shut (view w) (getD js k 0)) → ConvertedOpen w (convertHorzSegsToJoins w n ps js m)

@@ -10,7 +10,7 @@ use Rattle.rings.specs.Links.{All}
 use Rattle.rings.specs.Progress.{Ring, atStart}
 use Rattle.rings.proofs.Counting.{all-in}
 use Rattle.lone.specs.Forest.{Fed, leftRingless, leftOpen, leftClosed}
-use Rattle.store.specs.Field.{Field, pt, rc, ct, FLAGS, OWNER, FIRST, MARK, PRESENT, START, CUT}
+use Rattle.store.specs.Field.{Field, pt, rc, ct, FLAGS, OWNER, FIRST, MARK, PRESENT, START, CUT, REASON, TAKER}
 use Rattle.store.specs.Words.{Store, view}
 use Rattle.store.specs.Named.{settingsOf, pointsOf, recordsOf}
 use Rattle.store.specs.Sound.{pts, recs, ringless, ringAt, isOpen}
@@ -39,6 +39,8 @@ begun-still s u i b = record { counts = go }
     go (rc PRESENT) k e = never e
     go (rc START) k e = never e
     go (rc CUT) k e = never e
+    go (rc REASON) k e = never e
+    go (rc TAKER) k e = never e
     go (ct f) k e = ap (λ (c : ℕ → ℕ). c k) (b .counts f)
 
 pub start-alike : {ρ : ℕ → ℕ} (w w′ : List ℕ) → Ready w → Ready w′ → Renumbered ρ (view w) (view w′) → Renumbered ρ (view (startRings w)) (view (startRings w′))

@@ -61,9 +61,9 @@ module _ {ρ : ℕ → ℕ} (w w′ : List ℕ) (al : Renumbered ρ (view w) (vi
       (relinkWrites (view w) a c ++ emptyWrites j i)
       (relinkWrites (view w′) (ρ a) (ρ c) ++ emptyWrites j i)
       (t .ready .long) (t′ .ready .long)
-      (f .one, (f .two, (f .next, (f .prev, (b, (b, tt))))))
-      (f′ .one, (f′ .two, (f′ .next, (f′ .prev, (b, (b, tt))))))
-      (links-renumbered (emptyWrites j i) (emptyWrites j i) (t .one .bound) (t .two .bound) ((refl, refl, sym (none al (t .ready .resolved .few-points))), ((refl, refl, refl), tt)))
+      (f .one, (f .two, (f .next, (f .prev, (b, (b, (b, (b, tt))))))))
+      (f′ .one, (f′ .two, (f′ .next, (f′ .prev, (b, (b, (b, (b, tt))))))))
+      (links-renumbered (emptyWrites j i) (emptyWrites j i) (t .one .bound) (t .two .bound) ((refl, refl, sym (none al (t .ready .resolved .few-points))), ((refl, refl, refl), ((refl, refl, tt), ((refl, refl, tt), tt)))))
       (record { more = omega arith; points = λ k h. inl h; records = λ k h. inl h })
 
 -- ---- one record

@@ -29,7 +29,7 @@ use Rattle.audit.specs.declared.Verdict.{Verdict}
 use Rattle.audit.specs.declared.Verdict.the-variants as verdict
 use Rattle.joins.specs.Resolve.{findIn}
 use Rattle.reading.specs.declared.fill.Outcome.the-variants.{Ok, Refused}
-use Rattle.reading.specs.Fill.{ReadEnd, end, placed, taken, turnOf, follow, run, fillOf}
+use Rattle.reading.specs.Fill.{ReadEnd, end, recordRead, placed, taken, turnOf, follow, run, fillOf}
 use Rattle.reading.specs.Needs.{Room}
 use Rattle.reading.specs.Read.{withCounts, readOf}
 use Rattle.reading.proofs.Placing.{has-room}
@@ -94,8 +94,8 @@ module _ (m : List ℕ) where
       let xs = write (pt X) (j .points) x ∷ write (pt Y) (j .points) y ∷ write (pt NEXT) (j .points) nx ∷ write (pt PREV) (j .points) pv ∷ write (pt REC) (j .points) r ∷ [] in
       record { is = ap (λ (v : List ℕ). end (Ok (past (Point x y nx pv r) n j)) v ss js) (writes-more m w l xs (h, (h, (h, (h, (h, tt)))))); long = omega (arith, length-writes w xs) }
   placed-more j w ss js l (Record f o p) n h =
-      let xs = write (rc FLAGS) (j .records) f ∷ write (rc OWNER) (j .records) o ∷ write (rc FIRST) (j .records) p ∷ [] in
-      record { is = ap (λ (v : List ℕ). end (Ok (past (Record f o p) n j)) v ss js) (writes-more m w l xs (h, (h, (h, tt)))); long = omega (arith, length-writes w xs) }
+      let xs = recordRead (j .records) f o p in
+      record { is = ap (λ (v : List ℕ). end (Ok (past (Record f o p) n j)) v ss js) (writes-more m w l xs (h, (h, (h, (h, tt))))); long = omega (arith, length-writes w xs) }
   placed-more j w ss js l (Segment p) n h = record { is = refl; long = l }
   placed-more j w ss js l (Join a b) n h = record { is = refl; long = l }
 

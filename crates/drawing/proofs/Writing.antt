@@ -8,7 +8,7 @@ use native.Mathlib.Omega.{arith}
 use native.Mathlib.Decide.{ℕ-discrete, decLt}
 use lib.Dec.{eqb}
 use borrow.Author.Tests.{eq-eqb, ne-eqb, eqb-true, eqb-false}
-use Rattle.store.specs.Field.{Field, PointCol, RecordCol, Count, pt, rc, ct, X, Y, NEXT, PREV, REC, FLAGS, OWNER, FIRST, MARK, PRESENT, START, CUT, SETTINGS, POINTS, RECORDS, same, pointRank, recordRank, countRank}
+use Rattle.store.specs.Field.{Field, PointCol, RecordCol, Count, pt, rc, ct, X, Y, NEXT, PREV, REC, FLAGS, OWNER, FIRST, MARK, PRESENT, START, CUT, REASON, TAKER, SETTINGS, POINTS, RECORDS, same, pointRank, recordRank, countRank}
 use Rattle.store.specs.Words.{Store, Write, write}
 use Rattle.store.specs.Stores.{upd, onStore}
 use Rattle.drawing.specs.Renumbered.{Renumbers}
@@ -53,6 +53,8 @@ image ρ (rc MARK) v = v
 image ρ (rc PRESENT) v = v
 image ρ (rc START) v = v
 image ρ (rc CUT) v = v
+image ρ (rc REASON) v = v
+image ρ (rc TAKER) v = v
 image ρ (ct f) v = v
 
 -- the columns that are compared
@@ -69,6 +71,8 @@ compared (rc MARK) = false
 compared (rc PRESENT) = false
 compared (rc START) = false
 compared (rc CUT) = false
+compared (rc REASON) = false
+compared (rc TAKER) = false
 compared (ct f) = true
 
 abbrev pub AgreeAt : (ℕ → ℕ) → Store → Store → Field → ℕ → Type 0
@@ -112,7 +116,9 @@ recordOf (suc (suc zero)) = FIRST
 recordOf (suc (suc (suc zero))) = MARK
 recordOf (suc (suc (suc (suc zero)))) = PRESENT
 recordOf (suc (suc (suc (suc (suc zero))))) = START
-recordOf (suc (suc (suc (suc (suc (suc n)))))) = CUT
+recordOf (suc (suc (suc (suc (suc (suc zero)))))) = CUT
+recordOf (suc (suc (suc (suc (suc (suc (suc zero))))))) = REASON
+recordOf (suc (suc (suc (suc (suc (suc (suc (suc n)))))))) = TAKER
 
 countOf : ℕ → Count
 countOf zero = SETTINGS
@@ -136,6 +142,8 @@ record-is MARK = refl
 record-is PRESENT = refl
 record-is START = refl
 record-is CUT = refl
+record-is REASON = refl
+record-is TAKER = refl
 
 count-is : (f : Count) → countOf (countRank f) ≡ f
 unfolding countOf

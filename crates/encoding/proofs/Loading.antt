@@ -21,7 +21,7 @@ use Rattle.store.specs.Words.{Store, view, write, onWords}
 use Rattle.store.specs.Stores.{onStore}
 use Rattle.store.proofs.Storing.{view-writes, length-writes}
 use Rattle.reading.specs.Needs.{Space}
-use Rattle.reading.specs.Fill.{putPoint, putRecord, putJoin, placed, turnOf, follow, run}
+use Rattle.reading.specs.Fill.{putPoint, recordRead, putRecord, putJoin, placed, turnOf, follow, run}
 use Rattle.opening.proofs.Starting.{more}
 use Rattle.encoding.specs.Sheet.{bytesOf, allBytes, Sheet, pointField, recordField, segmentField, joinField}
 use Rattle.encoding.proofs.Numbers.{SheetFits, NumbersAs, points-kept, records-kept}
@@ -151,8 +151,8 @@ module _ (t : Sheet) (bytes : List ℕ) where
         let i = j .records in
         let a = g .numbers .records in
         let l : i < limit.RECORDS = omega (arith, f .records) in
-        let xs = write (rc FLAGS) i (t .flags i) ∷ write (rc OWNER) i (t .owner i) ∷ write (rc FIRST) i (t .first i) ∷ [] in
-        let v : view (onWords w xs) ≡ onStore (view w) xs = view-writes w xs (g .space .words) (l, (l, (l, tt))) in
+        let xs = recordRead i (t .flags i) (t .owner i) (t .first i) in
+        let v : view (onWords w xs) ≡ onStore (view w) xs = view-writes w xs (g .space .words) (l, (l, (l, (l, tt)))) in
         record {
           here = onward bytes j w ss js (recordField t i) 8 rest (g .here) refl (omega arith);
           bits = g .bits;

@@ -10,18 +10,18 @@ use Rattle.job.specs.declared.refusal.Refusal.the-variants.{Full, OutOfTurn}
 use Rattle.lone.specs.Forest.{Answer}
 use Rattle.store.specs.Field.{LENGTH}
 use Rattle.store.specs.Words.{view}
-use Rattle.store.specs.Sound.{recs}
 use Rattle.store.specs.Good.{SoundWords}
 use Rattle.audit.specs.declared.Verdict.{Verdict}
 use Rattle.audit.specs.declared.Verdict.the-variants as verdict
-use Rattle.audit.specs.Tests.{anyBelow, testsOf}
+use Rattle.audit.specs.Tests.{testsOf}
 use Rattle.audit.proofs.Agreeing.{passed-sound}
 use Rattle.acts.specs.Run as acts
-use Rattle.acts.specs.Step.{outcome, live, answerS, stepW}
+use Rattle.acts.specs.Step.{outcome, answerS, stepW}
 use Rattle.turns.specs.Form.{raised, geometryOf}
 use Rattle.steps.specs.declared.Answer as code
 use Rattle.steps.specs.declared.Answer.the-variants as answers
 use Rattle.steps.specs.Code.{answerIs}
+use Rattle.steps.specs.Live.{anyLive}
 use Rattle.paths.specs.declared.Written.{Written}
 use Rattle.paths.specs.declared.Written.the-variants as written
 use Rattle.paths.specs.Wrote.{wrote, buildPaths64}
@@ -29,7 +29,7 @@ use Rattle.finishing.specs.declared.Stepped.{Stepped}
 use Rattle.finishing.specs.declared.Stepped.the-variants.{Refused}
 use Rattle.finishing.specs.Tested.{Tested}
 use Rattle.finishing.specs.Step.{left, steppedAs, stepBy, stepOf}
-use Rattle.finishing.specs.Write.{anyLive, writeBy, writeOf}
+use Rattle.finishing.specs.Write.{writeBy, writeOf}
 use Rattle.finishing.proofs.Entering.{long-step, long-write}
 
 -- ---- what the calls ask
@@ -39,9 +39,6 @@ tested w v l e p = record { long = l; passed = sym e ∙ p }
 
 pub sound-words : (w : List ℕ) → Tested w → SoundWords w
 sound-words w t = record { long = t .long; sound = passed-sound w (t .passed) }
-
-pub long-words : (w : List ℕ) → SoundWords w → LENGTH ≤ length w
-long-words w s = s .long
 
 -- ---- a step
 
@@ -83,11 +80,9 @@ module _ (w t : List ℕ) where
   pub write-passed : (v : Verdict) (r : Written) (t′ : List ℕ) → LENGTH ≤ length w → v ≡ testsOf w → v ≡ verdict.Passed → wrote r t′ ≡ writeBy verdict.Passed w t → wrote r t′ ≡ writeOf w t
   write-passed v r t′ l e p h = h ∙ sym (long-write w t l ∙ ap (λ (u : Verdict). writeBy u w t) (sym e ∙ p))
 
-  module _ (b : Bool) (e : b ≡ anyBelow (recs (view w)) (live (view w))) where
+  module _ (b : Bool) (e : b ≡ anyLive (view w)) where
     pub write-early : b ≡ true → wrote (written.Refused OutOfTurn) t ≡ writeBy verdict.Passed w t
-    unfolding anyLive
     write-early h = rw (sym e ∙ h)
 
     pub write-done : (r : Written) (t′ : List ℕ) → b ≡ false → wrote r t′ ≡ buildPaths64 (view w) t → wrote r t′ ≡ writeBy verdict.Passed w t
-    unfolding anyLive
     write-done r t′ h g = rw (sym e ∙ h) g

@@ -22,7 +22,7 @@ use Rattle.store.specs.Field.{LENGTH}
 use Rattle.store.specs.Words.{view}
 use Rattle.audit.specs.declared.Verdict.{Verdict}
 use Rattle.audit.specs.declared.Verdict.the-variants as verdict
-use Rattle.audit.specs.Tests.{anyReached, anyRecord, offTable, noSuch, noSuchOf, loose, shared, misplaced, testsOf}
+use Rattle.audit.specs.Tests.{anyReached, anyRecord, offTable, noSuch, noSuchOf, lostTaker, loose, shared, misplaced, untold, testsOf}
 use Rattle.audit.specs.Tests as tests
 use Rattle.audit.proofs.Agreeing.{passed-sound}
 use Rattle.reading.specs.declared.fill.Outcome.the-variants as outcome
@@ -47,7 +47,8 @@ use Rattle.paths.specs.Wrote.{Wrote, wrote, buildPaths64}
 use Rattle.paths.proofs.Bound.{never-small}
 use Rattle.store.specs.Good.{Sound}
 use Rattle.finishing.specs.Opened.{OpeningLeft}
-use Rattle.finishing.specs.Write.{anyLive, writeBy, writeOf}
+use Rattle.steps.specs.Live.{anyLive}
+use Rattle.finishing.specs.Write.{writeBy, writeOf}
 use Rattle.finishing.specs.Finish.{finishRings}
 use Rattle.finishing.specs.InOneCall.{afterWriting, afterSteps, afterOpening, finishOf}
 use Rattle.finishing.proofs.InOneCall.{done-ready, opening-left}
@@ -179,7 +180,9 @@ open-rows bytes n =
 
 pub tests-rows : (w : List ℕ) → JudgedTo 7 (testsOf w)
 unfolding testsOf
-tests-rows w = go (tests.crowded w) (anyReached w (offTable w)) (anyReached w (noSuch w) || anyRecord w (noSuchOf w)) (anyReached w (loose w)) (anyRecord w (shared w) || anyRecord w (misplaced w))
+tests-rows w =
+    go (tests.crowded w) (anyReached w (offTable w)) (anyReached w (noSuch w) || (anyRecord w (noSuchOf w) || anyRecord w (lostTaker w))) (anyReached w (loose w))
+    (anyRecord w (shared w) || (anyRecord w (misplaced w) || anyRecord w (untold w)))
   where
     go : (a b c d e : Bool)
         → JudgedTo 7 (cond a (verdict.Refused Crowded) (cond b (verdict.Refused OffTheTable) (cond c (verdict.Refused NoSuch) (cond d (verdict.Refused Loose) (cond e (verdict.Refused Muddled) verdict.Passed)))))

@@ -13,7 +13,8 @@ use Rattle.rings.proofs.Counting.{pigeon}
 use Rattle.geometry.specs.declared.Point.{Point}
 use Rattle.lone.specs.Forest.{Entry, ringless, Forest, opening, at, OfClosed}
 use Rattle.lone.specs.Kept.{Held, HeldIn}
-use Rattle.store.specs.Field.{rc, pt, NEXT, FIRST}
+use Rattle.store.specs.Field.{rc, pt, NEXT, FIRST, REASON}
+use Rattle.store.specs.Reason.{discardOf}
 use Rattle.store.specs.Words.{view}
 use Rattle.store.specs.Sound.{pts, recs, ringAt, dueAt, loneDue, loneAt}
 use Rattle.store.specs.Sound as store
@@ -47,7 +48,7 @@ module _ (w : List ℕ) (o : OpeningLeft w) where
     held-lone : store.isOpen (view w) i ≡ false → Held (pts (view w)) (mapRing (value (raised .of) (view w)) (loneAt (view w) i))
     held-lone shut = go (store.ringless (view w) i) refl
       where
-        go : (b : Bool) → store.ringless (view w) i ≡ b → Held (pts (view w)) (mapRing (value (raised .of) (view w)) (cond b gone (loneDue (view w) i (dueAt (view w) i))))
+        go : (b : Bool) → store.ringless (view w) i ≡ b → Held (pts (view w)) (mapRing (value (raised .of) (view w)) (cond b (gone (discardOf (view w (rc REASON) i))) (loneDue (view w) i (dueAt (view w) i))))
         go true e = record { on-ring = (omega arith, tt); has-start = tt; short = omega arith }
         go false e = rw (o .fresh i l .mark-is e shut) (held-ring (walk (view w (pt NEXT)) (view w (rc FIRST) i)) (subst (λ (c : List ℕ). length c ≤ pts (view w)) (from-first (view w) i e) short))
 

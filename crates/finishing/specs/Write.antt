@@ -1,23 +1,18 @@
 -- Writing out as a call: what it answers and the tray that it leaves, for every work space and every tray.
 use Prim.Native.Nat.{ℕ}
-use mathlib.Core.Bool.{Bool, cond}
+use mathlib.Core.Bool.{cond}
 use mathlib.Core.List.{List}
 use lib.Dec.{ltb}
 use lib.ListN.{length}
 use Rattle.job.specs.declared.refusal.Refusal.the-variants.{Full, OutOfTurn}
 use Rattle.store.specs.Field.{LENGTH}
-use Rattle.store.specs.Words.{Store, view}
-use Rattle.store.specs.Sound.{recs}
+use Rattle.store.specs.Words.{view}
 use Rattle.audit.specs.declared.Verdict.{Verdict}
 use Rattle.audit.specs.declared.Verdict.the-variants as verdict
-use Rattle.audit.specs.Tests.{anyBelow, testsOf}
-use Rattle.acts.specs.Step.{live}
+use Rattle.audit.specs.Tests.{testsOf}
+use Rattle.steps.specs.Live.{anyLive}
 use Rattle.paths.specs.declared.Written.the-variants.{Refused}
 use Rattle.paths.specs.Wrote.{Wrote, wrote, buildPaths64}
-
--- "a closed ring isn't done"
-unfoldable pub anyLive : Store → Bool
-anyLive s = anyBelow (recs s) (live s)
 
 -- on a work space that is long enough, by what its tests say: then 12, then 11, "11 is last"
 abbrev pub writeBy : Verdict → List ℕ → List ℕ → Wrote

@@ -8,21 +8,14 @@ use opening::open::Opened;
 use paths::Written;
 use paths::build_paths64;
 use steps::Answer;
-use steps::step::is_live;
+use steps::step::any_live;
 use steps::step::step_record;
-use store::Col;
 use store::LENGTH;
-use store::get;
 ghost use mathlib.Core.Path.{_≡_};
 ghost use lib.ListN.{length};
 ghost use Prim.Native.Nat.{_+_, _<_};
 ghost use Rattle.store.specs.Field.{LENGTH};
-ghost use Rattle.store.specs.Words.{view};
-ghost use Rattle.store.specs.Sound.{recs};
-ghost use Rattle.store.specs.Good.{SoundWords};
-ghost use Rattle.audit.specs.Tests.{anyBelow};
 ghost use Rattle.audit.specs.declared.Verdict.the-variants.{Passed};
-ghost use Rattle.acts.specs.Step.{live};
 ghost use Rattle.steps.specs.Code.{answerIs};
 ghost use Rattle.paths.specs.Wrote.{wrote};
 ghost use Rattle.opening.specs.Open.{end, openOf};
@@ -85,23 +78,6 @@ pub fn step(work: &mut [u32], number: u32) -> Stepped
 }
 
 // ---- writing out
-
-// Whether a closed ring isn't done.
-fn any_live(w: &[u32]) -> bool
-    requires { ⌜ SoundWords (now w) ⌝ }
-    ensures { λ r. ⌜ r ≡ anyBelow (recs (view (now (w .entry)))) (live (view (now (w .entry)))) ⌝ }
-{
-    let n = get(w, Col::Records, 0);
-    let mut i: usize = 0;
-    while i < n {
-        let found = is_live(w, i);
-        if found {
-            return true;
-        }
-        i += 1;
-    }
-    false
-}
 
 // Writing out a work space that passed the tests.
 fn write_tested(work: &[u32], tray: &mut [u8]) -> Written

@@ -123,17 +123,25 @@ module _ (s u : Store) (o : Resolved s) (a b i : ℕ) (l r : List ℕ) (hi : i <
   some : (k : ℕ) → k < pts s → k ≢ NONE
   some k h e = omega (arith, o .few-points)
 
+  new-head : l ++ (b ∷ []) ≡ s (pt NEXT) a ∷ rest (l ++ (b ∷ []))
+  new-head = headed (s (pt NEXT)) (s (pt PREV)) a l b (runs .0)
+
+  new-first : u (rc FIRST) (recs s) ≢ NONE
+  new-first e = some (s (pt NEXT) a) (new-whole .below (s (pt NEXT) a) (rw new-head (omega (arith, one-here (s (pt NEXT) a))))) (sym first-new ∙ e)
+
   new-is : ringAt u (recs s) ≡ l ++ (b ∷ [])
   new-is =
-      let h = headed (s (pt NEXT)) (s (pt PREV)) a l b (runs .0) in
-      let d : s (pt NEXT) a ≢ NONE = some (s (pt NEXT) a) (new-whole .below (s (pt NEXT) a) (rw h (omega (arith, one-here (s (pt NEXT) a))))) in
-      ring-walk u (recs s) (λ e. d (sym first-new ∙ e)) ∙ ap (walk (u (pt NEXT))) first-new
-      ∙ walk-headed (u (pt NEXT)) (u (pt PREV)) (pts s) (o .few-points) (l ++ (b ∷ [])) (s (pt NEXT) a) (rest (l ++ (b ∷ []))) new-whole h
+      ring-walk u (recs s) new-first ∙ ap (walk (u (pt NEXT))) first-new
+      ∙ walk-headed (u (pt NEXT)) (u (pt PREV)) (pts s) (o .few-points) (l ++ (b ∷ [])) (s (pt NEXT) a) (rest (l ++ (b ∷ []))) new-whole new-head
+
+  own-on : 0 < occ (u (rc FIRST) i) (r ++ (a ∷ []))
+  own-on = omega (arith, q .first-own, occ-append (u (rc FIRST) i) r (a ∷ []))
+
+  own-first : u (rc FIRST) i ≢ NONE
+  own-first = some (u (rc FIRST) i) (own-whole .below (u (rc FIRST) i) own-on)
 
   own-is : ringAt u i ≡ seenFrom (u (rc FIRST) i) (r ++ (a ∷ []))
-  own-is =
-      let h : 0 < occ (u (rc FIRST) i) (r ++ (a ∷ [])) = omega (arith, q .first-own, occ-append (u (rc FIRST) i) r (a ∷ [])) in
-      ring-walk u i (some (u (rc FIRST) i) (own-whole .below (u (rc FIRST) i) h)) ∙ walk-seen (u (pt NEXT)) (u (pt PREV)) (pts s) (o .few-points) (r ++ (a ∷ [])) (u (rc FIRST) i) own-whole h
+  own-is = ring-walk u i own-first ∙ walk-seen (u (pt NEXT)) (u (pt PREV)) (pts s) (o .few-points) (r ++ (a ∷ [])) (u (rc FIRST) i) own-whole own-on
 
   gone : occ (s (rc FIRST) i) (b ∷ l) ≡ occ (s (rc FIRST) i) (goes a c (ringAt s i))
   gone = omega (arith, occ-append (s (rc FIRST) i) l (b ∷ []), ap (occ (s (rc FIRST) i)) goes-is)
@@ -147,9 +155,13 @@ module _ (s u : Store) (o : Resolved s) (a b i : ℕ) (l r : List ℕ) (hi : i <
         new = new-is ∙ sym goes-is;
         own = own-is ∙ ap (seenFrom (u (rc FIRST) i)) (sym stays-is);
         first = first-is ∙ ap (λ (x : ℕ). cond (ltb 0 x) a (s (rc FIRST) i)) gone;
+        new-ringed = ne-eqb (u (rc FIRST) (recs s)) NONE new-first;
+        own-ringed = ne-eqb (u (rc FIRST) i) NONE own-first;
         others = split-others s u o a b i l r hi room fi w occs q;
         owner = q .owner-new;
         owners = λ j h. q .owner-else j (λ e. omega arith);
+        reasons = q .reasons;
+        takers = q .takers;
         closed = rw (q .flags-new);
         unmoved = record { points = q .points; xs = q .xs; ys = q .ys; flags = λ j h. q .flags-else j (λ e. omega arith) };
       }
@@ -185,10 +197,15 @@ module _ (s u : Store) (o : Resolved s) (a b i j : ℕ) (r : List ℕ) (ij : i �
             two-on = c-on;
             records = q .records;
             own = own;
+            own-ringed = ne-eqb (u (rc FIRST) i) NONE (λ z. fi (sym (q .first-else i ij) ∙ z));
             emptied = rw (eq-eqb (u (rc FIRST) j) NONE (q .first-gone));
             others = merge-others s u o a b i j (g ++ f) r ij hi hj fi fj first v ones twos q;
             owner = q .owner-gone;
             owners = q .owner-else;
+            reason = q .reason-gone;
+            reasons = q .reason-else;
+            taker = q .taker-gone;
+            takers = q .taker-else;
             unmoved = record { points = q .points; xs = q .xs; ys = q .ys; flags = λ k h. q .flags k };
           }
         where

@@ -1,12 +1,15 @@
 -- Joins by evaluation, as rows of one table: document 01's bench examples with joins, knots, and the rings and owners that joins leave. The answers are the real Rust's, by `oracle opened`.
 use Prim.Native.Nat.{ℕ, zero, suc, _+_}
 use mathlib.Core.Path.{_≡_, refl}
+use mathlib.Core.Bool.{cond}
 use mathlib.Core.List.{List, [], _∷_, _++_}
 use mathlib.Core.Option.{Option, none, some}
+use lib.Dec.{eqb}
 use lib.ListN.{replicate}
 use Rattle.store.specs.Field.{pt, rc, ct, NEXT, PREV, REC, OWNER, FIRST, POINTS, RECORDS, LENGTH, NONE}
 use Rattle.store.specs.Words.{cell, put, Write, write, onWords, view}
-use Rattle.store.specs.Named.{ownerOf, recordsOf}
+use Rattle.store.specs.Named.{ownerOf, recordsOf, keptOf, takerOf}
+use Rattle.store.specs.Reason.{JOINED}
 use Rattle.store.specs.Sound.{ringAt}
 use Rattle.rings.specs.Walk.{run}
 use Rattle.job.specs.declared.refusal.Refusal.{Refusal}
@@ -26,13 +29,22 @@ rings r [] = write (ct RECORDS) 0 r ∷ []
 rings r ([] ∷ ls) = write (rc FIRST) r NONE ∷ write (rc OWNER) r NONE ∷ rings (r + 1) ls
 rings r ((a ∷ l) ∷ ls) = write (rc FIRST) r a ∷ write (rc OWNER) r NONE ∷ linked r a a l ++ rings (r + 1) ls
 
--- a record: its owner, and its ring from the first point in walk order
+-- a record: its owner, its ring from the first point in walk order, and the record that took it in a join, if one did
 pub record Left : Type 0 where
   pub owner : ℕ
   pub ring : List ℕ
+  pub taker : Option ℕ
 
 abbrev pub left : ℕ → List ℕ → Left
-left o c = record { owner = o; ring = c }
+left o c = record { owner = o; ring = c; taker = none }
+
+-- emptied by record i
+abbrev pub takenBy : ℕ → Left
+takenBy i = record { owner = i; ring = []; taker = some i }
+
+-- the record that took record i, if that is the reason kept
+abbrev pub taker : List ℕ → ℕ → Option ℕ
+taker w i = cond (eqb (keptOf w i) JOINED) (some (takerOf w i)) none
 
 -- a refusal's number; or the records
 pub data Answer : Type 0 where
@@ -42,7 +54,7 @@ pub data Answer : Type 0 where
 -- records i to i + n - 1
 abbrev pub leftFrom : List ℕ → ℕ → ℕ → List Left
 leftFrom w i zero = []
-leftFrom w i (suc n) = left (ownerOf w i) (ringAt (view w) i) ∷ leftFrom w (i + 1) n
+leftFrom w i (suc n) = record { owner = ownerOf w i; ring = ringAt (view w) i; taker = taker w i } ∷ leftFrom w (i + 1) n
 
 abbrev pub answerBy : List ℕ → Option Refusal → Answer
 answerBy w none = joined (leftFrom w 0 (recordsOf w))
@@ -75,6 +87,9 @@ other = 3 ∷ 4 ∷ 5 ∷ []
 abbrev pub hexagon : List ℕ
 hexagon = 0 ∷ 1 ∷ 2 ∷ 3 ∷ 4 ∷ 5 ∷ []
 
+abbrev pub square : ℕ → List ℕ
+square k = k ∷ (k + 1) ∷ (k + 2) ∷ (k + 3) ∷ []
+
 unfoldable pub examples : List Example
 examples =
     -- "join of a point with its next: 9"
@@ -90,16 +105,19 @@ examples =
     -- whose first point goes, so that op1 is the first
     ∷ record { points = 6; job = hexagon ∷ []; joins = 4 ∷ 2 ∷ []; many = 1; answer = joined (left NONE (4 ∷ 2 ∷ 3 ∷ []) ∷ left 0 (5 ∷ 0 ∷ 1 ∷ []) ∷ []) }
     -- two rings
-    ∷ record { points = 6; job = triangle ∷ other ∷ []; joins = 0 ∷ 4 ∷ []; many = 1; answer = joined (left NONE (0 ∷ 4 ∷ 5 ∷ 3 ∷ 1 ∷ 2 ∷ []) ∷ left 0 [] ∷ []) }
+    ∷ record { points = 6; job = triangle ∷ other ∷ []; joins = 0 ∷ 4 ∷ []; many = 1; answer = joined (left NONE (0 ∷ 4 ∷ 5 ∷ 3 ∷ 1 ∷ 2 ∷ []) ∷ takenBy 0 ∷ []) }
     -- two rings, then the one that they have become
-    ∷ record { points = 6; job = triangle ∷ other ∷ []; joins = 0 ∷ 4 ∷ 5 ∷ 2 ∷ []; many = 2; answer = joined (left NONE (0 ∷ 4 ∷ 5 ∷ 2 ∷ []) ∷ left 0 [] ∷ left 0 (3 ∷ 1 ∷ []) ∷ []) }
+    ∷ record { points = 6; job = triangle ∷ other ∷ []; joins = 0 ∷ 4 ∷ 5 ∷ 2 ∷ []; many = 2; answer = joined (left NONE (0 ∷ 4 ∷ 5 ∷ 2 ∷ []) ∷ takenBy 0 ∷ left 0 (3 ∷ 1 ∷ []) ∷ []) }
+    -- three rings: the third goes to the second, which goes to the first; or the second goes first, and the third to the first
+    ∷ record { points = 12; job = square 0 ∷ square 4 ∷ square 8 ∷ []; joins = 5 ∷ 8 ∷ 1 ∷ 4 ∷ []; many = 2; answer = joined (left NONE (0 ∷ 1 ∷ 4 ∷ 5 ∷ 8 ∷ 9 ∷ 10 ∷ 11 ∷ 6 ∷ 7 ∷ 2 ∷ 3 ∷ []) ∷ takenBy 0 ∷ takenBy 1 ∷ []) }
+    ∷ record { points = 12; job = square 0 ∷ square 4 ∷ square 8 ∷ []; joins = 1 ∷ 4 ∷ 5 ∷ 8 ∷ []; many = 2; answer = joined (left NONE (0 ∷ 1 ∷ 4 ∷ 5 ∷ 8 ∷ 9 ∷ 10 ∷ 11 ∷ 6 ∷ 7 ∷ 2 ∷ 3 ∷ []) ∷ takenBy 0 ∷ takenBy 0 ∷ []) }
     -- the same join twice
     ∷ record { points = 6; job = triangle ∷ other ∷ []; joins = 0 ∷ 4 ∷ 0 ∷ 4 ∷ []; many = 2; answer = refused 9 }
     ∷ []
 
 pub bench : RowsHold examples
 unfolding examples answered joinsFrom joinOf byRecords splitOf splitRing moveFirst fixOutrecPts nameAll newOutRec relinkOf mergeOf findIn run cell put
-bench = (refl, (refl, (refl, (refl, (refl, (refl, (refl, (refl, (refl, tt)))))))))
+bench = (refl, (refl, (refl, (refl, (refl, (refl, (refl, (refl, (refl, (refl, (refl, tt)))))))))))
 
 -- ---- the same by lists alone: what goes, what stays, what is spliced
 

@@ -18,7 +18,7 @@ use Rattle.rings.proofs.Counting.{all-in, one-here, one-else}
 use Rattle.rings.proofs.Members.{occ-append, parted, seg-part, seg-next, whole-kept}
 use Rattle.rings.proofs.Splicing.{occ-halves, whole-cut-new}
 use Rattle.rings.proofs.Walking.{Seen, seen}
-use Rattle.store.specs.Field.{Field, pt, rc, ct, X, Y, NEXT, PREV, REC, FLAGS, OWNER, FIRST, POINTS, RECORDS, NONE, LENGTH, same}
+use Rattle.store.specs.Field.{Field, pt, rc, ct, X, Y, NEXT, PREV, REC, FLAGS, OWNER, FIRST, REASON, TAKER, POINTS, RECORDS, NONE, LENGTH, same}
 use Rattle.store.specs.Words.{Store, view, Write, onWords}
 use Rattle.store.specs.Stores.{onStore}
 use Rattle.store.specs.Named.{nextOf, prevOf, recOf, firstOf, pointsOf, recordsOf}
@@ -78,7 +78,7 @@ module _ (w : List ℕ) (a c i j : ℕ) (t : Unknotted w a c i j) where
 
   view-merge : view (mergeOf w a c i j) ≡ onStore (view w) merges
   unfolding merges mergeOf relinkOf
-  view-merge = view-writes w merges (t .ready .long) (four .one, (four .two, (four .next, (four .prev, (low-two, (low-two, tt))))))
+  view-merge = view-writes w merges (t .ready .long) (four .one, (four .two, (four .next, (four .prev, (low-two, (low-two, (low-two, (low-two, tt))))))))
 
   pub merged : Merged (view w) (view (mergeOf w a c i j)) a (prevOf w c) i j
   unfolding merges
@@ -94,6 +94,10 @@ module _ (w : List ℕ) (a c i j : ℕ) (t : Unknotted w a c i j) where
             first-else = λ x d. rw (ne-eqb x j d);
             owner-gone = rw (eq-eqb j j refl);
             owner-else = λ x d. rw (ne-eqb x j d);
+            reason-gone = rw (eq-eqb j j refl);
+            reason-else = λ x d. rw (ne-eqb x j d);
+            taker-gone = rw (eq-eqb j j refl);
+            taker-else = λ x d. rw (ne-eqb x j d);
             named = λ k. refl;
             xs = λ k. refl;
             ys = λ k. refl;
@@ -341,6 +345,8 @@ module _ (w : List ℕ) (a c i k : ℕ) (t : Unknotted w a c i i) (kn : k ≡ re
         first-else = λ j d e. z .first-else j d ∙ rw (ne-eqb j k (λ h. e (h ∙ kn)));
         owner-new = rw (← kn) (z .cols (rc OWNER) k refl refl ∙ rw (eq-eqb k k refl));
         owner-else = λ j e. z .cols (rc OWNER) j refl refl ∙ rw (ne-eqb j k (λ h. e (h ∙ kn)));
+        reasons = λ j. z .cols (rc REASON) j refl refl;
+        takers = λ j. z .cols (rc TAKER) j refl refl;
         named-new = λ m h. z .rec-else m (λ e. omega (arith, a-out, subst (λ (n : ℕ). 0 < occ n (prevOf w c ∷ l)) e h)) ∙ y-new m h ∙ kn;
         named-own = z .rec-own;
         named-else = λ m h d. z .rec-else m d ∙ y-else m h;

@@ -13,14 +13,14 @@ use Rattle.rings.specs.Table.{Table, with, Starts, nowhere, on-it}
 use Rattle.rings.specs.Table as rings
 use Rattle.rings.proofs.Counting.{all-in, one-else, one-here}
 use Rattle.rings.proofs.Tables.{found, table-insert, total-insert, walked, table-walked, total-walked}
-use Rattle.store.specs.Field.{pt, rc, X, Y, NEXT, PREV, REC, OWNER, FIRST, NONE}
+use Rattle.store.specs.Field.{pt, rc, X, Y, NEXT, PREV, REC, OWNER, FIRST, REASON, TAKER, NONE}
 use Rattle.store.specs.Words.{Store}
 use Rattle.store.specs.Sound.{pts, recs, ringAt}
 use Rattle.store.specs.Good.{total}
 use Rattle.joins.specs.Paths.{Resolves, Lives}
 use Rattle.joins.specs.Resolved.{Resolved}
 use Rattle.joins.proofs.Resolving.{path-kept}
-use Rattle.joins.proofs.Homes.{starts, table, from}
+use Rattle.joins.proofs.Homes.{starts, emptied-kept, table, from}
 
 -- like: the point that is copied
 pub record Grown (s u : Store) (q like : ℕ) : Type 0 where
@@ -29,6 +29,8 @@ pub record Grown (s u : Store) (q like : ℕ) : Type 0 where
   pub records : recs u ≡ recs s
   pub first : (j : ℕ) → u (rc FIRST) j ≡ s (rc FIRST) j
   pub owner : (j : ℕ) → u (rc OWNER) j ≡ s (rc OWNER) j
+  pub reasons : (j : ℕ) → u (rc REASON) j ≡ s (rc REASON) j
+  pub takers : (j : ℕ) → u (rc TAKER) j ≡ s (rc TAKER) j
   pub named-new : u (pt REC) (pts s) ≡ s (pt REC) like
   pub named-else : (x : ℕ) → x ≢ pts s → u (pt REC) x ≡ s (pt REC) x
   pub x-new : u (pt X) (pts s) ≡ s (pt X) like
@@ -98,6 +100,7 @@ module _ (s u : Store) (o : Resolved s) (i q like : ℕ) (room : pts s < limit.P
         x-in = λ k h. xs k (rw (c .points) at h) (ℕ-discrete k (pts s));
         y-in = λ k h. ys k (rw (c .points) at h) (ℕ-discrete k (pts s));
         owner-in = λ j h. rw (c .owner j, c .records) (o .owner-in j (rw (c .records) at h));
+        emptied = λ j h e. emptied-kept s u j (c .reasons j) (c .takers j) (omega (arith, c .records)) (o .emptied j (rw (c .records) at h) (rw (c .first j) at e));
       }
     where
       t : Table (u (pt NEXT)) (u (pt PREV)) (suc (pts s)) (recs s) (ringAt u)

@@ -1,7 +1,8 @@
 -- What the invariant gives: the table of rings, the ring that a point is on, and its neighbours there.
-use Prim.Native.Nat.{ℕ, _<_}
-use mathlib.Core.Path.{_≡_, subst}
-use mathlib.Core.Logic.{_≢_}
+use Prim.Native.Nat.{ℕ, _≤_, _<_}
+use mathlib.Core.Path.{_≡_, _∙_, subst}
+use mathlib.Core.Logic.{_≢_, inl, inr}
+use native.Mathlib.Omega.{arith}
 use native.Mathlib.Decide.{ℕ-discrete}
 use borrow.Author.Tests.{eq-eqb, ne-eqb}
 use Rattle.rings.specs.Count.{occ}
@@ -10,12 +11,12 @@ use Rattle.rings.specs.Table.{Table, Starts, nowhere, on-it}
 use Rattle.rings.proofs.Members as members
 use Rattle.rings.proofs.Members.{From}
 use Rattle.rings.proofs.Tables.{found, once-by}
-use Rattle.store.specs.Field.{pt, rc, NEXT, PREV, REC, FIRST, NONE}
+use Rattle.store.specs.Field.{pt, rc, NEXT, PREV, REC, FIRST, REASON, TAKER, NONE}
 use Rattle.store.specs.Words.{Store}
 use Rattle.store.specs.Sound.{pts, recs, ringAt}
 use Rattle.store.proofs.Soundness.{first-on}
 use Rattle.joins.specs.Paths.{Lives}
-use Rattle.joins.specs.Resolved.{Resolved}
+use Rattle.joins.specs.Resolved.{Emptied, Resolved}
 use Rattle.joins.proofs.Resolving.{res-same}
 
 -- a record's first point is on its ring, if it has one
@@ -25,6 +26,11 @@ starts s i = go (ℕ-discrete (s (rc FIRST) i) NONE)
     go : Dec (s (rc FIRST) i ≡ NONE) → Starts (s (rc FIRST) i) (ringAt s i)
     go (yes e) = nowhere e (rw (eq-eqb (s (rc FIRST) i) NONE e))
     go (no d) = on-it d (first-on s i (ne-eqb (s (rc FIRST) i) NONE d))
+
+-- why a record has no ring stays, where its words do
+pub emptied-kept : (s u : Store) (i : ℕ) → u (rc REASON) i ≡ s (rc REASON) i → u (rc TAKER) i ≡ s (rc TAKER) i → recs s ≤ recs u → Emptied s i → Emptied u i
+emptied-kept s u i a b m (inl e) = inl (a ∙ e)
+emptied-kept s u i a b m (inr e) = inr (a ∙ e .0, omega (arith, e .1, b))
 
 module _ (s : Store) (o : Resolved s) where
   only : (i j k : ℕ) → i < recs s → j < recs s → 0 < occ k (ringAt s i) → 0 < occ k (ringAt s j) → i ≡ j

@@ -6,7 +6,7 @@ use mathlib.Core.Bool.{Bool, true, false, cond}
 use mathlib.Core.List.{List, [], _∷_, _++_}
 use native.Mathlib.Omega.{arith}
 use native.Mathlib.Decide.{ℕ-discrete, decLt}
-use borrow.Author.Tests.{eq-eqb, ne-eqb}
+use borrow.Author.Tests.{eq-eqb, ne-eqb, eqb-true}
 use Rattle.job.specs.Limits as limit
 use Rattle.rings.specs.Count.{occ}
 use Rattle.rings.specs.Walk.{walk}
@@ -19,14 +19,15 @@ use Rattle.rings.proofs.Members.{one-is, occ-append}
 use Rattle.rings.proofs.Walking.{run-agree}
 use Rattle.rings.proofs.Splicing.{occ-halves, occ-spliced}
 use Rattle.rings.proofs.Tables.{with-here, with-else, table-cut, total-cut, table-splice, total-splice, walked, table-walked, total-walked, elsewhere}
-use Rattle.store.specs.Field.{pt, rc, X, Y, NEXT, PREV, REC, FLAGS, OWNER, FIRST, NONE}
+use Rattle.store.specs.Field.{pt, rc, X, Y, NEXT, PREV, REC, FLAGS, OWNER, FIRST, REASON, TAKER, NONE}
 use Rattle.store.specs.Words.{Store}
 use Rattle.store.specs.Sound.{pts, recs, ringless, ringAt, isOpen}
+use Rattle.store.specs.Reason.{JOINED}
 use Rattle.store.specs.Good.{total}
 use Rattle.joins.specs.Paths.{Path, Resolves, Lives}
-use Rattle.joins.specs.Resolved.{Resolved}
+use Rattle.joins.specs.Resolved.{Emptied, Resolved}
 use Rattle.joins.proofs.Resolving.{path-join, path-kept, res-same}
-use Rattle.joins.proofs.Homes.{starts, table, lives-on, home-of, on-ring}
+use Rattle.joins.proofs.Homes.{starts, emptied-kept, table, lives-on, home-of, on-ring}
 
 -- the ring of record i is a, l.., b, r..; a new record takes b, l..
 pub record Split (s u : Store) (a b i : ℕ) (l r : List ℕ) : Type 0 where
@@ -38,6 +39,8 @@ pub record Split (s u : Store) (a b i : ℕ) (l r : List ℕ) : Type 0 where
   pub first-else : (j : ℕ) → j ≢ i → j ≢ recs s → u (rc FIRST) j ≡ s (rc FIRST) j
   pub owner-new : u (rc OWNER) (recs s) ≡ i
   pub owner-else : (j : ℕ) → j ≢ recs s → u (rc OWNER) j ≡ s (rc OWNER) j
+  pub reasons : (j : ℕ) → u (rc REASON) j ≡ s (rc REASON) j
+  pub takers : (j : ℕ) → u (rc TAKER) j ≡ s (rc TAKER) j
   pub named-new : (k : ℕ) → 0 < occ k (b ∷ l) → u (pt REC) k ≡ recs s
   pub named-own : (u (pt REC) a ≡ s (pt REC) a) ⊎ (u (pt REC) a ≡ i)
   pub named-else : (k : ℕ) → occ k (b ∷ l) ≡ 0 → k ≢ a → u (pt REC) k ≡ s (pt REC) k
@@ -55,6 +58,10 @@ pub record Merged (s u : Store) (a b i j : ℕ) : Type 0 where
   pub first-else : (x : ℕ) → x ≢ j → u (rc FIRST) x ≡ s (rc FIRST) x
   pub owner-gone : u (rc OWNER) j ≡ i
   pub owner-else : (x : ℕ) → x ≢ j → u (rc OWNER) x ≡ s (rc OWNER) x
+  pub reason-gone : u (rc REASON) j ≡ JOINED
+  pub reason-else : (x : ℕ) → x ≢ j → u (rc REASON) x ≡ s (rc REASON) x
+  pub taker-gone : u (rc TAKER) j ≡ i
+  pub taker-else : (x : ℕ) → x ≢ j → u (rc TAKER) x ≡ s (rc TAKER) x
   pub named : (k : ℕ) → u (pt REC) k ≡ s (pt REC) k
   pub xs : (k : ℕ) → u (pt X) k ≡ s (pt X) k
   pub ys : (k : ℕ) → u (pt Y) k ≡ s (pt Y) k
@@ -194,6 +201,7 @@ module _ (s u : Store) (o : Resolved s) (a b i : ℕ) (l r : List ℕ) (hi : i <
         x-in = λ k h. rw (c .xs k) (o .x-in k (omega (arith, c .points)));
         y-in = λ k h. rw (c .ys k) (o .y-in k (omega (arith, c .points)));
         owner-in = λ j h. owners j h (ℕ-discrete j (recs s));
+        emptied = λ j h e. why j h e (ℕ-discrete j (recs s)) (ℕ-discrete j i);
       }
     where
       t : Table (u (pt NEXT)) (u (pt PREV)) (pts s) (suc (recs s)) (ringAt u)
@@ -220,6 +228,11 @@ module _ (s u : Store) (o : Resolved s) (a b i : ℕ) (l r : List ℕ) (hi : i <
           more : (s (rc OWNER) j ≡ NONE) ⊎ (s (rc OWNER) j < recs s) → (s (rc OWNER) j ≡ NONE) ⊎ (s (rc OWNER) j < recs u)
           more (inl e) = inl e
           more (inr e) = inr (omega (arith, c .records))
+
+      why : (j : ℕ) → j < recs u → ringless u j ≡ true → Dec (j ≡ recs s) → Dec (j ≡ i) → Emptied u j
+      why j h e (yes d) f = absurd (some-new (ap (u (rc FIRST)) (sym d) ∙ eqb-true _ _ e))
+      why j h e (no d) (yes f) = absurd (some-own (ap (u (rc FIRST)) (sym f) ∙ eqb-true _ _ e))
+      why j h e (no d) (no f) = emptied-kept s u j (c .reasons j) (c .takers j) (omega (arith, c .records)) (o .emptied j (omega (arith, c .records)) (rw (c .first-else j f d) at e))
 
   -- every other ring stays
   pub split-others : (j : ℕ) → j < recs s → j ≢ i → ringAt u j ≡ ringAt s j
@@ -333,6 +346,7 @@ module _ (s u : Store) (o : Resolved s) (a b i j : ℕ) (l r : List ℕ) (ij : i
         x-in = λ k h. rw (c .xs k) (o .x-in k (omega (arith, c .points)));
         y-in = λ k h. rw (c .ys k) (o .y-in k (omega (arith, c .points)));
         owner-in = λ t h. rw (c .records) (owners t (rw (c .records) at h) (ℕ-discrete t j));
+        emptied = λ t h e. why t (rw (c .records) at h) e (ℕ-discrete t j);
       }
     where
       tables : Table (u (pt NEXT)) (u (pt PREV)) (pts s) (recs s) (ringAt u)
@@ -359,6 +373,10 @@ module _ (s u : Store) (o : Resolved s) (a b i j : ℕ) (l r : List ℕ) (ij : i
       owners : (t : ℕ) → t < recs s → Dec (t ≡ j) → (u (rc OWNER) t ≡ NONE) ⊎ (u (rc OWNER) t < recs s)
       owners t h (yes e) = inr (subst (λ (x : ℕ). u (rc OWNER) x < recs s) (sym e) (rw (c .owner-gone) hi))
       owners t h (no d) = rw (c .owner-else t d) (o .owner-in t h)
+
+      why : (t : ℕ) → t < recs s → ringless u t ≡ true → Dec (t ≡ j) → Emptied u t
+      why t h e (yes d) = subst (Emptied u) (sym d) (inr (c .reason-gone, rw (c .taker-gone, c .records) hi))
+      why t h e (no d) = emptied-kept s u t (c .reason-else t d) (c .taker-else t d) (omega (arith, c .records)) (o .emptied t h (rw (c .first-else t d) at e))
 
   -- the ring of both
   pub merge-whole : Whole (u (pt NEXT)) (u (pt PREV)) (pts s) (a ∷ r ++ b ∷ l)

@@ -9,7 +9,8 @@ use lib.Dec.{eqb, ltb}
 use lib.ListN.{length, getD}
 use borrow.Author.Tests.{eq-eqb, ne-eqb, eqb-true, eqb-false, lt-ltb, le-ltb, ltb-true}
 use Rattle.job.specs.Limits as limit
-use Rattle.store.specs.Field.{pt, rc, REC, OWNER, FIRST, NONE, LENGTH}
+use Rattle.store.specs.Field.{pt, rc, REC, OWNER, FIRST, REASON, TAKER, NONE, LENGTH}
+use Rattle.store.specs.Reason.{JOINED}
 use Rattle.store.specs.Words.{put}
 use Rattle.store.specs.Named.{nextOf, recOf, firstOf, pointsOf, recordsOf}
 use Rattle.joins.specs.declared.Joined.{Joined}
@@ -79,9 +80,9 @@ split-no w a c i k e h =
 
 -- ---- two records
 
-pub merge-done : (w x y z : List ℕ) (a c i j : ℕ) → x ≡ relinkOf w a c → y ≡ put (rc FIRST) x j NONE → z ≡ put (rc OWNER) y j i → z ≡ mergeOf w a c i j
+pub merge-done : (w x y z p q : List ℕ) (a c i j : ℕ) → x ≡ relinkOf w a c → y ≡ put (rc FIRST) x j NONE → z ≡ put (rc OWNER) y j i → p ≡ put (rc REASON) z j JOINED → q ≡ put (rc TAKER) p j i → q ≡ mergeOf w a c i j
 unfolding mergeOf
-merge-done w x y z a c i j e f g = cc
+merge-done w x y z p q a c i j e f g h k = rw (k, h, g, f, e)
 
 -- ---- by records
 

@@ -10,10 +10,11 @@ use lib.ListN.{getD}
 use Rattle.job.specs.Limits as limit
 use Rattle.rings.specs.Circle.{turn, rest}
 use Rattle.rings.specs.Count.{occ}
-use Rattle.store.specs.Field.{pt, rc, X, Y, FLAGS, OWNER, FIRST}
+use Rattle.store.specs.Field.{pt, rc, X, Y, FLAGS, OWNER, FIRST, REASON, TAKER}
+use Rattle.store.specs.Reason.{JOINED}
 use Rattle.store.specs.Words.{Store, view}
 use Rattle.store.specs.Named.{nextOf, recordsOf}
-use Rattle.store.specs.Sound.{pts, recs, ringAt, isOpen}
+use Rattle.store.specs.Sound.{pts, recs, ringless, ringAt, isOpen}
 use Rattle.joins.specs.declared.Joined.the-variants.{Done, Knot, Full}
 use Rattle.joins.specs.Resolve.{homeOf}
 use Rattle.joins.specs.Join.{JoinEnd, end, joinOf, processHorzJoins}
@@ -68,9 +69,13 @@ pub record OneRecord (s u : Store) (a c i : ℕ) : Type 0 where
   pub new : ringAt u (recs s) ≡ goes a c (ringAt s i)
   pub own : ringAt u i ≡ seenFrom (u (rc FIRST) i) (stays a c (ringAt s i))
   pub first : u (rc FIRST) i ≡ firstLeft a (goes a c (ringAt s i)) (s (rc FIRST) i)
+  pub new-ringed : ringless u (recs s) ≡ false
+  pub own-ringed : ringless u i ≡ false
   pub others : (j : ℕ) → j < recs s → j ≢ i → ringAt u j ≡ ringAt s j
   pub owner : u (rc OWNER) (recs s) ≡ i
   pub owners : (j : ℕ) → j < recs s → u (rc OWNER) j ≡ s (rc OWNER) j
+  pub reasons : (j : ℕ) → u (rc REASON) j ≡ s (rc REASON) j
+  pub takers : (j : ℕ) → u (rc TAKER) j ≡ s (rc TAKER) j
   pub closed : isOpen u (recs s) ≡ false
   pub unmoved : Unmoved s u
 
@@ -80,10 +85,16 @@ pub record TwoRecords (s u : Store) (a c i j : ℕ) : Type 0 where
   pub two-on : 0 < occ c (ringAt s j)
   pub records : recs u ≡ recs s
   pub own : ringAt u i ≡ spliced a c (ringAt s i) (ringAt s j)
+  pub own-ringed : ringless u i ≡ false
   pub emptied : ringAt u j ≡ []
   pub others : (k : ℕ) → k < recs s → k ≢ i → k ≢ j → ringAt u k ≡ ringAt s k
   pub owner : u (rc OWNER) j ≡ i
   pub owners : (k : ℕ) → k ≢ j → u (rc OWNER) k ≡ s (rc OWNER) k
+  -- "joined into another record, with the number of the one that took it in that join"
+  pub reason : u (rc REASON) j ≡ JOINED
+  pub reasons : (k : ℕ) → k ≢ j → u (rc REASON) k ≡ s (rc REASON) k
+  pub taker : u (rc TAKER) j ≡ i
+  pub takers : (k : ℕ) → k ≢ j → u (rc TAKER) k ≡ s (rc TAKER) k
   pub unmoved : Unmoved s u
 
 -- ---- a join at its turn

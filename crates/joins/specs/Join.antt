@@ -8,7 +8,8 @@ use lib.ListN.{getD}
 use Rattle.job.specs.Limits as limit
 use Rattle.job.specs.declared.refusal.Refusal.{Refusal}
 use Rattle.job.specs.declared.refusal.Refusal.the-variants as refusal
-use Rattle.store.specs.Field.{pt, rc, ct, NEXT, PREV, REC, FLAGS, OWNER, FIRST, RECORDS, NONE}
+use Rattle.store.specs.Field.{pt, rc, ct, NEXT, PREV, REC, FLAGS, OWNER, FIRST, REASON, TAKER, RECORDS, NONE}
+use Rattle.store.specs.Reason.{JOINED}
 use Rattle.store.specs.Words.{Store, view, Write, write, onWords}
 use Rattle.store.specs.Named.{nextOf, recOf, firstOf, recordsOf, setRec}
 use Rattle.store.specs.Sound.{ringAt}
@@ -37,9 +38,9 @@ relinkWrites s a c =
 abbrev pub madeWrites : ℕ → ℕ → ℕ → List Write
 madeWrites k n i = write (ct RECORDS) 0 (k + 1) ∷ write (rc FLAGS) k 0 ∷ write (rc FIRST) k n ∷ write (rc OWNER) k i ∷ []
 
--- record j is emptied, and owned by i
+-- record j is emptied, and owned by i, which took it
 abbrev pub emptyWrites : ℕ → ℕ → List Write
-emptyWrites j i = write (rc FIRST) j NONE ∷ write (rc OWNER) j i ∷ []
+emptyWrites j i = write (rc FIRST) j NONE ∷ write (rc OWNER) j i ∷ write (rc REASON) j JOINED ∷ write (rc TAKER) j i ∷ []
 
 -- the first point of record i is a, which names it
 abbrev pub firstWrites : ℕ → ℕ → List Write

@@ -1,6 +1,7 @@
 // Joins (`process_horz_joins`): document 01, "Segment and join". A join at its turn is refused (9, 10), splits one ring in two, or makes one ring of two.
 use job::Job;
 use store::Col;
+use store::JOINED;
 use store::NONE;
 use store::get;
 use store::set;
@@ -97,7 +98,7 @@ fn move_first(w: &mut [u32], i: usize, k: usize, a: usize)
     }
 }
 
-// Two records: the second is emptied, and now owned by the first.
+// Two records: the second is emptied, and now owned by the first, which took it.
 fn merge(w: &mut [u32], op1: usize, op2: usize, i: usize, j: usize)
     requires { ⌜ Unknotted (now w) op1 op2 i j ⌝ }
     ensures { λ _. ⌜ now (w .exit) ≡ mergeOf (now (w .entry)) op1 op2 i j ⌝ }
@@ -105,6 +106,8 @@ fn merge(w: &mut [u32], op1: usize, op2: usize, i: usize, j: usize)
     relink(w, op1, op2);
     set(w, Col::First, j, NONE);
     set(w, Col::Owner, j, i);
+    set(w, Col::Reason, j, JOINED);
+    set(w, Col::Taker, j, i);
 }
 
 // One record for both points: its ring is split, and record k is new.

@@ -18,7 +18,7 @@ use Rattle.lone.specs.Lone.{Geo, actOf, stepRing, offcutRing}
 module _ {A B W : Type 0} (f : A → B) (a : W → A) where
   pub apply-map : (act : Act W) (R : Ring A) → mapRing f (apply a act R) ≡ apply (λ v. f (a v)) act (mapRing f R)
   apply-map stay R = refl
-  apply-map discard R = refl
+  apply-map (discard y) R = refl
   apply-map dropPoint R = cc (map-rest f (R .circle), length-map (rest (R .circle)) f)
   apply-map (moveOn d) R = cc (map-turn f (R .circle), length-map (R .circle) f)
   apply-map (toFirst d) R = cc (map-spin f (R .first) (R .circle))
@@ -27,7 +27,7 @@ module _ {A B W : Type 0} (f : A → B) (a : W → A) where
 
   pub offcut-map : (act : Act W) (R : Ring A) → omap (mapRing f) (offcut a act R) ≡ offcut (λ v. f (a v)) act (mapRing f R)
   offcut-map stay R = refl
-  offcut-map discard R = refl
+  offcut-map (discard y) R = refl
   offcut-map dropPoint R = refl
   offcut-map (moveOn d) R = refl
   offcut-map (toFirst d) R = refl
@@ -45,7 +45,7 @@ module _ {A W : Type 0} (a b : W → A) where
 
   pub apply-agree : (act : Act W) (R : Ring A) → ((v : W) → ringsNew act ≡ some v → a v ≡ b v) → apply a act R ≡ apply b act R
   apply-agree stay R h = refl
-  apply-agree discard R h = refl
+  apply-agree (discard y) R h = refl
   apply-agree dropPoint R h = refl
   apply-agree (moveOn d) R h = refl
   apply-agree (toFirst d) R h = refl
@@ -55,7 +55,7 @@ module _ {A W : Type 0} (a b : W → A) where
 
   pub offcut-agree : (act : Act W) (R : Ring A) → ((v : W) → offcutsNew act ≡ some v → a v ≡ b v) → offcut a act R ≡ offcut b act R
   offcut-agree stay R h = refl
-  offcut-agree discard R h = refl
+  offcut-agree (discard y) R h = refl
   offcut-agree dropPoint R h = refl
   offcut-agree (moveOn d) R h = refl
   offcut-agree (toFirst d) R h = refl
@@ -102,7 +102,7 @@ module _ (k : ℕ) where
   pub occ-step : {W : Type 0} (act : Act W) (R : Ring ℕ) (a b : ℕ)
       → occ k (apply (λ (v : W). a) act R .circle) + occOffcut (offcut (λ (v : W). b) act R) ≤ occ k (R .circle) + (oneIf (ringsNew act) a + oneIf (offcutsNew act) b)
   occ-step stay R a b = omega arith
-  occ-step discard R a b = omega arith
+  occ-step (discard y) R a b = omega arith
   occ-step dropPoint R a b = omega (arith, occ-rest k (R .circle))
   occ-step (moveOn d) R a b = omega (arith, occ-turn k (R .circle))
   occ-step (toFirst d) R a b = omega (arith, occ-spin k (R .first) (R .circle))
@@ -119,7 +119,7 @@ count (some w) = 1
 
 pub takes-is : {W : Type 0} (act : Act W) → takesPoints act ≡ count (ringsNew act) + count (offcutsNew act)
 takes-is stay = refl
-takes-is discard = refl
+takes-is (discard y) = refl
 takes-is dropPoint = refl
 takes-is (moveOn d) = refl
 takes-is (toFirst d) = refl

@@ -9,7 +9,7 @@ use native.Mathlib.Omega.{arith}
 use lib.ListN.{length, length-map}
 use Rattle.rings.specs.Circle.{back, cutCircle, cutStart, ahead, omap}
 use Rattle.rings.specs.Place.{isHere}
-use Rattle.rings.specs.Progress.{Due, validity, removal, triangle, split, done, Ring, tidyAt, tidy}
+use Rattle.rings.specs.Progress.{Due, validity, removal, triangle, split, done, Discard, atValidity, whileRemoving, atSplit, Ring, tidyAt, tidy}
 use Rattle.rings.proofs.Circles.{length-turn, length-spin, length-initOf}
 use Rattle.lone.specs.Act.{Act, discard, dropPoint, moveOn, toFirst, cut, apply, offcut, takesPoints}
 use Rattle.lone.specs.Lone.{Geo, isDone, isZero, decide, actOf, stepRing, offcutRing, takesRing}
@@ -43,14 +43,14 @@ module _ {P : Type 0} where
   length-back (x ∷ xs) = ap suc (length-initOf x xs)
 
   pub weight-tidy : (R : Ring P) → weight (tidy R) ≡ weight R
-  weight-tidy R = go (R .circle) (R .first) (R .start) (R .due)
+  weight-tidy R = go (R .circle) (R .first) (R .start) (R .due) (R .why)
     where
-      go : (c : List P) (f : ℕ) (s : Option ℕ) (d : Due) → weight (tidyAt c f s d) ≡ weigh (length c) f s d
-      go c f s validity = rw (length-spin f c)
-      go c f s removal = refl
-      go c f s triangle = rw (length-spin f c)
-      go c f s split = refl
-      go c f s done = refl
+      go : (c : List P) (f : ℕ) (s : Option ℕ) (d : Due) (y : Option Discard) → weight (tidyAt c f s d y) ≡ weigh (length c) f s d
+      go c f s validity y = rw (length-spin f c)
+      go c f s removal y = refl
+      go c f s triangle y = rw (length-spin f c)
+      go c f s split y = refl
+      go c f s done y = refl
 
   cut-low : (c : List P) (v : P) (n : ℕ) → length c ≡ suc n → (t : Option ℕ) (b : Bool) → weigh (length (cutCircle false v c)) 0 t (cond b done split) < 1 + rounds (suc n)
   cut-low [] v n h t b = absurd (omega arith)
@@ -61,20 +61,22 @@ module _ {P : Type 0} where
   cut-low (p ∷ x ∷ y ∷ r) v n h t true = omega arith
   cut-low (p ∷ x ∷ y ∷ r) v n h t false = let e : n ≡ suc (suc (length r)) = omega arith in rw e (omega arith)
 
+-- which rule discarded it does not matter
+module _ {P : Type 0} (was : Option Discard) where
   -- an act that takes no point cuts nothing off and makes the weight less
   Lowers : Ring P → Act P → Type 0
   Lowers R a = takesPoints a ≡ 0 → (offcut (λ (v : P). v) a R ≡ none) × (weight (apply (λ (v : P). v) a R) < weight R)
 
   ring : List P → ℕ → Option ℕ → Due → Ring P
-  ring c f s d = record { circle = c; first = f; start = s; due = d }
+  ring c f s d = record { circle = c; first = f; start = s; due = d; why = was }
 
-  discard-low : (c : List P) (f : ℕ) (s : Option ℕ) (d : Due) → isDone d ≡ false → Lowers (ring c f s d) discard
+  discard-low : (c : List P) (f : ℕ) (s : Option ℕ) (y : Discard) (d : Due) → isDone d ≡ false → Lowers (ring c f s d) (discard y)
   unfolding Lowers ring
-  discard-low c f s validity h e = (refl, omega arith)
-  discard-low c f s removal h e = (refl, omega arith)
-  discard-low c f s triangle h e = (refl, omega arith)
-  discard-low c f s split h e = (refl, omega arith)
-  discard-low c f s done h e = absurd (true≢false h)
+  discard-low c f s y validity h e = (refl, omega arith)
+  discard-low c f s y removal h e = (refl, omega arith)
+  discard-low c f s y triangle h e = (refl, omega arith)
+  discard-low c f s y split h e = (refl, omega arith)
+  discard-low c f s y done h e = absurd (true≢false h)
 
   removal-on : (c : List P) (f : ℕ) (s : Option ℕ) → HasStart removal s → (x : P) (xs : List P) → c ≡ x ∷ xs → (b : Bool) → isHere (omap (ahead (suc (length xs))) s) ≡ b → Lowers (ring c f s removal) (moveOn (cond b triangle removal))
   unfolding Lowers ring
@@ -99,21 +101,23 @@ module _ {P : Type 0} where
   module _ (G : Geo P) where
     lowers : (c : List P) (f : ℕ) (s : Option ℕ) (d : Due) → HasStart d s → isDone d ≡ false → Lowers (ring c f s d) (decide G c f s d)
     unfolding Lowers ring
-    lowers c f s validity g h = validity-cases G (Lowers (ring c f s validity)) c f s (λ e. (refl, rw (length-spin f c) (omega arith))) (discard-low c f s validity h)
-    lowers c f s removal g h = removal-cases G (Lowers (ring c f s removal)) c f s (discard-low c f s removal h) (λ x xs e t v. removal-drop c f s x xs e) (λ x xs e t. removal-on c f s g x xs e)
+    lowers c f s validity g h = validity-cases G (Lowers (ring c f s validity)) c f s (λ e. (refl, rw (length-spin f c) (omega arith))) (discard-low c f s atValidity validity h)
+    lowers c f s removal g h = removal-cases G (Lowers (ring c f s removal)) c f s (discard-low c f s whileRemoving removal h) (λ x xs e t v. removal-drop c f s x xs e) (λ x xs e t. removal-on c f s g x xs e)
     lowers c f s triangle g h = triangle-cases G (Lowers (ring c f s triangle)) c f s (λ b i. go b)
       where
         go : (b : Bool) → Lowers (ring c f s triangle) (toFirst (cond b done split))
         go true e = (refl, omega arith)
         go false e = (refl, rw (length-spin f c) (omega arith))
-    lowers c f s split g h = split-cases G (Lowers (ring c f s split)) c f s (discard-low c f s split h) (split-on c f s) (λ x xs e k v o b i z. absurd (omega arith)) (λ x xs e k v o put off b i. split-cut c f s x xs e v put off b)
+    lowers c f s split g h = split-cases G (Lowers (ring c f s split)) c f s (discard-low c f s atSplit split h) (split-on c f s) (λ x xs e k v o b i z. absurd (omega arith)) (λ x xs e k v o put off b i. split-cut c f s x xs e v put off b)
     lowers c f s done g h = absurd (true≢false h)
 
+module _ {P : Type 0} where
+  module _ (G : Geo P) where
     -- with its start on the circle
     pub falls : (R : Ring P) → HasStart (R .due) (R .start) → machine G .over R ≡ false → machine G .takes R ≡ 0 → (machine G .cuts R ≡ none) × (weight (machine G .next R) < weight R)
     unfolding machine takesRing stepRing offcutRing actOf Lowers ring
     falls R g h e =
-        let r = lowers (R .circle) (R .first) (R .start) (R .due) g h e in
+        let r = lowers (R .why) G (R .circle) (R .first) (R .start) (R .due) g h e in
         (r .0, rw (weight-tidy (apply (λ (v : P). v) (decide G (R .circle) (R .first) (R .start) (R .due)) R)) (r .1))
 
     -- ---- of rings: from what opening left, the limits the job's

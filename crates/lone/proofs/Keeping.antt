@@ -14,7 +14,7 @@ use lib.Dec.{eqb}
 use borrow.Author.Tests.{eqb-false}
 use Rattle.rings.specs.Circle.{turn, spin, back, headOr, rest, oneOrThree, cutCircle, cutStart, ahead, omap}
 use Rattle.rings.specs.Count.{occ}
-use Rattle.rings.specs.Progress.{Due, validity, removal, triangle, split, done, Ring, atStart, tidyAt, tidy}
+use Rattle.rings.specs.Progress.{Due, validity, removal, triangle, split, done, Discard, Ring, atStart, tidyAt, tidy}
 use Rattle.rings.proofs.Circles.{length-turn, length-spin, length-initOf}
 use Rattle.rings.proofs.Counting.{one-here}
 use Rattle.lone.specs.Act.{Act, stay, discard, dropPoint, moveOn, toFirst, double, cut, apply, offcut}
@@ -68,7 +68,7 @@ short put n (some (suc (suc k))) l h = absurd (omega arith)
 module _ {A W : Type 0} (a : W → A) where
   pub on-apply : (act : Act W) (R : Ring A) → PlacesOnRing R → PlacesOnRing (apply a act R)
   on-apply stay R h = h
-  on-apply discard R h = (omega arith, tt)
+  on-apply (discard y) R h = (omega arith, tt)
   on-apply dropPoint R h = go (R .circle) (R .first) (R .start) h
     where
       go : (c : List A) (f : ℕ) (s : Option ℕ) → OnCircle (length c) f s → OnCircle (length (rest c)) (ahead (length (rest c)) f) (some 0)
@@ -100,7 +100,7 @@ module _ {A W : Type 0} (a : W → A) where
   -- an offcut is at its start
   pub offcut-starts : (Q : Ring A → Type 0) → ((c : List A) → Q (atStart c)) → (act : Act W) (R O : Ring A) → offcut a act R ≡ some O → Q O
   offcut-starts Q q stay R O h = let z : _≡_ {A = ℕ} 0 1 = cc in absurd (omega arith)
-  offcut-starts Q q discard R O h = let z : _≡_ {A = ℕ} 0 1 = cc in absurd (omega arith)
+  offcut-starts Q q (discard y) R O h = let z : _≡_ {A = ℕ} 0 1 = cc in absurd (omega arith)
   offcut-starts Q q dropPoint R O h = let z : _≡_ {A = ℕ} 0 1 = cc in absurd (omega arith)
   offcut-starts Q q (moveOn d) R O h = let z : _≡_ {A = ℕ} 0 1 = cc in absurd (omega arith)
   offcut-starts Q q (toFirst d) R O h = let z : _≡_ {A = ℕ} 0 1 = cc in absurd (omega arith)
@@ -110,14 +110,14 @@ module _ {A W : Type 0} (a : W → A) where
 
 module _ {A : Type 0} where
   pub on-tidy : (R : Ring A) → PlacesOnRing R → PlacesOnRing (tidy R)
-  on-tidy R h = go (R .circle) (R .first) (R .start) (R .due) h
+  on-tidy R h = go (R .circle) (R .first) (R .start) (R .due) (R .why) h
     where
-      go : (c : List A) (f : ℕ) (s : Option ℕ) (d : Due) → OnCircle (length c) f s → PlacesOnRing (tidyAt c f s d)
-      go c f s validity h = on-first (length (spin f c)) none tt
-      go c f s removal h = h
-      go c f s triangle h = on-first (length (spin f c)) none tt
-      go c f s split h = h
-      go c f s done h = on-first (length (spin f c)) none tt
+      go : (c : List A) (f : ℕ) (s : Option ℕ) (d : Due) (y : Option Discard) → OnCircle (length c) f s → PlacesOnRing (tidyAt c f s d y)
+      go c f s validity y h = on-first (length (spin f c)) none tt
+      go c f s removal y h = h
+      go c f s triangle y h = on-first (length (spin f c)) none tt
+      go c f s split y h = h
+      go c f s done y h = on-first (length (spin f c)) none tt
 
 -- ---- what the step due says
 
@@ -130,12 +130,12 @@ module _ {P : Type 0} (G : Geo P) where
   two true s = tt
   two false s = tt
 
-  start-tidy : (c : List P) (f : ℕ) (s : Option ℕ) (d : Due) → HasStart d s → HasStart (tidyAt c f s d .due) (tidyAt c f s d .start)
-  start-tidy c f s validity h = tt
-  start-tidy c f s removal h = h
-  start-tidy c f s triangle h = tt
-  start-tidy c f s split h = tt
-  start-tidy c f s done h = tt
+  start-tidy : (c : List P) (f : ℕ) (s : Option ℕ) (d : Due) (y : Option Discard) → HasStart d s → HasStart (tidyAt c f s d y .due) (tidyAt c f s d y .start)
+  start-tidy c f s validity y h = tt
+  start-tidy c f s removal y h = h
+  start-tidy c f s triangle y h = tt
+  start-tidy c f s split y h = tt
+  start-tidy c f s done y h = tt
 
   module _ (R : Ring P) where
     Starts : Act P → Type 0
@@ -157,7 +157,7 @@ module _ {P : Type 0} (G : Geo P) where
   -- a removal turn has its start on the circle
   pub start-kept : (R : Ring P) → HasStart (R .due) (R .start) → HasStart (stepRing G R .due) (stepRing G R .start)
   unfolding stepRing actOf Starts
-  start-kept R h = let T : Ring P = apply (λ (v : P). v) (decide G (R .circle) (R .first) (R .start) (R .due)) R in start-tidy (T .circle) (T .first) (T .start) (T .due) (starts R (R .due) h h)
+  start-kept R h = let T : Ring P = apply (λ (v : P). v) (decide G (R .circle) (R .first) (R .start) (R .due)) R in start-tidy (T .circle) (T .first) (T .start) (T .due) (T .why) (starts R (R .due) h h)
 
 -- ---- the size of the circle at a split turn
 
@@ -176,12 +176,12 @@ module _ {P : Type 0} (G : Geo P) (laws : GeoLaws G) where
   crossing-size x (y ∷ z ∷ []) h = absurd (true≢false (sym h ∙ laws .back-to-start z x y))
   crossing-size x (y ∷ z ∷ u ∷ r) h = omega arith
 
-  size-tidy : (c : List P) (f : ℕ) (s : Option ℕ) (d : Due) → SplitSize d (length c) → SplitSize (tidyAt c f s d .due) (length (tidyAt c f s d .circle))
-  size-tidy c f s validity h = tt
-  size-tidy c f s removal h = tt
-  size-tidy c f s triangle h = tt
-  size-tidy c f s split h = h
-  size-tidy c f s done h = tt
+  size-tidy : (c : List P) (f : ℕ) (s : Option ℕ) (d : Due) (y : Option Discard) → SplitSize d (length c) → SplitSize (tidyAt c f s d y .due) (length (tidyAt c f s d y .circle))
+  size-tidy c f s validity y h = tt
+  size-tidy c f s removal y h = tt
+  size-tidy c f s triangle y h = tt
+  size-tidy c f s split y h = h
+  size-tidy c f s done y h = tt
 
   module _ (R : Ring P) where
     Sizes : Act P → Type 0
@@ -212,7 +212,7 @@ module _ {P : Type 0} (G : Geo P) (laws : GeoLaws G) where
   -- where a split turn is due the circle has two points or at least four
   pub size-kept : (R : Ring P) → SplitSize (R .due) (length (R .circle)) → SplitSize (stepRing G R .due) (length (stepRing G R .circle))
   unfolding stepRing actOf Sizes
-  size-kept R h = let T : Ring P = apply (λ (v : P). v) (decide G (R .circle) (R .first) (R .start) (R .due)) R in size-tidy (T .circle) (T .first) (T .start) (T .due) (sizes R (R .due) h h)
+  size-kept R h = let T : Ring P = apply (λ (v : P). v) (decide G (R .circle) (R .first) (R .start) (R .due)) R in size-tidy (T .circle) (T .first) (T .start) (T .due) (T .why) (sizes R (R .due) h h)
 
   valid-size : (c : List P) → isValidClosedPath G c ≡ true → 3 ≤ length c
   valid-size [] h = absurd (true≢false (sym h))

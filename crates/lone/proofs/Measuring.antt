@@ -8,7 +8,7 @@ use native.Mathlib.Nat.{add-zero, add-mul, suc-mul, not-suc-le-zero, le-of-suc-l
 use native.Mathlib.Omega.{arith}
 use lib.ListN.{length, length-append}
 use Rattle.rings.specs.Circle.{rest, back, cutCircle}
-use Rattle.rings.specs.Progress.{Due, validity, removal, triangle, split, done, Ring, tidyAt, tidy}
+use Rattle.rings.specs.Progress.{Due, validity, removal, triangle, split, done, Discard, Ring, tidyAt, tidy}
 use Rattle.rings.proofs.Circles.{length-turn, length-spin, length-initOf}
 use Rattle.lone.specs.Act.{Act, stay, discard, dropPoint, moveOn, toFirst, double, cut, apply, takesPoints}
 use Rattle.lone.specs.Lone.{Geo, actOf, stepRing, takesRing}
@@ -50,7 +50,7 @@ module _ {P : Type 0} where
   -- a circle grows by the points that a step takes, at most
   pub grows : (act : Act P) (R : Ring P) → length (apply (λ (v : P). v) act R .circle) ≤ length (R .circle) + takesPoints act
   grows stay R = omega arith
-  grows discard R = omega arith
+  grows (discard y) R = omega arith
   grows dropPoint R = go (R .circle)
     where
       go : (c : List P) → length (rest c) ≤ length c + 0
@@ -69,14 +69,14 @@ module _ {P : Type 0} where
       less false (x ∷ y ∷ z ∷ r) = omega (arith, length-initOf z r)
 
   length-tidy : (R : Ring P) → length (tidy R .circle) ≡ length (R .circle)
-  length-tidy R = go (R .circle) (R .first) (R .start) (R .due)
+  length-tidy R = go (R .circle) (R .first) (R .start) (R .due) (R .why)
     where
-      go : (c : List P) (f : ℕ) (s : Option ℕ) (d : Due) → length (tidyAt c f s d .circle) ≡ length c
-      go c f s validity = length-spin f c
-      go c f s removal = refl
-      go c f s triangle = length-spin f c
-      go c f s split = refl
-      go c f s done = length-spin f c
+      go : (c : List P) (f : ℕ) (s : Option ℕ) (d : Due) (y : Option Discard) → length (tidyAt c f s d y .circle) ≡ length c
+      go c f s validity y = length-spin f c
+      go c f s removal y = refl
+      go c f s triangle y = length-spin f c
+      go c f s split y = refl
+      go c f s done y = length-spin f c
 
   pub step-grows : (G : Geo P) (R : Ring P) → length (stepRing G R .circle) ≤ length (R .circle) + takesRing G R
   unfolding stepRing takesRing

@@ -8,7 +8,7 @@ use Prim.Native.Nat.{ℕ, suc}
 use lib.ListN.{length}
 use Rattle.rings.specs.Circle.{spin, lastOf, back, headOr, oneOrThree, cutCircle, ahead, omap}
 use Rattle.rings.specs.Place.{isHere}
-use Rattle.rings.specs.Progress.{validity, removal, triangle, split, done}
+use Rattle.rings.specs.Progress.{validity, removal, triangle, split, done, atValidity, whileRemoving, atSplit}
 use Rattle.lone.specs.Act.{Act, discard, dropPoint, moveOn, toFirst, double, cut}
 use Rattle.lone.specs.Lone.{Geo, isZero, isValidClosedPath, removalTurn, tooSmall, keepsOffcut, doSplitOp, splitTurn, decide}
 
@@ -25,11 +25,11 @@ abbrev pub removableIn : {P : Type 0} → Geo P → P → List P → Bool
 removableIn G x xs = G .removable (lastOf x xs) x (headOr x xs)
 
 module _ {P : Type 0} (G : Geo P) (Q : Act P → Type 0) where
-  pub validity-cases : (c : List P) (f : ℕ) (s : Option ℕ) → Q (toFirst removal) → Q discard → Q (decide G c f s validity)
+  pub validity-cases : (c : List P) (f : ℕ) (s : Option ℕ) → Q (toFirst removal) → Q (discard atValidity) → Q (decide G c f s validity)
   unfolding decide
   validity-cases c f s t d = go (isValidClosedPath G (spin f c))
     where
-      go : (b : Bool) → Q (cond b (toFirst removal) discard)
+      go : (b : Bool) → Q (cond b (toFirst removal) (discard atValidity))
       go true = t
       go false = d
 
@@ -38,7 +38,7 @@ module _ {P : Type 0} (G : Geo P) (Q : Act P → Type 0) where
   triangle-cases c f s t = t (oneOrThree c) refl
 
   -- b, where it moves on: is the next place the start
-  pub removal-cases : (c : List P) (f : ℕ) (s : Option ℕ) → Q discard
+  pub removal-cases : (c : List P) (f : ℕ) (s : Option ℕ) → Q (discard whileRemoving)
       → ((x : P) (xs : List P) → c ≡ x ∷ xs → removableIn G x xs ≡ true → isValidClosedPath G xs ≡ true → Q dropPoint)
       → ((x : P) (xs : List P) → c ≡ x ∷ xs → removableIn G x xs ≡ false → (b : Bool) → isHere (omap (ahead (suc (length xs))) s) ≡ b → Q (moveOn (cond b triangle removal)))
       → Q (decide G c f s removal)
@@ -46,12 +46,12 @@ module _ {P : Type 0} (G : Geo P) (Q : Act P → Type 0) where
   removal-cases [] f s d p m = d
   removal-cases (x ∷ xs) f s d p m = go (removableIn G x xs) _ refl refl
     where
-      go : (b₁ b₂ : Bool) → removableIn G x xs ≡ b₁ → isValidClosedPath G xs ≡ b₂ → Q (cond b₁ (cond b₂ dropPoint discard) (moveOn (cond (isHere (omap (ahead (suc (length xs))) s)) triangle removal)))
+      go : (b₁ b₂ : Bool) → removableIn G x xs ≡ b₁ → isValidClosedPath G xs ≡ b₂ → Q (cond b₁ (cond b₂ dropPoint (discard whileRemoving)) (moveOn (cond (isHere (omap (ahead (suc (length xs))) s)) triangle removal)))
       go true true t v = p x xs refl t v
       go true false t v = d
       go false b₂ t v = m x xs refl t _ refl
 
-  pub split-cases : (c : List P) (f : ℕ) (s : Option ℕ) → Q discard
+  pub split-cases : (c : List P) (f : ℕ) (s : Option ℕ) → Q (discard atSplit)
       → ((x : P) (xs : List P) → c ≡ x ∷ xs → (b : Bool) → (isZero (ahead (suc (length xs)) f) || isHere (omap (ahead (suc (length xs))) s)) ≡ b → Q (moveOn (cond b done split)))
       → ((x : P) (xs : List P) → c ≡ x ∷ xs → Crosses G x xs → (v : P) → v ≡ headOr x (spin 2 (x ∷ xs)) → (b : Bool) → (isZero f || isHere s) ≡ b → Q (double v (cond b done split)))
       → ((x : P) (xs : List P) → c ≡ x ∷ xs → Crosses G x xs → (v : P) → v ≡ crossingAt G x xs → (put off b : Bool) → oneOrThree (cutCircle put v (back (x ∷ xs))) ≡ b → Q (cut v put off (cond b done split)))
@@ -73,7 +73,7 @@ module _ {P : Type 0} (G : Geo P) (Q : Act P → Type 0) where
       put = not (G .samePoint ip (lastOf x xs) || G .samePoint ip n2)
 
       go : (b₁ : Bool) → G .segmentsIntersect (lastOf x xs) x n1 n2 ≡ b₁ → (b₂ b₃ : Bool)
-          → Q (cond b₁ (cond b₂ (double n2 (cond (isZero f || isHere s) done split)) (cond b₃ discard (cut ip put (keepsOffcut G (back (x ∷ xs)) ip x n1) (cond (oneOrThree (cutCircle put ip (back (x ∷ xs)))) done split))))
+          → Q (cond b₁ (cond b₂ (double n2 (cond (isZero f || isHere s) done split)) (cond b₃ (discard atSplit) (cut ip put (keepsOffcut G (back (x ∷ xs)) ip x n1) (cond (oneOrThree (cutCircle put ip (back (x ∷ xs)))) done split))))
           (moveOn (cond (isZero (ahead (suc (length xs)) f) || isHere (omap (ahead (suc (length xs))) s)) done split)))
       go true e true b₃ = w x xs refl e n2 refl _ refl
       go true e false true = d

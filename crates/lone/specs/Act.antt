@@ -6,14 +6,14 @@ use mathlib.Core.Bool.{Bool, true, false}
 use Prim.Native.Nat.{ℕ}
 use lib.ListN.{length, take}
 use Rattle.rings.specs.Circle.{turn, spin, back, rest, cutCircle, cutStart, ahead, omap}
-use Rattle.rings.specs.Progress.{Due, removal, Ring, gone, atStart}
+use Rattle.rings.specs.Progress.{Due, removal, Discard, Ring, gone, atStart}
 
 -- what a step does; W is the value of a point newly made
 pub data Act (W : Type 0) : Type 0 where
   -- nothing: the ring is done
   stay : Act W
-  -- `dispose_out_pts`: the ring is done, without points
-  discard : Act W
+  -- `dispose_out_pts`: the ring is done, without points; the rule that says so
+  discard : Discard → Act W
   -- `dispose_out_pt` of the present point: the next one is the present place and the loop's start; the first point, if dropped, goes back by one
   dropPoint : Act W
   -- to the next point; then the step due
@@ -30,17 +30,17 @@ module _ {A W : Type 0} where
   -- the ring after an act; `a` gives the element newly made, of its value
   abbrev pub apply : (W → A) → Act W → Ring A → Ring A
   apply a stay R = R
-  apply a discard R = gone
-  apply a dropPoint R = record { circle = rest (R .circle); first = ahead (length (rest (R .circle))) (R .first); start = some 0; due = removal }
-  apply a (moveOn d) R = record { circle = turn (R .circle); first = ahead (length (R .circle)) (R .first); start = omap (ahead (length (R .circle))) (R .start); due = d }
-  apply a (toFirst d) R = record { circle = spin (R .first) (R .circle); first = 0; start = some 0; due = d }
-  apply a (double v d) R = record { circle = R .circle ++ (a v ∷ []); first = R .first; start = R .start; due = d }
-  apply a (cut v put off d) R = record { circle = cutCircle put (a v) (back (R .circle)); first = 0; start = cutStart put (length (R .circle)) (R .start); due = d }
+  apply a (discard y) R = gone (some y)
+  apply a dropPoint R = record { circle = rest (R .circle); first = ahead (length (rest (R .circle))) (R .first); start = some 0; due = removal; why = none }
+  apply a (moveOn d) R = record { circle = turn (R .circle); first = ahead (length (R .circle)) (R .first); start = omap (ahead (length (R .circle))) (R .start); due = d; why = none }
+  apply a (toFirst d) R = record { circle = spin (R .first) (R .circle); first = 0; start = some 0; due = d; why = none }
+  apply a (double v d) R = record { circle = R .circle ++ (a v ∷ []); first = R .first; start = R .start; due = d; why = none }
+  apply a (cut v put off d) R = record { circle = cutCircle put (a v) (back (R .circle)); first = 0; start = cutStart put (length (R .circle)) (R .start); due = d; why = none }
 
   -- the offcut: a ring at its start, its first point at the crossing, then the two points cut away
   abbrev pub offcut : (W → A) → Act W → Ring A → Option (Ring A)
   offcut b stay R = none
-  offcut b discard R = none
+  offcut b (discard y) R = none
   offcut b dropPoint R = none
   offcut b (moveOn d) R = none
   offcut b (toFirst d) R = none
@@ -52,7 +52,7 @@ module _ {W : Type 0} where
   -- "A step takes the points and records that the Rust's rule newly makes in it": the points
   abbrev pub takesPoints : Act W → ℕ
   takesPoints stay = 0
-  takesPoints discard = 0
+  takesPoints (discard y) = 0
   takesPoints dropPoint = 0
   takesPoints (moveOn d) = 0
   takesPoints (toFirst d) = 0
@@ -65,7 +65,7 @@ module _ {W : Type 0} where
   -- the value of the new point that goes into the ring itself, if any: it takes the first place
   abbrev pub ringsNew : Act W → Option W
   ringsNew stay = none
-  ringsNew discard = none
+  ringsNew (discard y) = none
   ringsNew dropPoint = none
   ringsNew (moveOn d) = none
   ringsNew (toFirst d) = none
@@ -76,7 +76,7 @@ module _ {W : Type 0} where
   -- the value of the new point of the offcut, if any: it takes the place after
   abbrev pub offcutsNew : Act W → Option W
   offcutsNew stay = none
-  offcutsNew discard = none
+  offcutsNew (discard y) = none
   offcutsNew dropPoint = none
   offcutsNew (moveOn d) = none
   offcutsNew (toFirst d) = none

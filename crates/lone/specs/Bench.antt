@@ -2,12 +2,13 @@
 -- for each rule that a table of simple rings would not see, and rules that only the ring itself shows.
 use mathlib.Core.Bool.{Bool, true, false}
 use mathlib.Core.List.{List, [], _∷_}
+use mathlib.Core.Option.{Option, none, some}
 use Prim.Native.Nat.{ℕ, zero, suc}
 use lib.IntN.{ℤ, pos, negℤ}
 use lib.ListN.{length}
 use Rattle.job.specs.Limits as limit
 use Rattle.geometry.specs.declared.Point.{Point}
-use Rattle.rings.specs.Progress.{Ring, atStart}
+use Rattle.rings.specs.Progress.{Discard, atValidity, whileRemoving, atSplit, Ring, atStart}
 use Rattle.lone.specs.Lone.{fromFirst}
 use Rattle.lone.specs.Forest.{Entry, leftClosed, opening}
 use Rattle.lone.specs.Plane.{plane, loneRing}
@@ -158,48 +159,53 @@ rules =
     ∷ equalsGo
     ∷ []
 
--- ---- rules that no path shows, only what the ring itself is in the end and how many steps it took
+-- ---- rules that no path shows, only what the ring itself is in the end, how many steps it took and which rule discarded it
 
--- a lone ring alone, with settings 0: its points, the steps until it is done, and its points then from the first
+-- a lone ring alone, with settings 0: its points, the steps until it is done, its points then from the first, and the rule that discarded it, if any
 pub record LoneRow : Type 0 where
   pub ring : List Point
   pub steps : ℕ
   pub left : List Point
+  pub why : Option Discard
 
-abbrev pub loneRow : List Point → ℕ → List Point → LoneRow
-loneRow ring steps left = record { ring = ring; steps = steps; left = left }
+abbrev pub loneRow : List Point → ℕ → List Point → Option Discard → LoneRow
+loneRow ring steps left why = record { ring = ring; steps = steps; left = left; why = why }
 
 -- steps until it is done, over: whether it is; f: more than are needed
 abbrev pub goesOn : ℕ → Bool → ℕ → Ring Point → LoneRow
-goesOn zero over n R = loneRow [] n (fromFirst R)
-goesOn (suc f) true n R = loneRow [] n (fromFirst R)
+goesOn zero over n R = loneRow [] n (fromFirst R) (R .why)
+goesOn (suc f) true n R = loneRow [] n (fromFirst R) (R .why)
 goesOn (suc f) false n R = goesOn f (loneRing false .over (loneRing false .next R)) (suc n) (loneRing false .next R)
 
 unfoldable pub loneResult : LoneRow → LoneRow
-loneResult r = loneRow (r .ring) (goesOn 100 false 0 (atStart (r .ring)) .steps) (goesOn 100 false 0 (atStart (r .ring)) .left)
+loneResult r = loneRow (r .ring) (goesOn 100 false 0 (atStart (r .ring)) .steps) (goesOn 100 false 0 (atStart (r .ring)) .left) (goesOn 100 false 0 (atStart (r .ring)) .why)
 
 -- three points of which two are close, and two points, fail the validity test
 abbrev pub threeClose : LoneRow
-threeClose = loneRow (pt 0 0 ∷ pt 1 1 ∷ pt 50 0 ∷ []) 1 []
+threeClose = loneRow (pt 0 0 ∷ pt 1 1 ∷ pt 50 0 ∷ []) 1 [] (some atValidity)
 
 abbrev pub twoPoints : LoneRow
-twoPoints = loneRow (pt 0 0 ∷ pt 5 5 ∷ []) 1 []
+twoPoints = loneRow (pt 0 0 ∷ pt 5 5 ∷ []) 1 [] (some atValidity)
 
 -- three points end at the triangle test
 abbrev pub threePoints : LoneRow
-threePoints = loneRow (pt 0 0 ∷ pt 2 0 ∷ pt 1 50 ∷ []) 5 (pt 0 0 ∷ pt 2 0 ∷ pt 1 50 ∷ [])
+threePoints = loneRow (pt 0 0 ∷ pt 2 0 ∷ pt 1 50 ∷ []) 5 (pt 0 0 ∷ pt 2 0 ∷ pt 1 50 ∷ []) none
 
 -- a cut to three points ends the loop
 abbrev pub cutToThree : LoneRow
-cutToThree = loneRow (pt 0 0 ∷ pt 10 10 ∷ pt 10 0 ∷ pt 0 12 ∷ []) 8 (pt 0 0 ∷ pt 5 5 ∷ pt 0 12 ∷ [])
+cutToThree = loneRow (pt 0 0 ∷ pt 10 10 ∷ pt 10 0 ∷ pt 0 12 ∷ []) 8 (pt 0 0 ∷ pt 5 5 ∷ pt 0 12 ∷ []) none
 
 -- a cut to two does not
 abbrev pub cutToTwo : LoneRow
-cutToTwo = loneRow (point (pos 0) (minus 5) ∷ pt 2 1 ∷ pt 0 1 ∷ pt 1 7 ∷ []) 9 (pt 1 7 ∷ pt 0 1 ∷ [])
+cutToTwo = loneRow (point (pos 0) (minus 5) ∷ pt 2 1 ∷ pt 0 1 ∷ pt 1 7 ∷ []) 9 (pt 1 7 ∷ pt 0 1 ∷ []) none
 
 -- a drop that leaves three close points discards
 abbrev pub dropDiscards : LoneRow
-dropDiscards = loneRow (pt 2 0 ∷ pt 2 1 ∷ pt 3 2 ∷ pt 2 3 ∷ pt 2 0 ∷ []) 6 []
+dropDiscards = loneRow (pt 2 0 ∷ pt 2 1 ∷ pt 3 2 ∷ pt 2 3 ∷ pt 2 0 ∷ []) 6 [] (some whileRemoving)
+
+-- a split discards a ring of area 1.5
+abbrev pub splitDiscards : LoneRow
+splitDiscards = loneRow (pt 0 0 ∷ pt 2 1 ∷ pt 1 0 ∷ pt 0 4 ∷ []) 8 [] (some atSplit)
 
 unfoldable pub loneRows : List LoneRow
-loneRows = threeClose ∷ twoPoints ∷ threePoints ∷ cutToThree ∷ cutToTwo ∷ dropDiscards ∷ []
+loneRows = threeClose ∷ twoPoints ∷ threePoints ∷ cutToThree ∷ cutToTwo ∷ dropDiscards ∷ splitDiscards ∷ []

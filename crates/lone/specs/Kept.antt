@@ -53,7 +53,7 @@ SplitSize done n = Unit {0}
 -- the points that a circle has where a step decides on an act
 abbrev pub LongEnough : {W : Type 0} → Act W → ℕ → Type 0
 LongEnough stay n = Unit {0}
-LongEnough discard n = Unit {0}
+LongEnough (discard y) n = Unit {0}
 LongEnough dropPoint n = 4 ≤ n
 LongEnough (moveOn d) n = 1 ≤ n
 LongEnough (toFirst d) n = Unit {0}

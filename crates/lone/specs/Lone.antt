@@ -9,7 +9,7 @@ use lib.Dec.{ltb, leb}
 use lib.Signed.{ltZ}
 use Rattle.rings.specs.Circle.{spin, lastOf, back, headOr, oneOrThree, cutCircle, ahead, omap}
 use Rattle.rings.specs.Place.{isHere}
-use Rattle.rings.specs.Progress.{Due, validity, removal, triangle, split, done, Ring, tidy}
+use Rattle.rings.specs.Progress.{Due, validity, removal, triangle, split, done, atValidity, whileRemoving, atSplit, Ring, tidy}
 pub use Rattle.rings.specs.Progress.{isDone}
 use Rattle.lone.specs.Act.{Act, stay, discard, dropPoint, moveOn, toFirst, double, cut, apply, offcut, takesPoints}
 
@@ -53,10 +53,10 @@ module _ {P : Type 0} (G : Geo P) where
   -- a turn of the loop of `clean_collinear`, on a circle from the present place on, with the loop's start: "drops a point or moves on; it
   -- may then discard, or make the triangle test due"
   unfoldable pub removalTurn : List P → Option ℕ → Act P
-  removalTurn [] s = discard
+  removalTurn [] s = discard whileRemoving
   removalTurn (x ∷ xs) s =
       cond (G .removable (lastOf x xs) x (headOr x xs))
-      (cond (isValidClosedPath xs) dropPoint discard)
+      (cond (isValidClosedPath xs) dropPoint (discard whileRemoving))
       (moveOn (cond (isHere (omap (ahead (suc (length xs))) s)) triangle removal))
 
   -- "A split discards the ring if |area| < 2.0; 2.0 stays": the doubled area is under 4
@@ -75,13 +75,13 @@ module _ {P : Type 0} (G : Geo P) where
       let prev : P = lastOf x xs in
       let ip : P = G .crossingPoint prev x next nextNext in
       let put : Bool = not (G .samePoint ip prev || G .samePoint ip nextNext) in
-      cond (tooSmall c) discard (cut ip put (keepsOffcut c ip x next) (cond (oneOrThree (cutCircle put ip c)) done split))
+      cond (tooSmall c) (discard atSplit) (cut ip put (keepsOffcut c ip x next) (cond (oneOrThree (cutCircle put ip c)) done split))
 
   -- a turn of the loop of `fix_self_intersects`, on a circle from the present place on, with how far ahead the first point and the loop's start
   -- are: "moves on, doubles, cuts or discards, and may end in done". "A doubling turn at the split loop's start point, or at the ring's first
   -- point, ends the loop"
   unfoldable pub splitTurn : List P → ℕ → Option ℕ → Act P
-  splitTurn [] f s = discard
+  splitTurn [] f s = discard atSplit
   splitTurn (x ∷ xs) f s =
       let prev : P = lastOf x xs in
       let next : P = headOr x (spin 1 (x ∷ xs)) in
@@ -96,7 +96,7 @@ module _ {P : Type 0} (G : Geo P) where
 
   -- the four kinds of step; a done ring stays
   unfoldable pub decide : List P → ℕ → Option ℕ → Due → Act P
-  decide c f s validity = cond (isValidClosedPath (spin f c)) (toFirst removal) discard
+  decide c f s validity = cond (isValidClosedPath (spin f c)) (toFirst removal) (discard atValidity)
   decide c f s removal = removalTurn c s
   decide c f s triangle = toFirst (cond (oneOrThree c) done split)
   decide c f s split = splitTurn c f s

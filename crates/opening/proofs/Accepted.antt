@@ -108,7 +108,7 @@ module _ (y : List ℕ) where
 
   by-segments : (w ss : List ℕ) (m : ℕ) (js : List ℕ) (n : ℕ) → Converting w ss m js n → (T : Made) → convertHorzSegsToJoins w m ss js n ≡ T → ConvertedOpen w T → afterSegments T ≡ end Accepted y → Both w y
   by-segments w ss m js n g (made (converted.Joins k) x ks) e o f =
-      by-joins w k ks x (may-join w ss m js n (converted.Joins k) k x ks g (sym e) refl) (o .0) (o .1) (processHorzJoins k ks x) refl f
+      by-joins w k ks x (may-join w ss m js n (converted.Joins k) k x ks g (sym e) refl) (o .0 .opened) (o .1) (processHorzJoins k ks x) refl f
   by-segments w ss m js n g (made converted.Full x ks) e o f = absurd (let z : _≡_ {A = ℕ} 0 1 = cc in omega arith)
 
   by-rows : (bytes w : List ℕ) → LENGTH ≤ length w → (j : Job) (v ts ks : List ℕ) → acceptOf bytes w (replicate limit.SEGMENTS 0) (replicate JOIN-POINTS 0) ≡ fill.end (outcome.Ok j) v ts ks → afterSegments (convertHorzSegsToJoins v (j .segments) ts ks (j .joins)) ≡ end Accepted y → Both v y
@@ -125,7 +125,7 @@ module _ (y : List ℕ) where
   by-stages n (end (Refused x) w) f = absurd (let z : _≡_ {A = ℕ} 0 1 = cc in omega arith)
 
   -- opening accepts only a long enough work space, and a job that passed rows 1 to 8
-  accepts : (bytes : List ℕ) (n : ℕ) → openOf bytes n ≡ end Accepted y → (LENGTH ≤ length (replicate {A = ℕ} n 0)) × (afterRows (acceptOf bytes (replicate n 0) (replicate limit.SEGMENTS 0) (replicate JOIN-POINTS 0)) ≡ end Accepted y)
+  pub accepts : (bytes : List ℕ) (n : ℕ) → openOf bytes n ≡ end Accepted y → (LENGTH ≤ length (replicate {A = ℕ} n 0)) × (afterRows (acceptOf bytes (replicate n 0) (replicate limit.SEGMENTS 0) (replicate JOIN-POINTS 0)) ≡ end Accepted y)
   unfolding openOf stagesOf
   accepts bytes n f = by (ltb n LENGTH) refl f
     where

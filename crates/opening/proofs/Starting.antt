@@ -11,7 +11,7 @@ use lib.ListN.{length}
 use Rattle.job.specs.Limits as limit
 use Rattle.rings.specs.Count.{occ}
 use Rattle.rings.proofs.Counting.{sum-same}
-use Rattle.store.specs.Field.{PointCol, Count, pt, rc, ct, X, Y, NEXT, PREV, REC, FLAGS, OWNER, FIRST, MARK, PRESENT, START, CUT, POINTS, RECORDS, NONE, LENGTH}
+use Rattle.store.specs.Field.{PointCol, Count, pt, rc, ct, X, Y, NEXT, PREV, REC, FLAGS, OWNER, FIRST, MARK, PRESENT, START, CUT, REASON, TAKER, POINTS, RECORDS, NONE, LENGTH}
 use Rattle.store.specs.Words.{Store, view}
 use Rattle.store.specs.Stores.{onStore}
 use Rattle.store.specs.Named.{firstOf, recordsOf}
@@ -21,6 +21,7 @@ use Rattle.store.proofs.Storing.{length-writes, view-writes, hit, miss}
 use Rattle.store.proofs.Soundness.{first-on}
 use Rattle.joins.specs.Paths.{Resolves}
 use Rattle.joins.specs.Resolved.{Resolved, Ready}
+use Rattle.joins.proofs.Homes.{emptied-kept}
 use Rattle.joins.proofs.Sounding.{resolved-sound}
 use Rattle.acts.specs.Opened.{Fresh}
 use Rattle.opening.specs.Start.{startWrites, startRing, startTo, startRings}
@@ -32,6 +33,8 @@ pub record Begun (s s′ : Store) (i : ℕ) : Type 0 where
   pub flags : s′ (rc FLAGS) ≡ s (rc FLAGS)
   pub owners : s′ (rc OWNER) ≡ s (rc OWNER)
   pub firsts : s′ (rc FIRST) ≡ s (rc FIRST)
+  pub reasons : s′ (rc REASON) ≡ s (rc REASON)
+  pub takers : s′ (rc TAKER) ≡ s (rc TAKER)
   pub marks : (k : ℕ) → k < i → s′ (rc MARK) k ≡ 0
   pub presents : (k : ℕ) → k < i → s′ (rc PRESENT) k ≡ s (rc FIRST) k
   pub starts : (k : ℕ) → k < i → s′ (rc START) k ≡ s (rc FIRST) k
@@ -45,6 +48,8 @@ none s =
       flags = refl;
       owners = refl;
       firsts = refl;
+      reasons = refl;
+      takers = refl;
       marks = λ k h. absurd (omega arith);
       presents = λ k h. absurd (omega arith);
       starts = λ k h. absurd (omega arith);
@@ -68,6 +73,8 @@ one-more s s₁ i b =
       flags = b .flags;
       owners = b .owners;
       firsts = b .firsts;
+      reasons = b .reasons;
+      takers = b .takers;
       marks = more i 0 (s₁ (rc MARK)) (λ k. 0) (b .marks) refl;
       presents = more i (s₁ (rc FIRST) i) (s₁ (rc PRESENT)) (s (rc FIRST)) (b .presents) a;
       starts = more i (s₁ (rc FIRST) i) (s₁ (rc START)) (s (rc FIRST)) (b .starts) a;
@@ -142,6 +149,7 @@ module _ (s s′ : Store) (b : Begun s s′ (recs s)) where
           x-in = λ k h. rw (column X k) (o .x-in k (omega (arith, pts-same)));
           y-in = λ k h. rw (column Y k) (o .y-in k (omega (arith, pts-same)));
           owner-in = λ i h. rw (b .owners, recs-same) (o .owner-in i (omega (arith, recs-same)));
+          emptied = λ i h e. emptied-kept s s′ i (ap (λ (c : ℕ → ℕ). c i) (b .reasons)) (ap (λ (c : ℕ → ℕ). c i) (b .takers)) (omega (arith, recs-same)) (o .emptied i (omega (arith, recs-same)) (sym (ringless-same i) ∙ e));
         }
       where
         home : (i k : ℕ) → i < recs s → 0 < occ k (ringAt s i) → Resolves s′ (s′ (pt REC) k) i

@@ -39,7 +39,7 @@ use Rattle.order.proofs.Zeros.{writes-zeros, all-zeros, open-zeros}
 
 act-zeros : {P : Type 0} (f : Coding P) (w : List ℕ) (i : ℕ) → Zeros w → (act : Act P) → Inside f w i act → Zeros (afterW f w i act)
 act-zeros f w i z stay h = z
-act-zeros f w i z discard h = writes-zeros w (discardWrites i) h z
+act-zeros f w i z (discard y) h = writes-zeros w (discardWrites i y) h z
 act-zeros f w i z dropPoint h = writes-zeros w (dropWrites (view w) i) h z
 act-zeros f w i z (moveOn d) h = writes-zeros w (moveWrites (view w) i d) h z
 act-zeros f w i z (toFirst d) h = writes-zeros w (toFirstWrites (view w) i d) h z

@@ -9,7 +9,8 @@ use lib.Dec.{eqb, ltb}
 use lib.ListN.{length, length-append}
 use Rattle.job.specs.Limits as limit
 use Rattle.job.specs.declared.refusal.Refusal.the-variants.{OutOfTurn, Crowded, OffTheTable, NoSuch, Loose, Muddled}
-use Rattle.store.specs.Field.{pt, rc, ct, X, Y, NEXT, PREV, REC, OWNER, FIRST, MARK, PRESENT, POINTS, RECORDS, LENGTH}
+use Rattle.store.specs.Field.{pt, rc, ct, X, Y, NEXT, PREV, REC, OWNER, FIRST, MARK, PRESENT, REASON, TAKER, POINTS, RECORDS, LENGTH}
+use Rattle.store.specs.Reason.{JOINED, isKept}
 use Rattle.store.specs.Sound.{ringless, ringAt, isOpen}
 use Rattle.store.specs.Value.{preserveCollinear}
 use Rattle.store.specs.Words.{Store, view}
@@ -25,7 +26,8 @@ use Rattle.turns.specs.Form.{raised, geometryOf}
 use Rattle.turns.proofs.Ready.{laws}
 use Rattle.finishing.specs.declared.Stepped.the-variants.{Refused}
 use Rattle.finishing.specs.Step.{Left, left, steppedAs, stepBy, stepOf}
-use Rattle.finishing.specs.Write.{anyLive, writeBy, writeOf}
+use Rattle.steps.specs.Live.{anyLive}
+use Rattle.finishing.specs.Write.{writeBy, writeOf}
 use Rattle.finishing.proofs.Entering.{long-step, long-write}
 use Rattle.order.specs.PastLength.{PastLength}
 use Rattle.order.proofs.Zeros.{open-zeros}
@@ -49,9 +51,9 @@ testsIn s reached =
     let every : (ℕ → Bool) → Bool = λ (q : ℕ → Bool). anyBelow (s (ct RECORDS) 0) q in
     cond (ltb limit.POINTS (s (ct POINTS) 0) || ltb limit.RECORDS (s (ct RECORDS) 0)) (verdict.Refused Crowded)
     (cond (any (λ (k : ℕ). ltb (2 * limit.COORDINATE) (s (pt X) k) || ltb (2 * limit.COORDINATE) (s (pt Y) k))) (verdict.Refused OffTheTable)
-    (cond (any (λ (k : ℕ). not (ltb (s (pt NEXT) k) (s (ct POINTS) 0)) || (not (ltb (s (pt PREV) k) (s (ct POINTS) 0)) || not (ltb (s (pt REC) k) (s (ct RECORDS) 0)))) || every (λ (i : ℕ). namesNothing (s (ct RECORDS) 0) (s (rc OWNER) i) || namesNothing (s (ct POINTS) 0) (s (rc FIRST) i))) (verdict.Refused NoSuch)
+    (cond (any (λ (k : ℕ). not (ltb (s (pt NEXT) k) (s (ct POINTS) 0)) || (not (ltb (s (pt PREV) k) (s (ct POINTS) 0)) || not (ltb (s (pt REC) k) (s (ct RECORDS) 0)))) || (every (λ (i : ℕ). namesNothing (s (ct RECORDS) 0) (s (rc OWNER) i) || namesNothing (s (ct POINTS) 0) (s (rc FIRST) i)) || every (λ (i : ℕ). ringless s i && (eqb (s (rc REASON) i) JOINED && not (ltb (s (rc TAKER) i) (s (ct RECORDS) 0)))))) (verdict.Refused NoSuch)
     (cond (any (λ (k : ℕ). not (eqb (s (pt NEXT) (s (pt PREV) k)) k) || not (eqb (s (pt PREV) (s (pt NEXT) k)) k))) (verdict.Refused Loose)
-    (cond (every (λ (i : ℕ). isIn (s (rc FIRST) i) (reached i)) || every (λ (i : ℕ). not (ringless s i) && not (isOpen s i) && (ltb 4 (s (rc MARK) i) || (ltb (s (rc MARK) i) 4 && not (isIn (s (rc PRESENT) i) (ringAt s i)))))) (verdict.Refused Muddled) verdict.Passed))))
+    (cond (every (λ (i : ℕ). isIn (s (rc FIRST) i) (reached i)) || (every (λ (i : ℕ). not (ringless s i) && not (isOpen s i) && (ltb 4 (s (rc MARK) i) || (ltb (s (rc MARK) i) 4 && not (isIn (s (rc PRESENT) i) (ringAt s i))))) || every (λ (i : ℕ). ringless s i && not (isKept (s (rc REASON) i))))) (verdict.Refused Muddled) verdict.Passed))))
 
 tests-are : (w : List ℕ) → testsOf w ≡ testsIn (view w) (reachedBy w)
 unfolding testsOf

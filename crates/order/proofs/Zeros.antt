@@ -80,7 +80,7 @@ module _ (j : Job) (w ss js : List ℕ) (z : Zeros w) where
   placed-zeros (Point x y nx pv r) n h =
       writes-zeros w (write (pt X) (j .points) x ∷ write (pt Y) (j .points) y ∷ write (pt NEXT) (j .points) nx ∷ write (pt PREV) (j .points) pv ∷ write (pt REC) (j .points) r ∷ []) (h, (h, (h, (h, (h, tt))))) z
   placed-zeros (Record f o p) n h =
-      writes-zeros w (write (rc FLAGS) (j .records) f ∷ write (rc OWNER) (j .records) o ∷ write (rc FIRST) (j .records) p ∷ []) (h, (h, (h, tt))) z
+      writes-zeros w (fill.recordRead (j .records) f o p) (h, (h, (h, (h, tt)))) z
   placed-zeros (Segment p) n h = z
   placed-zeros (Join a b) n h = z
 
@@ -282,7 +282,7 @@ merge-zeros : (w : List ℕ) (a c i j : ℕ) → Unknotted w a c i j → Zeros w
 unfolding mergeOf
 merge-zeros w a c i j t z =
     let h = pair-low-two w a c i j t in
-    writes-zeros (relinkOf w a c) (emptyWrites j i) (h, (h, tt)) (relink-zeros w a c (pair-four w a c i j t) z)
+    writes-zeros (relinkOf w a c) (emptyWrites j i) (h, (h, (h, (h, tt)))) (relink-zeros w a c (pair-four w a c i j t) z)
 
 by-zeros : (w : List ℕ) (a c i j : ℕ) → Unknotted w a c i j → Zeros w → Zeros (words (byRecords w a c i j))
 unfolding byRecords

@@ -1,4 +1,4 @@
--- Row 2 has passed: of a job that was read the settings and every record's flags use bits 0 and 1 only.
+-- What reading leaves of settings and records: row 2 has passed, so they use bits 0 and 1 only; and each record keeps whether the job has a ring for it.
 use Prim.Native.Nat.{ℕ, zero, suc, _+_, _≤_, _<_}
 use mathlib.Core.Path.{_≡_, refl, ap, _∙_, sym, subst}
 use mathlib.Core.Bool.{Bool, true, false, cond}
@@ -19,17 +19,17 @@ use Rattle.job.specs.declared.field.Field.the-variants.{Settings, Point, Record
 use Rattle.job.specs.declared.field.Reading.{Reading}
 use Rattle.job.specs.declared.field.Reading.the-variants as reading
 use Rattle.job.proofs.Accepted.{passed, accepted}
-use Rattle.store.specs.Field.{pt, rc, ct, X, Y, NEXT, PREV, REC, FLAGS, OWNER, FIRST, SETTINGS, POINTS, RECORDS, LENGTH}
+use Rattle.store.specs.Field.{pt, rc, ct, X, Y, NEXT, PREV, REC, FLAGS, FIRST, REASON, SETTINGS, POINTS, RECORDS, LENGTH}
 use Rattle.store.specs.Words.{Store, view, Write, write, onWords}
 use Rattle.store.specs.Stores.{onStore}
 use Rattle.store.specs.Named.{settingsOf, recordsOf}
 use Rattle.store.proofs.Storing.{view-writes, length-writes}
 use Rattle.reading.specs.declared.fill.Outcome.the-variants.{Ok, Refused}
-use Rattle.reading.specs.Fill.{ReadEnd, end, placed, taken, turnOf, follow, run, fillOf}
+use Rattle.reading.specs.Fill.{ReadEnd, end, placed, taken, turnOf, follow, run, fillOf, reasonRead, recordRead}
 use Rattle.reading.specs.Needs.{Room}
 use Rattle.reading.proofs.Placing.{has-room}
 use Rattle.reading.specs.Read.{counted, withCounts, readOf}
-use Rattle.reading.specs.Alike.{Bits}
+use Rattle.reading.specs.Alike.{Bits, Unringed}
 
 -- a field that was read has no unused bit set
 bits-body : (k : Kind) (j : Job) (s : List ℕ) (f : Field) (n : ℕ) → bodyOf k j s ≡ reading.Read f n → strangeBits f ≡ false
@@ -54,6 +54,7 @@ bits-read j s f n e =
 record Tame (j : Job) (w : List ℕ) : Type 0 where
   bits : j .bits ≤ 3
   flags : (i : ℕ) → i < j .records → view w (rc FLAGS) i ≤ 3
+  reasons : (i : ℕ) → i < j .records → view w (rc REASON) i ≡ reasonRead (view w (rc FIRST) i)
   long : LENGTH ≤ length w
 
 abbrev TameEnd : ReadEnd → Type 0
@@ -62,26 +63,32 @@ TameEnd (end (Refused r) w ss js) = Unit {0}
 
 module _ (j : Job) (w ss js : List ℕ) (t : Tame j w) where
   tame-placed : (f : Field) (n : ℕ) → Room f j → strangeBits f ≡ false → TameEnd (placed f n j w ss js)
-  tame-placed (Settings b) n l c = record { bits = ltb-false 3 b c; flags = t .flags; long = t .long }
+  tame-placed (Settings b) n l c = record { bits = ltb-false 3 b c; flags = t .flags; reasons = t .reasons; long = t .long }
   tame-placed (Point x y nx pv r) n l c =
       let i = j .points in
       let xs = write (pt X) i x ∷ write (pt Y) i y ∷ write (pt NEXT) i nx ∷ write (pt PREV) i pv ∷ write (pt REC) i r ∷ [] in
       let v : view (onWords w xs) ≡ onStore (view w) xs = view-writes w xs (t .long) (l, (l, (l, (l, (l, tt))))) in
-      record { bits = t .bits; flags = λ k h. omega (arith, ap (λ (z : Store). z (rc FLAGS) k) v, t .flags k h); long = omega (arith, t .long, length-writes w xs) }
+      record { bits = t .bits; flags = λ k h. omega (arith, ap (λ (z : Store). z (rc FLAGS) k) v, t .flags k h); reasons = λ k h. subst (λ (z : Store). z (rc REASON) k ≡ reasonRead (z (rc FIRST) k)) (sym v) (t .reasons k h); long = omega (arith, t .long, length-writes w xs) }
   tame-placed (Record b o p) n l c =
       let i = j .records in
-      let xs = write (rc FLAGS) i b ∷ write (rc OWNER) i o ∷ write (rc FIRST) i p ∷ [] in
-      let v : view (onWords w xs) ≡ onStore (view w) xs = view-writes w xs (t .long) (l, (l, (l, tt))) in
-      record { bits = t .bits; flags = λ k h. subst (λ (z : Store). z (rc FLAGS) k ≤ 3) (sym v) (one i k b h (ltb-false 3 b c) (ℕ-discrete k i)); long = omega (arith, t .long, length-writes w xs) }
+      let xs = recordRead i b o p in
+      let v : view (onWords w xs) ≡ onStore (view w) xs = view-writes w xs (t .long) (l, (l, (l, (l, tt)))) in
+      record {
+        bits = t .bits;
+        flags = λ k h. subst (λ (z : Store). z (rc FLAGS) k ≤ 3) (sym v) (one k h (ltb-false 3 b c) (ℕ-discrete k i));
+        reasons = λ k h. subst (λ (z : Store). z (rc REASON) k ≡ reasonRead (z (rc FIRST) k)) (sym v) (why k h (ℕ-discrete k i));
+        long = omega (arith, t .long, length-writes w xs);
+      }
     where
-      one : (i k b : ℕ) → k < j .records + 1 → b ≤ 3 → Dec (k ≡ i) → cond (eqb k (j .records)) b (view w (rc FLAGS) k) ≤ 3
-      one i k b h l d = go (ℕ-discrete k (j .records))
-        where
-          go : Dec (k ≡ j .records) → cond (eqb k (j .records)) b (view w (rc FLAGS) k) ≤ 3
-          go (yes e) = rw (eq-eqb k (j .records) e) l
-          go (no e) = rw (ne-eqb k (j .records) e) (t .flags k (omega arith))
-  tame-placed (Segment p) n l c = record { bits = t .bits; flags = t .flags; long = t .long }
-  tame-placed (Join a′ b′) n l c = record { bits = t .bits; flags = t .flags; long = t .long }
+      one : (k : ℕ) → k < j .records + 1 → b ≤ 3 → Dec (k ≡ j .records) → cond (eqb k (j .records)) b (view w (rc FLAGS) k) ≤ 3
+      one k h l (yes e) = rw (eq-eqb k (j .records) e) l
+      one k h l (no e) = rw (ne-eqb k (j .records) e) (t .flags k (omega arith))
+
+      why : (k : ℕ) → k < j .records + 1 → Dec (k ≡ j .records) → cond (eqb k (j .records)) (reasonRead p) (view w (rc REASON) k) ≡ reasonRead (cond (eqb k (j .records)) p (view w (rc FIRST) k))
+      why k h (yes e) = rw (eq-eqb k (j .records) e)
+      why k h (no e) = rw (ne-eqb k (j .records) e) (t .reasons k (omega arith))
+  tame-placed (Segment p) n l c = record { bits = t .bits; flags = t .flags; reasons = t .reasons; long = t .long }
+  tame-placed (Join a′ b′) n l c = record { bits = t .bits; flags = t .flags; reasons = t .reasons; long = t .long }
 
   tame-turn : (bytes : List ℕ) → TameEnd (turnOf bytes j w ss js)
   unfolding turnOf
@@ -110,18 +117,21 @@ tame-fill bytes w ss js l = go (eqb (length bytes) 0)
   where
     go : (b : Bool) → TameEnd (cond b (end (Refused Strange) w ss js) (run (suc (length bytes)) bytes fresh w ss js))
     go true = tt
-    go false = tame-run (suc (length bytes)) bytes fresh w ss js (record { bits = omega arith; flags = λ i h. absurd (omega arith); long = l })
+    go false = tame-run (suc (length bytes)) bytes fresh w ss js (record { bits = omega arith; flags = λ i h. absurd (omega arith); reasons = λ i h. absurd (omega arith); long = l })
 
-pub bits-of : (bytes w ss js : List ℕ) → LENGTH ≤ length w → (j : Job) (v ts ks : List ℕ) → readOf bytes w ss js ≡ end (Ok j) v ts ks → Bits v
+pub fields-of : (bytes w ss js : List ℕ) → LENGTH ≤ length w → (j : Job) (v ts ks : List ℕ) → readOf bytes w ss js ≡ end (Ok j) v ts ks → Bits v × Unringed v
 unfolding readOf
-bits-of bytes w ss js l j v ts ks e = go (fillOf bytes w ss js) (tame-fill bytes w ss js l) e
+fields-of bytes w ss js l j v ts ks e = go (fillOf bytes w ss js) (tame-fill bytes w ss js l) e
   where
-    go : (T : ReadEnd) → TameEnd T → withCounts T ≡ end (Ok j) v ts ks → Bits v
+    go : (T : ReadEnd) → TameEnd T → withCounts T ≡ end (Ok j) v ts ks → Bits v × Unringed v
     go (end (Ok i) u us ls) t d =
         let b : counted i u ≡ v = cc (d) in
         let xs = write (ct SETTINGS) 0 (i .bits) ∷ write (ct POINTS) 0 (i .points) ∷ write (ct RECORDS) 0 (i .records) ∷ [] in
         let c : view (onWords u xs) ≡ onStore (view u) xs = view-writes u xs (t .long) (omega arith, (omega arith, (omega arith, tt))) in
         let p : settingsOf (counted i u) ≡ i .bits = ap (λ (z : Store). z (ct SETTINGS) 0) c in
         let q : recordsOf (counted i u) ≡ i .records = ap (λ (z : Store). z (ct RECORDS) 0) c in
-        subst Bits b (record { settings = omega (arith, p, t .bits); flags = λ k h. omega (arith, ap (λ (z : Store). z (rc FLAGS) k) c, t .flags k (omega (arith, q))) })
+        subst (λ (x : List ℕ). Bits x × Unringed x) b (
+          record { settings = omega (arith, p, t .bits); flags = λ k h. omega (arith, ap (λ (z : Store). z (rc FLAGS) k) c, t .flags k (omega (arith, q))) },
+          record { reasons = λ k h. subst (λ (z : Store). z (rc REASON) k ≡ reasonRead (z (rc FIRST) k)) (sym c) (t .reasons k (omega (arith, q))) },
+        )
     go (end (Refused x) u us ls) t d = absurd (let z : _≡_ {A = ℕ} 0 1 = cc in omega arith)

@@ -16,12 +16,12 @@ use Rattle.job.specs.declared.field.Field.{Field}
 use Rattle.job.specs.declared.field.Field.the-variants.{Settings, Point, Record, Segment, Join}
 use Rattle.job.specs.declared.field.Reading.{Reading}
 use Rattle.job.specs.declared.field.Reading.the-variants as reading
-use Rattle.store.specs.Field.{LENGTH, ct, SETTINGS, POINTS, RECORDS, pt, rc, X, Y, NEXT, PREV, REC, FLAGS, OWNER, FIRST}
+use Rattle.store.specs.Field.{LENGTH, ct, SETTINGS, POINTS, RECORDS, pt, X, Y, NEXT, PREV, REC}
 use Rattle.store.specs.Words.{write}
 use Rattle.store.proofs.Storing.{length-writes, view-writes}
 use Rattle.reading.specs.declared.fill.Outcome.{Outcome}
 use Rattle.reading.specs.declared.fill.Outcome.the-variants.{Ok, Refused}
-use Rattle.reading.specs.Fill.{ReadEnd, end, placed, taken, turnOf, follow, run, fillOf}
+use Rattle.reading.specs.Fill.{ReadEnd, end, placed, taken, turnOf, follow, run, fillOf, recordRead}
 use Rattle.reading.specs.Read.{counted, readOf}
 use Rattle.reading.specs.Alike.{Counts}
 use Rattle.reading.proofs.Going.{After, moves}
@@ -36,7 +36,7 @@ module _ (j : Job) (w ss js : List ℕ) where
   placed-kept (Point x y nx pv r) n =
       (length-writes w (write (pt X) (j .points) x ∷ write (pt Y) (j .points) y ∷ write (pt NEXT) (j .points) nx ∷ write (pt PREV) (j .points) pv ∷ write (pt REC) (j .points) r ∷ []), refl, refl)
   placed-kept (Record f o p) n =
-      (length-writes w (write (rc FLAGS) (j .records) f ∷ write (rc OWNER) (j .records) o ∷ write (rc FIRST) (j .records) p ∷ []), refl, refl)
+      (length-writes w (recordRead (j .records) f o p), refl, refl)
   placed-kept (Segment p) n = (refl, length-set ss (j .segments) p, refl)
   placed-kept (Join a b) n = (refl, refl, length-set (set js (2 * j .joins) a) (2 * j .joins + 1) b ∙ length-set js (2 * j .joins) a)
 

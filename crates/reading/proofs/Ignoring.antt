@@ -19,12 +19,12 @@ use Rattle.job.specs.declared.field.Field.{Field}
 use Rattle.job.specs.declared.field.Field.the-variants.{Settings, Point, Record, Segment, Join}
 use Rattle.job.specs.declared.field.Reading.{Reading}
 use Rattle.job.specs.declared.field.Reading.the-variants as reading
-use Rattle.store.specs.Field.{PointCol, pt, rc, ct, X, Y, NEXT, PREV, REC, FLAGS, OWNER, FIRST, SETTINGS, POINTS, RECORDS, LENGTH}
+use Rattle.store.specs.Field.{PointCol, pt, rc, ct, X, Y, NEXT, PREV, REC, FLAGS, OWNER, FIRST, REASON, SETTINGS, POINTS, RECORDS, LENGTH}
 use Rattle.store.specs.Words.{Store, view, Write, write, onWords}
 use Rattle.store.specs.Stores.{onStore}
 use Rattle.store.proofs.Storing.{view-writes, length-writes}
 use Rattle.reading.specs.declared.fill.Outcome.the-variants.{Ok, Refused}
-use Rattle.reading.specs.Fill.{ReadEnd, end, placed, taken, turnOf, follow, run, fillOf}
+use Rattle.reading.specs.Fill.{ReadEnd, end, placed, taken, turnOf, follow, run, fillOf, reasonRead, recordRead}
 use Rattle.reading.specs.Needs.{Space, Room}
 use Rattle.reading.specs.Read.{counted, withCounts, readOf}
 use Rattle.reading.specs.Alike.{SameJob, SameEnd, Ignores}
@@ -61,9 +61,6 @@ BothEnd (end (Refused r) w ss js) (end (Refused r′) w′ ss′ js′) = r′ �
 abbrev pointList : ℕ → ℕ → ℕ → ℕ → ℕ → ℕ → List Write
 pointList i x y n p r = write (pt X) i x ∷ write (pt Y) i y ∷ write (pt NEXT) i n ∷ write (pt PREV) i p ∷ write (pt REC) i r ∷ []
 
-abbrev recordList : ℕ → ℕ → ℕ → ℕ → List Write
-recordList i f o p = write (rc FLAGS) i f ∷ write (rc OWNER) i o ∷ write (rc FIRST) i p ∷ []
-
 abbrev countList : Job → List Write
 countList j = write (ct SETTINGS) 0 (j .bits) ∷ write (ct POINTS) 0 (j .points) ∷ write (ct RECORDS) 0 (j .records) ∷ []
 
@@ -76,7 +73,7 @@ module _ (j : Job) (w w′ ss ss′ js js′ : List ℕ) (b : Both j w w′ ss s
   both-placed : (f : Field) (n : ℕ) → Room f j → Within (past f n j) → BothEnd (placed f n j w ss js) (placed f n j w′ ss′ js′)
   both-placed (Settings c) n l i =
       let s = b .same in
-      (refl, record { within = i; space = b .space; space′ = b .space′; same = record { points = s .points; flags = s .flags; owners = s .owners; firsts = s .firsts; segments = s .segments; joins = s .joins } })
+      (refl, record { within = i; space = b .space; space′ = b .space′; same = record { points = s .points; flags = s .flags; owners = s .owners; firsts = s .firsts; reasons = s .reasons; segments = s .segments; joins = s .joins } })
   both-placed (Point x y nx pv r) n l i =
       let s = b .same in
       let k = j .points in
@@ -94,6 +91,7 @@ module _ (j : Job) (w w′ ss ss′ js js′ : List ℕ) (b : Both j w w′ ss s
             flags = to (λ s t. (i : ℕ) → i < j .records → t (rc FLAGS) i ≡ s (rc FLAGS) i) (s .flags);
             owners = to (λ s t. (i : ℕ) → i < j .records → t (rc OWNER) i ≡ s (rc OWNER) i) (s .owners);
             firsts = to (λ s t. (i : ℕ) → i < j .records → t (rc FIRST) i ≡ s (rc FIRST) i) (s .firsts);
+            reasons = to (λ s t. (i : ℕ) → i < j .records → t (rc REASON) i ≡ s (rc REASON) i) (s .reasons);
             segments = s .segments;
             joins = s .joins;
           };
@@ -109,9 +107,9 @@ module _ (j : Job) (w w′ ss ss′ js js′ : List ℕ) (b : Both j w w′ ss s
   both-placed (Record f o p) n l i =
       let s = b .same in
       let k = j .records in
-      let xs = recordList k f o p in
-      let e = view-writes w xs (b .space .words) (l, (l, (l, tt))) in
-      let e′ = view-writes w′ xs (b .space′ .words) (l, (l, (l, tt))) in
+      let xs = recordRead k f o p in
+      let e = view-writes w xs (b .space .words) (l, (l, (l, (l, tt)))) in
+      let e′ = view-writes w′ xs (b .space′ .words) (l, (l, (l, (l, tt)))) in
       let to : (P : Store → Store → Type 0) → P (onStore (view w) xs) (onStore (view w′) xs) → P (view (onWords w xs)) (view (onWords w′ xs)) = λ P. at-both w w′ xs P e e′ in (
         refl,
         record {
@@ -123,6 +121,7 @@ module _ (j : Job) (w w′ ss ss′ js js′ : List ℕ) (b : Both j w w′ ss s
             flags = to (λ s t. (i : ℕ) → i < k + 1 → t (rc FLAGS) i ≡ s (rc FLAGS) i) (more k f (view w (rc FLAGS)) (view w′ (rc FLAGS)) (s .flags));
             owners = to (λ s t. (i : ℕ) → i < k + 1 → t (rc OWNER) i ≡ s (rc OWNER) i) (more k o (view w (rc OWNER)) (view w′ (rc OWNER)) (s .owners));
             firsts = to (λ s t. (i : ℕ) → i < k + 1 → t (rc FIRST) i ≡ s (rc FIRST) i) (more k p (view w (rc FIRST)) (view w′ (rc FIRST)) (s .firsts));
+            reasons = to (λ s t. (i : ℕ) → i < k + 1 → t (rc REASON) i ≡ s (rc REASON) i) (more k (reasonRead p) (view w (rc REASON)) (view w′ (rc REASON)) (s .reasons));
             segments = s .segments;
             joins = s .joins;
           };
@@ -136,7 +135,7 @@ module _ (j : Job) (w w′ ss ss′ js js′ : List ℕ) (b : Both j w w′ ss s
           within = i;
           space = record { words = b .space .words; segments = omega (arith, b .space .segments, length-set ss k p); joins = b .space .joins };
           space′ = record { words = b .space′ .words; segments = omega (arith, b .space′ .segments, length-set ss′ k p); joins = b .space′ .joins };
-          same = record { points = s .points; flags = s .flags; owners = s .owners; firsts = s .firsts; segments = listed k p ss ss′ (omega (arith, b .space .segments)) (omega (arith, b .space′ .segments)) (s .segments); joins = s .joins };
+          same = record { points = s .points; flags = s .flags; owners = s .owners; firsts = s .firsts; reasons = s .reasons; segments = listed k p ss ss′ (omega (arith, b .space .segments)) (omega (arith, b .space′ .segments)) (s .segments); joins = s .joins };
         },
       )
   both-placed (Join x y) n l i =
@@ -153,7 +152,7 @@ module _ (j : Job) (w w′ ss ss′ js js′ : List ℕ) (b : Both j w w′ ss s
           within = i;
           space = record { words = b .space .words; segments = b .space .segments; joins = omega (arith, b .space .joins, a, length-set (set js k x) (k + 1) y) };
           space′ = record { words = b .space′ .words; segments = b .space′ .segments; joins = omega (arith, b .space′ .joins, a′, length-set (set js′ k x) (k + 1) y) };
-          same = record { points = s .points; flags = s .flags; owners = s .owners; firsts = s .firsts; segments = s .segments; joins = λ i m. g′ i (omega arith) };
+          same = record { points = s .points; flags = s .flags; owners = s .owners; firsts = s .firsts; reasons = s .reasons; segments = s .segments; joins = λ i m. g′ i (omega arith) };
         },
       )
 
@@ -199,6 +198,7 @@ with-counts (end (Ok j) w ss js) (end (Ok j′) w′ ss′ js′) c =
         flags = λ i l. ap (λ (t : Store). t (rc FLAGS) i) e′ ∙ s .flags i l ∙ sym (ap (λ (t : Store). t (rc FLAGS) i) e);
         owners = λ i l. ap (λ (t : Store). t (rc OWNER) i) e′ ∙ s .owners i l ∙ sym (ap (λ (t : Store). t (rc OWNER) i) e);
         firsts = λ i l. ap (λ (t : Store). t (rc FIRST) i) e′ ∙ s .firsts i l ∙ sym (ap (λ (t : Store). t (rc FIRST) i) e);
+        reasons = λ i l. ap (λ (t : Store). t (rc REASON) i) e′ ∙ s .reasons i l ∙ sym (ap (λ (t : Store). t (rc REASON) i) e);
         segments = s .segments;
         joins = s .joins;
       },
@@ -226,6 +226,7 @@ ignores bytes = record { same = λ w w′ ss ss′ js js′ s s′. by w w′ ss
             flags = λ i l. absurd (omega arith);
             owners = λ i l. absurd (omega arith);
             firsts = λ i l. absurd (omega arith);
+            reasons = λ i l. absurd (omega arith);
             segments = λ i l. absurd (omega arith);
             joins = λ i l. absurd (omega arith);
           };

@@ -1,11 +1,12 @@
 -- How a field is placed, by its case, and that an accepted field has room: each law's premises are what the calls ensure.
 use mathlib.Core.Path.{_≡_}
+use mathlib.Core.Logic.{_≢_}
 use mathlib.Core.Bool.{false}
 use mathlib.Core.List.{List}
 use Prim.Native.Nat.{ℕ, _^_, _<_}
 use native.Mathlib.Omega.{arith}
 use lib.ListN.{length, set}
-use borrow.Author.Tests.{leb-false}
+use borrow.Author.Tests.{leb-false, eq-eqb, ne-eqb}
 use Rattle.numbers.specs.Written.{Part}
 use Rattle.job.specs.Limits.{POINTS, RECORDS, SEGMENTS, JOINS}
 use Rattle.job.specs.Field.{fieldIn, crowded, fieldOf}
@@ -19,10 +20,19 @@ use Rattle.job.specs.declared.field.Field.{Field}
 use Rattle.job.specs.declared.field.Field.the-variants.{Settings, Point, Record, Segment, Join}
 use Rattle.job.specs.declared.field.Reading.{Reading}
 use Rattle.job.specs.declared.field.Reading.the-variants as reading
+use Rattle.store.specs.Field.{NONE}
+use Rattle.store.specs.Reason.{NO-RING}
 use Rattle.reading.specs.declared.fill.Outcome.{Outcome}
 use Rattle.reading.specs.declared.fill.Outcome.the-variants.{Ok, Refused}
-use Rattle.reading.specs.Fill.{end, putPoint, putRecord, putJoin, placed, turnOf}
+use Rattle.reading.specs.Fill.{end, putPoint, putRecord, putJoin, placed, turnOf, reasonRead}
 use Rattle.reading.specs.Needs.{Space, Room, Placing}
+
+-- why a record has no ring, by its first point
+pub no-first : (f : ℕ) → f ≡ NONE → NO-RING ≡ reasonRead f
+no-first f e = rw (eq-eqb f NONE e)
+
+pub a-first : (f : ℕ) → f ≢ NONE → 0 ≡ reasonRead f
+a-first f d = rw (ne-eqb f NONE d)
 
 module _ (f : Field) (n : ℕ) (j r : Job) (w ss js : List ℕ) where
   pub placed-settings : (b : ℕ) → f ≡ Settings b → r ≡ past f n j → end (Ok r) w ss js ≡ placed f n j w ss js

@@ -25,13 +25,13 @@ use Rattle.job.specs.declared.field.Reading.{Reading}
 use Rattle.job.specs.declared.field.Reading.the-variants as reading
 use Rattle.job.specs.declared.refusal.Refusal.the-variants.{Torn, Strange, Crowded}
 use Rattle.job.proofs.Accepted.{passed, accepted}
-use Rattle.store.specs.Field.{pt, rc, ct, X, Y, NEXT, PREV, REC, FLAGS, OWNER, FIRST, SETTINGS, POINTS, RECORDS, LENGTH}
+use Rattle.store.specs.Field.{pt, ct, X, Y, NEXT, PREV, REC, SETTINGS, POINTS, RECORDS, LENGTH}
 use Rattle.store.specs.Words.{view, write, onWords}
 use Rattle.store.specs.Stores.{onStore}
 use Rattle.store.proofs.Storing.{view-writes, length-writes}
 use Rattle.reading.specs.declared.fill.Outcome.{Outcome}
 use Rattle.reading.specs.declared.fill.Outcome.the-variants.{Ok, Refused}
-use Rattle.reading.specs.Fill.{ReadEnd, end, placed, taken, turnOf, follow, run, fillOf}
+use Rattle.reading.specs.Fill.{ReadEnd, end, placed, taken, turnOf, follow, run, fillOf, recordRead}
 use Rattle.reading.specs.Needs.{Room}
 use Rattle.reading.specs.Read.{counted, withCounts, readOf}
 use Rattle.reading.specs.Standing.{fieldAt, valueAt, AtBytes, Standing}
@@ -206,8 +206,8 @@ module _ (bytes : List ℕ) (j : Job) (w ss js : List ℕ) (t : Stands bytes j w
           }
       go kind.Record g i y l =
           let p = j .records in
-          let xs = write (rc FLAGS) p (le 1 0 v) ∷ write (rc OWNER) p (le 2 OWNER-AT v) ∷ write (rc FIRST) p (le 2 FIRST-AT v) ∷ [] in
-          let q : view (onWords w xs) ≡ onStore (view w) xs = view-writes w xs (t .long) (l, (l, (l, tt))) in
+          let xs = recordRead p (le 1 0 v) (le 2 OWNER-AT v) (le 2 FIRST-AT v) in
+          let q : view (onWords w xs) ≡ onStore (view w) xs = view-writes w xs (t .long) (l, (l, (l, (l, tt)))) in
           let b = t .numbers in
           record { lay = y; inside = i; long = omega (arith, t .long, length-writes w xs); numbers = subst (AtBytes bytes (j .points)) (sym q) (record { x = b .x; y = b .y; next = b .next; prev = b .prev; rec = b .rec }) }
       go kind.Segment g i y l = record { lay = y; inside = i; long = t .long; numbers = t .numbers }

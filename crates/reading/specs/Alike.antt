@@ -7,9 +7,9 @@ use Rattle.job.specs.Job.{Within}
 use Rattle.job.specs.declared.Job.{Job}
 use Rattle.store.specs.Field.{PointCol, pt}
 use Rattle.store.specs.Words.{view}
-use Rattle.store.specs.Named.{settingsOf, pointsOf, recordsOf, flagsOf, ownerOf, firstOf}
+use Rattle.store.specs.Named.{settingsOf, pointsOf, recordsOf, flagsOf, ownerOf, firstOf, keptOf}
 use Rattle.reading.specs.declared.fill.Outcome.the-variants.{Ok, Refused}
-use Rattle.reading.specs.Fill.{ReadEnd, end}
+use Rattle.reading.specs.Fill.{ReadEnd, end, reasonRead}
 use Rattle.reading.specs.Needs.{Space}
 use Rattle.reading.specs.Read.{readOf}
 
@@ -19,6 +19,7 @@ pub record SameJob (j : Job) (w w′ ss ss′ js js′ : List ℕ) : Type 0 wher
   pub flags : (i : ℕ) → i < j .records → flagsOf w′ i ≡ flagsOf w i
   pub owners : (i : ℕ) → i < j .records → ownerOf w′ i ≡ ownerOf w i
   pub firsts : (i : ℕ) → i < j .records → firstOf w′ i ≡ firstOf w i
+  pub reasons : (i : ℕ) → i < j .records → keptOf w′ i ≡ keptOf w i
   pub segments : (i : ℕ) → i < j .segments → getD ss′ i 0 ≡ getD ss i 0
   pub joins : (i : ℕ) → i < 2 * j .joins → getD js′ i 0 ≡ getD js i 0
 
@@ -37,6 +38,10 @@ pub record Ignores (bytes : List ℕ) : Type 0 where
 pub record Bits (w : List ℕ) : Type 0 where
   pub settings : settingsOf w ≤ 3
   pub flags : (i : ℕ) → i < recordsOf w → flagsOf w i ≤ 3
+
+-- each record keeps whether the job has a ring for it
+pub record Unringed (w : List ℕ) : Type 0 where
+  pub reasons : (i : ℕ) → i < recordsOf w → keptOf w i ≡ reasonRead (firstOf w i)
 
 -- what the words say of a job that was read
 pub record Counts (j : Job) (w : List ℕ) : Type 0 where

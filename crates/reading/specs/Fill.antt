@@ -13,8 +13,9 @@ use Rattle.job.specs.declared.field.Field.{Field}
 use Rattle.job.specs.declared.field.Field.the-variants.{Settings, Point, Record, Segment, Join}
 use Rattle.job.specs.declared.field.Reading.{Reading}
 use Rattle.job.specs.declared.field.Reading.the-variants as reading
-use Rattle.store.specs.Field.{pt, rc, X, Y, NEXT, PREV, REC, FLAGS, OWNER, FIRST}
-use Rattle.store.specs.Words.{write, onWords}
+use Rattle.store.specs.Field.{pt, rc, X, Y, NEXT, PREV, REC, FLAGS, OWNER, FIRST, REASON, NONE}
+use Rattle.store.specs.Words.{Write, write, onWords}
+use Rattle.store.specs.Reason.{NO-RING}
 use Rattle.reading.specs.declared.fill.Outcome.{Outcome}
 use Rattle.reading.specs.declared.fill.Outcome.the-variants.{Ok, Refused}
 
@@ -27,9 +28,16 @@ abbrev pub putPoint : ℕ → ℕ → ℕ → ℕ → ℕ → ℕ → List ℕ �
 putPoint i x y next prev rec w =
     onWords w (write (pt X) i x ∷ write (pt Y) i y ∷ write (pt NEXT) i next ∷ write (pt PREV) i prev ∷ write (pt REC) i rec ∷ [])
 
--- record i, a word in each of three
+-- why a record has no ring, as the job says it: "no ring in the job", or 0 where it has a first point
+abbrev pub reasonRead : ℕ → ℕ
+reasonRead first = cond (eqb first NONE) NO-RING 0
+
+-- record i, a word in each of four
+abbrev pub recordRead : ℕ → ℕ → ℕ → ℕ → List Write
+recordRead i flags owner first = write (rc FLAGS) i flags ∷ write (rc OWNER) i owner ∷ write (rc FIRST) i first ∷ write (rc REASON) i (reasonRead first) ∷ []
+
 abbrev pub putRecord : ℕ → ℕ → ℕ → ℕ → List ℕ → List ℕ
-putRecord i flags owner first w = onWords w (write (rc FLAGS) i flags ∷ write (rc OWNER) i owner ∷ write (rc FIRST) i first ∷ [])
+putRecord i flags owner first w = onWords w (recordRead i flags owner first)
 
 -- join i
 abbrev pub putJoin : ℕ → ℕ → ℕ → List ℕ → List ℕ

@@ -6,6 +6,8 @@ use job::field::Field;
 use job::field::Reading;
 use job::refusal::Refusal;
 use store::Col;
+use store::NO_RING;
+use store::NONE;
 ghost use mathlib.Core.Path.{_≡_};
 ghost use Prim.Native.Nat.{_+_, _*_, _<_, _≤_};
 ghost use lib.ListN.{length, set};
@@ -14,7 +16,7 @@ ghost use Rattle.job.specs.Job.{Within};
 ghost use Rattle.store.specs.Field.{LENGTH, size};
 ghost use Rattle.store.specs.Words as words;
 ghost use Rattle.store.specs.Column.{columnOf};
-ghost use Rattle.reading.specs.Fill.{end, putPoint, putRecord, putJoin, placed, turnOf, fillOf};
+ghost use Rattle.reading.specs.Fill.{end, putPoint, reasonRead, putRecord, putJoin, placed, turnOf, fillOf};
 ghost use Rattle.reading.specs.Needs.{Space, Placing};
 
 // What was counted up to here, of a field, of all fields or of an accepted job; or the refusal.
@@ -42,6 +44,16 @@ pub(crate) fn put_point(w: &mut [u32], i: usize, x: u32, y: u32, next: u32, prev
     put(w, Col::Rec, i, rec);
 }
 
+// Why a record has no ring: there is none in the job.
+fn reason_read(first: u32) -> u32
+    ensures { λ r. ⌜ r ≡ reasonRead first ⌝ }
+{
+    if first as usize == NONE {
+        return NO_RING as u32;
+    }
+    0
+}
+
 fn put_record(w: &mut [u32], i: usize, flags: u32, owner: u32, first: u32)
     requires { ⌜ (LENGTH ≤ length (now w)) × (i < limit.RECORDS) ⌝ }
     ensures { λ _. ⌜ now (w .exit) ≡ putRecord i flags owner first (now (w .entry)) ⌝ }
@@ -49,6 +61,8 @@ fn put_record(w: &mut [u32], i: usize, flags: u32, owner: u32, first: u32)
     put(w, Col::Flags, i, flags);
     put(w, Col::Owner, i, owner);
     put(w, Col::First, i, first);
+    let reason = reason_read(first);
+    put(w, Col::Reason, i, reason);
 }
 
 // Puts a number on a list.

@@ -6,7 +6,7 @@ use mathlib.Core.Option.{Option}
 use Prim.Native.Nat.{ℕ, zero, suc}
 use lib.ListN.{take}
 use Rattle.rings.specs.Circle.{turn, spin, lastOf, initOf, back, rest, cutCircle}
-use Rattle.rings.specs.Progress.{Due, validity, removal, triangle, split, done, Ring, tidyAt, tidy, mapRing}
+use Rattle.rings.specs.Progress.{Due, validity, removal, triangle, split, done, Discard, Ring, tidyAt, tidy, mapRing}
 
 module _ {A B : Type 0} (f : A → B) where
   pub map-turn : (c : List A) → map f (turn c) ≡ turn (map f c)
@@ -17,15 +17,15 @@ module _ {A B : Type 0} (f : A → B) where
   map-spin zero c = refl
   map-spin (suc k) c = map-spin k (turn c) ∙ ap (spin k) (map-turn c)
 
-  pub tidyAt-map : (c : List A) (k : ℕ) (s : Option ℕ) (d : Due) → mapRing f (tidyAt c k s d) ≡ tidyAt (map f c) k s d
-  tidyAt-map c k s validity = cc (map-spin k c)
-  tidyAt-map c k s removal = refl
-  tidyAt-map c k s triangle = cc (map-spin k c)
-  tidyAt-map c k s split = refl
-  tidyAt-map c k s done = cc (map-spin k c)
+  pub tidyAt-map : (c : List A) (k : ℕ) (s : Option ℕ) (d : Due) (y : Option Discard) → mapRing f (tidyAt c k s d y) ≡ tidyAt (map f c) k s d y
+  tidyAt-map c k s validity y = cc (map-spin k c)
+  tidyAt-map c k s removal y = refl
+  tidyAt-map c k s triangle y = cc (map-spin k c)
+  tidyAt-map c k s split y = refl
+  tidyAt-map c k s done y = cc (map-spin k c)
 
   pub tidy-map : (R : Ring A) → mapRing f (tidy R) ≡ tidy (mapRing f R)
-  tidy-map R = tidyAt-map (R .circle) (R .first) (R .start) (R .due)
+  tidy-map R = tidyAt-map (R .circle) (R .first) (R .start) (R .due) (R .why)
 
   pub map-lastOf : (x : A) (xs : List A) → f (lastOf x xs) ≡ lastOf (f x) (map f xs)
   map-lastOf x [] = refl

@@ -6,7 +6,7 @@ use mathlib.Core.List.{List, [], _∷_}
 use Prim.Native.Nat.{ℕ, zero, suc, _*_, _<_}
 use native.Mathlib.Decide.{ℕ-discrete}
 use native.Mathlib.Omega.{arith}
-use borrow.Author.Tests.{eq-eqb, ne-eqb, lt-ltb, ltb-true, not-false}
+use borrow.Author.Tests.{eq-eqb, ne-eqb, eqb-true, lt-ltb, ltb-true, not-false}
 use Rattle.rings.specs.Count.{occ}
 use Rattle.rings.specs.Relink.{Mutual}
 use Rattle.rings.specs.Walk.{walk}
@@ -19,7 +19,8 @@ use Rattle.job.specs.declared.refusal.Refusal.{Refusal}
 use Rattle.job.specs.declared.refusal.Refusal.the-variants.{OffTheTable, NoSuch, Loose, Muddled, OpenEdge}
 use Rattle.store.specs.Field.{NONE}
 use Rattle.store.specs.Words.{view}
-use Rattle.store.specs.Named.{pointsOf, recordsOf, nextOf, prevOf, recOf, ownerOf, firstOf}
+use Rattle.store.specs.Named.{pointsOf, recordsOf, nextOf, prevOf, recOf, ownerOf, firstOf, keptOf}
+use Rattle.store.specs.Reason.{NO-RING}
 use Rattle.store.specs.Sound.{ringAt}
 use Rattle.store.specs.Good.{total}
 use Rattle.audit.specs.Tests.{anyBelow, offTable, noSuch, noSuchOf, loose}
@@ -127,8 +128,9 @@ module _ {w ss : List ℕ} {m : ℕ} {js : List ℕ} {n : ℕ} (g : Filled w ss 
       let i = homeOf w k in
       omega (arith, ltb-true 0 (occ k (ringAt (view w) i)) (s .1), sum-term (recordsOf w) i (λ j. occ k (ringAt (view w) j)) (s .0))
 
-  pub ready : Ready w
-  ready =
+  -- with why each record without a ring has none, as it was read
+  pub ready : ((i : ℕ) → i < recordsOf w → firstOf w i ≡ NONE → keptOf w i ≡ NO-RING) → Ready w
+  ready why =
       record {
         long = g .long;
         resolved = record {
@@ -140,5 +142,6 @@ module _ {w ss : List ℕ} {m : ℕ} {js : List ℕ} {n : ℕ} (g : Filled w ss 
           x-in = λ k h. tabled k h .x;
           y-in = λ k h. tabled k h .y;
           owner-in = λ i h. record-named i h .owner;
+          emptied = λ i h e. inl (why i h (eqb-true _ _ e));
         };
       }

@@ -16,7 +16,8 @@ use Rattle.audit.proofs.Agreeing.{passed-sound}
 use Rattle.paths.specs.declared.Written.{Written}
 use Rattle.paths.specs.declared.Written.the-variants.{Paths, Refused}
 use Rattle.paths.specs.Wrote.{Wrote, wrote, buildPaths64}
-use Rattle.finishing.specs.Write.{anyLive, writeBy, writeOf}
+use Rattle.steps.specs.Live.{anyLive}
+use Rattle.finishing.specs.Write.{writeBy, writeOf}
 use Rattle.finishing.proofs.Entering.{long-write}
 use Rattle.listing.specs.Needs.{Listable}
 use Rattle.listing.proofs.Answers.{answer-listable}

@@ -88,7 +88,7 @@ fn print_to_first(d: Due) {
 pub(crate) fn print_act(a: Act) {
     match a {
         Act::Stay => say(b" stay"),
-        Act::Discard => say(b" discard"),
+        Act::Discard(_) => say(b" discard"),
         Act::Drop => say(b" drop"),
         Act::MoveOn(_) => say(b" move"),
         Act::ToFirst(d) => print_to_first(d),

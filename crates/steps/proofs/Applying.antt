@@ -10,10 +10,12 @@ use lib.Dec.{eqb}
 use lib.ListN.{length}
 use borrow.Author.Tests.{eq-eqb, ne-eqb}
 use Rattle.rings.specs.Progress.{Due}
+use Rattle.rings.specs.Progress as rings
 use Rattle.geometry.specs.declared.Point.{Point}
 use Rattle.lone.specs.Act.{double, cut, takesPoints}
 use Rattle.job.specs.Limits as limit
-use Rattle.store.specs.Field.{PointCol, pt, rc, ct, NEXT, PREV, REC, OWNER, FIRST, MARK, PRESENT, START, POINTS, RECORDS, LENGTH, NONE}
+use Rattle.store.specs.Reason.{reasonNumber}
+use Rattle.store.specs.Field.{PointCol, pt, rc, ct, NEXT, PREV, REC, OWNER, FIRST, MARK, PRESENT, START, REASON, POINTS, RECORDS, LENGTH, NONE}
 use Rattle.store.specs.Named.{nextOf, prevOf}
 use Rattle.store.specs.Sound.{pts, recs, markOf}
 use Rattle.store.specs.Words.{Store, view, cell, put, onWords}
@@ -25,9 +27,11 @@ use Rattle.store.specs.Beside.{disposed, disposeOutPt, Beside}
 use Rattle.acts.specs.Writes.{moveWrites, toFirstWrites, discardWrites, dropWrites, putWrites, doubleWrites, placeWrites, cutWrites, cutPutWrites, recordWrites, offcutWrites}
 use Rattle.acts.specs.Apply.{ringWrites, afterW}
 use Rattle.turns.specs.declared.Act.{Act}
-use Rattle.turns.specs.declared.Act.the-variants.{Discard, Drop, MoveOn, ToFirst, Double, Cut}
+use Rattle.turns.specs.declared.Act.the-variants.{Drop, MoveOn, ToFirst, Double, Cut}
+use Rattle.turns.specs.declared.Act.the-variants as act
 use Rattle.turns.specs.declared.Due as code
-use Rattle.turns.specs.Code.{dueIs, actIs}
+use Rattle.turns.specs.declared.Discard.{Discard}
+use Rattle.turns.specs.Code.{dueIs, discardIs, actIs}
 use Rattle.turns.specs.Form.{raised}
 use Rattle.turns.specs.Reads.{Steps, Going}
 use Rattle.turns.proofs.Reading.{low, on-next, on-prev}
@@ -62,10 +66,10 @@ module _ (w : List ℕ) (i x : ℕ) (r : Reach w i) (e : x ≡ cell (rc PRESENT)
   second-low y z f g = rw (g, f, e) (r .second-in)
 
 -- ---- what is written
-module _ (w w₁ w₂ : List ℕ) (i : ℕ) where
-  pub discarded : w₁ ≡ put (rc FIRST) w i NONE → w₂ ≡ put (rc MARK) w₁ i 4 → w₂ ≡ onWords w (discardWrites i)
-  discarded e₁ e₂ = rw (e₂, e₁)
+pub discarded : (w w₁ w₂ w₃ : List ℕ) (i r : ℕ) (y : rings.Discard) → r ≡ reasonNumber y → w₁ ≡ put (rc FIRST) w i NONE → w₂ ≡ put (rc MARK) w₁ i 4 → w₃ ≡ put (rc REASON) w₂ i r → w₃ ≡ onWords w (discardWrites i y)
+discarded w w₁ w₂ w₃ i r y er e₁ e₂ e₃ = rw (e₃, e₂, e₁, er)
 
+module _ (w w₁ w₂ : List ℕ) (i : ℕ) where
   pub looped : (n : ℕ) → w₁ ≡ put (rc PRESENT) w i n → w₂ ≡ put (rc START) w₁ i n → w₂ ≡ put (rc START) (put (rc PRESENT) w i n) i n
   looped n e₁ e₂ = rw (e₂, e₁)
 
@@ -215,8 +219,8 @@ module _ (w w₁ : List ℕ) (i : ℕ) (v : Point) (b : Bool) (d : Due) (x y : �
 
 -- ---- every act
 module _ (w w′ : List ℕ) (i : ℕ) (t : Act) where
-  pub by-discard : t ≡ Discard → w′ ≡ onWords w (discardWrites i) → w′ ≡ afterW raised w i (actIs t)
-  by-discard e h = subst (λ (t : Act). w′ ≡ afterW raised w i (actIs t)) (sym e) h
+  pub by-discard : (y : Discard) → t ≡ act.Discard y → w′ ≡ onWords w (discardWrites i (discardIs y)) → w′ ≡ afterW raised w i (actIs t)
+  by-discard y e h = subst (λ (t : Act). w′ ≡ afterW raised w i (actIs t)) (sym e) h
 
   pub by-drop : t ≡ Drop → w′ ≡ onWords w (dropWrites (view w) i) → w′ ≡ afterW raised w i (actIs t)
   by-drop e h = subst (λ (t : Act). w′ ≡ afterW raised w i (actIs t)) (sym e) h

@@ -58,7 +58,7 @@ room-is w p r a b act ep er ea eb = rw (ep, er, ea, eb)
 -- ---- a step that has room applies
 
 new-in : (s : Store) (i : ℕ) (act : Act Point) → Ready raised s i act → NewIn act
-new-in s i act to-discard = tt
+new-in s i act (to-discard y) = tt
 new-in s i act (to-move d₀ d e g) = tt
 new-in s i act (to-go-first d₀ d e g) = tt
 new-in s i act (to-drop e b z u r g) = tt

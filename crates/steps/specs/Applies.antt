@@ -51,7 +51,7 @@ pub record OffcutFits (w : List ℕ) (i x y : ℕ) (v : Point) : Type 0 where
 -- the value of a new point is in the table
 abbrev pub NewIn : Act Point → Type 0
 NewIn stay = Unit {0}
-NewIn discard = Unit {0}
+NewIn (discard y) = Unit {0}
 NewIn dropPoint = Unit {0}
 NewIn (moveOn d) = Unit {0}
 NewIn (toFirst d) = Unit {0}

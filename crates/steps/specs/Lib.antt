@@ -2,3 +2,4 @@
 pub mod Code
 pub mod Glide
 pub mod Applies
+pub mod Live

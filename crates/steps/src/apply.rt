@@ -10,6 +10,7 @@ use store::points::start_record;
 use store::points::unlink;
 use store::set;
 use turns::Act;
+use turns::Discard;
 use turns::Due;
 ghost use mathlib.Core.Path.{_≡_};
 ghost use mathlib.Core.Bool.{cond};
@@ -22,7 +23,8 @@ ghost use Rattle.store.specs.Sound.{markOf};
 ghost use Rattle.store.specs.Words.{cell, put, view, onWords};
 ghost use Rattle.acts.specs.Writes.{moveWrites, toFirstWrites, discardWrites, dropWrites, putWrites, doubleWrites, placeWrites, cutWrites, cutPutWrites, recordWrites, offcutWrites};
 ghost use Rattle.acts.specs.Apply.{ringWrites, afterW};
-ghost use Rattle.turns.specs.Code.{dueIs, actIs};
+ghost use Rattle.store.specs.Reason.{reasonNumber};
+ghost use Rattle.turns.specs.Code.{dueIs, discardIs, actIs};
 ghost use Rattle.store.specs.Value.{wordOf};
 ghost use Rattle.turns.specs.Form.{raised};
 ghost use Rattle.lone.specs.Act.{cut};
@@ -73,13 +75,26 @@ fn to_first(w: &mut [u32], i: usize, d: Due)
     set(w, Col::Mark, i, m);
 }
 
-// The record is emptied, and the ring is done.
-fn discard_ring(w: &mut [u32], i: usize)
-    requires { ⌜ Reach (now w) i ⌝ }
-    ensures { λ _. ⌜ now (w .exit) ≡ onWords (now (w .entry)) (discardWrites i) ⌝ }
+// The number that is kept of the rule that discards a ring.
+fn reason_number(y: Discard) -> usize
+    ensures { λ r. ⌜ (r ≡ reasonNumber (discardIs y)) × (r < 2 ^ 32) ⌝ }
 {
+    match y {
+        Discard::AtValidity => 3,
+        Discard::WhileRemoving => 4,
+        Discard::AtSplit => 5,
+    }
+}
+
+// The record is emptied, the ring is done, and the rule that said so is kept.
+fn discard_ring(w: &mut [u32], i: usize, y: Discard)
+    requires { ⌜ Reach (now w) i ⌝ }
+    ensures { λ _. ⌜ now (w .exit) ≡ onWords (now (w .entry)) (discardWrites i (discardIs y)) ⌝ }
+{
+    let r = reason_number(y);
     dispose_out_pts(w, i);
     set(w, Col::Mark, i, 4);
+    set(w, Col::Reason, i, r);
 }
 
 // A first point that is x is p from now on.
@@ -227,8 +242,8 @@ pub fn apply(w: &mut [u32], i: usize, act: Act)
         Act::Stay => {
             return;
         }
-        Act::Discard => {
-            discard_ring(w, i);
+        Act::Discard(y) => {
+            discard_ring(w, i, y);
             return;
         }
         Act::Drop => {

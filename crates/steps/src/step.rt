@@ -21,6 +21,7 @@ ghost use Rattle.turns.specs.Code.{actIs};
 ghost use Rattle.turns.specs.Form.{raised, geometryOf};
 ghost use Rattle.turns.specs.Reads.{Steps};
 ghost use Rattle.steps.specs.Code.{answerIs};
+ghost use Rattle.steps.specs.Live.{anyLive};
 
 // How many points an act takes.
 fn takes_points(act: Act) -> usize
@@ -28,7 +29,7 @@ fn takes_points(act: Act) -> usize
 {
     match act {
         Act::Stay => 0,
-        Act::Discard => 0,
+        Act::Discard(_) => 0,
         Act::Drop => 0,
         Act::MoveOn(_) => 0,
         Act::ToFirst(_) => 0,
@@ -54,7 +55,7 @@ fn takes_record(act: Act) -> usize
 {
     match act {
         Act::Stay => 0,
-        Act::Discard => 0,
+        Act::Discard(_) => 0,
         Act::Drop => 0,
         Act::MoveOn(_) => 0,
         Act::ToFirst(_) => 0,
@@ -113,6 +114,23 @@ pub fn is_live(w: &[u32], i: usize) -> bool
     }
     let m = get(w, Col::Mark, i);
     m < 4
+}
+
+// Whether a closed ring isn't done.
+pub fn any_live(w: &[u32]) -> bool
+    requires { ⌜ SoundWords (now w) ⌝ }
+    ensures { λ r. ⌜ r ≡ anyLive (view (now (w .entry))) ⌝ }
+{
+    let n = get(w, Col::Records, 0);
+    let mut i: usize = 0;
+    while i < n {
+        let found = is_live(w, i);
+        if found {
+            return true;
+        }
+        i += 1;
+    }
+    false
 }
 
 // A step on a record number, once it is known whether it is an unfinished closed ring.

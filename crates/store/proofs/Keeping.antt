@@ -5,6 +5,7 @@ use mathlib.Core.Path.{_≡_, refl, ap, _∙_, sym, subst}
 use mathlib.Core.Logic.{_≢_, _⊎_, inl, inr}
 use mathlib.Core.Bool.{Bool, true, false, cond}
 use mathlib.Core.List.{[]}
+use mathlib.Core.Option.{none}
 use native.Mathlib.Omega.{arith}
 use native.Mathlib.Decide.{ℕ-discrete, decLt}
 use Rattle.rings.specs.Count.{sumTo, occ}
@@ -14,10 +15,11 @@ use Rattle.rings.proofs.Counting.{all-in, sum-same, sum-two, sum-change}
 use Rattle.rings.proofs.Linking.{linked-kept}
 use Rattle.rings.proofs.Walking.{run-agree, Seen}
 use Rattle.job.specs.Limits as limit
-use Rattle.store.specs.Field.{RecordCol, pt, rc, X, Y, NEXT, PREV, REC, FLAGS, OWNER, FIRST, MARK, PRESENT, START, NONE}
+use Rattle.store.specs.Field.{RecordCol, pt, rc, X, Y, NEXT, PREV, REC, FLAGS, OWNER, FIRST, MARK, PRESENT, START, REASON, TAKER, NONE}
 use Rattle.store.specs.Words.{Store}
 use Rattle.store.specs.Sound.{pts, recs, ringless, ringAt, isOpen, dueAt, Closed, looping, loneDue, loneAt}
-use Rattle.store.specs.Good.{PointIn, Good, total, Sound}
+use Rattle.store.specs.Reason.{discardOf}
+use Rattle.store.specs.Good.{PointIn, Told, Good, total, Sound}
 use Rattle.store.proofs.Soundness.{present-on}
 
 -- record i (or a new one, i ≥ recs s) is changed, and no point that another record's ring has
@@ -41,6 +43,10 @@ pub record Local (s s′ : Store) (i : ℕ) : Type 0 where
   pub nexts : (k : ℕ) → k < pts s → occ k (ringAt s i) ≡ 0 → s′ (pt NEXT) k ≡ s (pt NEXT) k
   pub prevs : (k : ℕ) → k < pts s → occ k (ringAt s i) ≡ 0 → s′ (pt PREV) k ≡ s (pt PREV) k
   pub recordings : (k : ℕ) → k < pts s → occ k (ringAt s i) ≡ 0 → s′ (pt REC) k ≡ s (pt REC) k
+
+-- why a record has no ring
+pub told-kept : (s s′ : Store) (j : ℕ) → s′ (rc REASON) j ≡ s (rc REASON) j → s′ (rc TAKER) j ≡ s (rc TAKER) j → recs s ≤ recs s′ → Told s j → Told s′ j
+told-kept s s′ j a b m t = record { kept = rw a (t .kept); taker = λ e. rw b (omega (arith, t .taker (rw a at e))) }
 
 module _ (s s′ : Store) (o : Sound s) (i : ℕ) (h : i < recs s) where
   apart : (j k : ℕ) → j < recs s → j ≢ i → 0 < occ k (ringAt s j) → occ k (ringAt s i) ≡ 0
@@ -103,6 +109,7 @@ module _ (s s′ : Store) (o : Sound s) (i : ℕ) (K : Kept s s′ i) where
           owner = rw (K .records OWNER j l d) (up (g .owner));
           meant = λ c. rw (K .records MARK j l d) (g .meant (closed-back c));
           going = λ c e. rw (K .records PRESENT j l d, ring-other) (g .going (closed-back c) (rw (K .records MARK j l d) at e));
+          told = λ e. told-kept s s′ j (K .records REASON j l d) (K .records TAKER j l d) (K .records-up) (g .told (rw first-same at e));
         }
       where
         up : (s (rc OWNER) j ≡ NONE) ⊎ (s (rc OWNER) j < recs s) → (s (rc OWNER) j ≡ NONE) ⊎ (s (rc OWNER) j < recs s′)
@@ -117,19 +124,19 @@ module _ (s s′ : Store) (o : Sound s) (i : ℕ) (K : Kept s s′ i) where
 
     -- its lone ring stays
     pub lone-other : isOpen s j ≡ false → loneAt s′ j ≡ loneAt s j
-    lone-other shut = rw (first-same, K .records MARK j l d) (go (ringless s j) refl)
+    lone-other shut = rw (first-same, K .records MARK j l d, K .records REASON j l d) (go (ringless s j) refl)
       where
         last : ringless s j ≡ false → walk (s′ (pt NEXT)) (s (rc FIRST) j) ≡ walk (s (pt NEXT)) (s (rc FIRST) j)
         last e = walk-same (s (rc FIRST) j) (λ k p. rw e p)
 
         by : ringless s j ≡ false → (due : Due) → dueAt s j ≡ due → loneDue s′ j due ≡ loneDue s j due
-        by e validity m = rw first-same (ap (resting validity) (last e))
+        by e validity m = rw first-same (ap (resting validity none) (last e))
         by e removal m = looping-other removal refl m (record { known = l; ringed = e; closed = shut })
-        by e triangle m = rw first-same (ap (resting triangle) (last e))
+        by e triangle m = rw first-same (ap (resting triangle none) (last e))
         by e split m = looping-other split refl m (record { known = l; ringed = e; closed = shut })
-        by e done m = rw first-same (ap (resting done) (last e))
+        by e done m = rw first-same (ap (resting done none) (last e))
 
-        go : (b : Bool) → ringless s j ≡ b → cond b gone (loneDue s′ j (dueAt s j)) ≡ cond b gone (loneDue s j (dueAt s j))
+        go : (b : Bool) → ringless s j ≡ b → cond b (gone (discardOf (s (rc REASON) j))) (loneDue s′ j (dueAt s j)) ≡ cond b (gone (discardOf (s (rc REASON) j))) (loneDue s j (dueAt s j))
         go true e = refl
         go false e = by e (dueAt s j) refl
 

@@ -9,7 +9,9 @@ use lib.Dec.{ltb, eqb}
 use lib.ListN.{length, getD, set, length-set}
 use lib.Seq.{getD-set-same, getD-set-other}
 use borrow.Author.Tests.{ltb-true, lt-ltb, le-ltb, eqb-true, eqb-false, eq-eqb, ne-eqb}
-use Rattle.store.specs.Field.{Field, PointCol, RecordCol, Count, pt, rc, ct, X, Y, NEXT, PREV, REC, FLAGS, OWNER, FIRST, MARK, PRESENT, START, CUT, SETTINGS, POINTS, RECORDS, pointRank, recordRank, countRank, size, base, same, LENGTH}
+use Rattle.store.specs.Field.{Field, PointCol, RecordCol, Count, pt, rc, ct, X, Y, NEXT, PREV, REC, FLAGS, OWNER, FIRST, MARK, PRESENT, START, CUT, REASON, TAKER, SETTINGS, POINTS, RECORDS, pointRank, recordRank, countRank, size, base, same, LENGTH}
+use Rattle.store.specs.declared.Col.{Col}
+use Rattle.store.specs.Column.{columnOf}
 use Rattle.store.specs.Words.{Store, cell, put, view, Write, write, onWords}
 use Rattle.store.specs.Stores.{upd, onStore, Within, Misses}
 
@@ -20,7 +22,7 @@ point-ranks NEXT = omega arith
 point-ranks PREV = omega arith
 point-ranks REC = omega arith
 
-record-ranks : (f : RecordCol) → recordRank f ≤ 6
+record-ranks : (f : RecordCol) → recordRank f ≤ 8
 record-ranks FLAGS = omega arith
 record-ranks OWNER = omega arith
 record-ranks FIRST = omega arith
@@ -28,6 +30,8 @@ record-ranks MARK = omega arith
 record-ranks PRESENT = omega arith
 record-ranks START = omega arith
 record-ranks CUT = omega arith
+record-ranks REASON = omega arith
+record-ranks TAKER = omega arith
 
 count-ranks : (f : Count) → countRank f ≤ 2
 count-ranks SETTINGS = omega arith
@@ -155,7 +159,10 @@ pub cell-at : (f : Field) (w : List ℕ) (i : ℕ) → i < size f → cell f w i
 unfolding cell
 cell-at f w i h = rw (lt-ltb i (size f) h)
 
--- what the accessors' needs come to
+-- what the accessors' needs come to: a column by the code's name for it
+pub by-name : (f : Field → ℕ) (c v : Col) → c ≡ v → f (columnOf v) ≡ f (columnOf c)
+by-name f c v e = ap (λ (k : Col). f (columnOf k)) (sym e)
+
 pub place-of : (f : Field) (i b r : ℕ) → i < size f → b ≡ base f → r ≡ b + i → (r ≡ base f + i) × (r < LENGTH)
 place-of f i b r h e q = (omega arith, omega (arith, ends f i h))
 

@@ -14,17 +14,21 @@ use Rattle.job.specs.Limits as limit
 use Rattle.geometry.specs.declared.Point.{Point}
 use Rattle.geometry.specs.Table.{InTable}
 use Rattle.store.specs.declared.points.Room.the-variants.{At, Full}
-use Rattle.store.specs.Field.{pt, ct, X, Y, REC, POINTS}
+use Rattle.store.specs.Field.{pt, rc, ct, X, Y, REC, FLAGS, OWNER, FIRST, MARK, PRESENT, START, CUT, POINTS}
 use Rattle.store.specs.Words.{view, cell, put, onWords}
 use Rattle.store.specs.Named.{pointsOf, nextOf, prevOf}
 use Rattle.store.specs.Value.{wordOf}
 use Rattle.store.proofs.Coordinates.{fits}
-use Rattle.store.specs.Primitive.{taken, pointWrites, linkWrites, unlinkWrites, afterWrites, beforeWrites, duplicateOp}
+use Rattle.store.specs.Primitive.{taken, pointWrites, linkWrites, unlinkWrites, startWrites, afterWrites, beforeWrites, duplicateOp}
 use Rattle.store.specs.Beside.{disposed, disposeOutPt}
 
 pub took-point : (w w₁ w₂ w₃ w₄ : List ℕ) (k vx vy r : ℕ) → w₁ ≡ put (ct POINTS) w 0 (k + 1) → w₂ ≡ put (pt X) w₁ k vx → w₃ ≡ put (pt Y) w₂ k vy → w₄ ≡ put (pt REC) w₃ k r
     → w₄ ≡ onWords w (pointWrites k vx vy r)
 took-point w w₁ w₂ w₃ w₄ k vx vy r e₁ e₂ e₃ e₄ = rw (e₄, e₃, e₂, e₁, add-one k)
+
+pub started : (w w₁ w₂ w₃ w₄ w₅ w₆ w₇ : List ℕ) (k o b i : ℕ) → w₁ ≡ put (rc FLAGS) w k 0 → w₂ ≡ put (rc OWNER) w₁ k o → w₃ ≡ put (rc FIRST) w₂ k b → w₄ ≡ put (rc MARK) w₃ k 0
+    → w₅ ≡ put (rc PRESENT) w₄ k b → w₆ ≡ put (rc START) w₅ k b → w₇ ≡ put (rc CUT) w₆ k i → w₇ ≡ onWords w (startWrites k o b i)
+started w w₁ w₂ w₃ w₄ w₅ w₆ w₇ k o b i e₁ e₂ e₃ e₄ e₅ e₆ e₇ = rw (e₇, e₆, e₅, e₄, e₃, e₂, e₁)
 
 -- a coordinate comes through its bits
 pub new-point : (w w₁ : List ℕ) (k : ℕ) (p : Point) (r vx vy : ℕ) → InTable p → vx ≡ wordOf (toZ w32 (ofZ w32 (p .x))) → vy ≡ wordOf (toZ w32 (ofZ w32 (p .y)))

@@ -1,6 +1,6 @@
 -- The code's columns are the layout's.
 use Rattle.store.specs.declared.Col.{Col}
-use Rattle.store.specs.declared.Col.the-variants.{X, Y, Next, Prev, Rec, Flags, Owner, First, Mark, Present, Start, Cut, Settings, Points, Records}
+use Rattle.store.specs.declared.Col.the-variants.{X, Y, Next, Prev, Rec, Flags, Owner, First, Mark, Present, Start, Cut, Reason, Taker, Settings, Points, Records}
 use Rattle.store.specs.Field.{Field, pt, rc, ct}
 use Rattle.store.specs.Field as f
 
@@ -18,6 +18,8 @@ columnOf Mark = rc f.MARK
 columnOf Present = rc f.PRESENT
 columnOf Start = rc f.START
 columnOf Cut = rc f.CUT
+columnOf Reason = rc f.REASON
+columnOf Taker = rc f.TAKER
 columnOf Settings = ct f.SETTINGS
 columnOf Points = ct f.POINTS
 columnOf Records = ct f.RECORDS

@@ -9,9 +9,10 @@ pub use Rattle.job.specs.Limits.{NONE}
 pub data PointCol : Type 0 where
   X Y NEXT PREV REC : PointCol
 
--- a record's fields: FIRST is its first point, MARK its progress mark, PRESENT its present place, START where its loop began, CUT the record it was cut from
+-- a record's fields: FIRST is its first point, MARK its progress mark, PRESENT its present place, START where its loop began, CUT the record it was cut from,
+-- REASON why it has no ring, TAKER the record that took it in a join
 pub data RecordCol : Type 0 where
-  FLAGS OWNER FIRST MARK PRESENT START CUT : RecordCol
+  FLAGS OWNER FIRST MARK PRESENT START CUT REASON TAKER : RecordCol
 
 -- the settings, and how many points and records are in use
 pub data Count : Type 0 where
@@ -39,6 +40,8 @@ recordRank MARK = 3
 recordRank PRESENT = 4
 recordRank START = 5
 recordRank CUT = 6
+recordRank REASON = 7
+recordRank TAKER = 8
 
 abbrev pub countRank : Count → ℕ
 countRank SETTINGS = 0
@@ -74,4 +77,4 @@ same (ct f) (ct g) = eqb (countRank f) (countRank g)
 
 -- the fixed length of a work space: all columns
 abbrev pub LENGTH : ℕ
-LENGTH = HEAD + limit.POINTS * 5 + limit.RECORDS * 7
+LENGTH = HEAD + limit.POINTS * 5 + limit.RECORDS * 9

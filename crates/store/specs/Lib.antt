@@ -3,6 +3,7 @@ pub mod Field
 pub mod Column
 pub mod Words
 pub mod Stores
+pub mod Reason
 pub mod Sound
 pub mod Good
 pub mod Named

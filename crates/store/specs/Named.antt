@@ -3,7 +3,7 @@
 use Prim.Native.Nat.{ℕ}
 use mathlib.Core.List.{List}
 use Rattle.rings.specs.Walk.{walk}
-use Rattle.store.specs.Field.{pt, rc, ct, NEXT, PREV, REC, FLAGS, OWNER, FIRST, MARK, PRESENT, CUT, SETTINGS, POINTS, RECORDS}
+use Rattle.store.specs.Field.{pt, rc, ct, NEXT, PREV, REC, FLAGS, OWNER, FIRST, MARK, PRESENT, CUT, REASON, TAKER, SETTINGS, POINTS, RECORDS}
 use Rattle.store.specs.Words.{view, put}
 
 -- ---- the counts
@@ -47,6 +47,12 @@ presentOf w i = view w (rc PRESENT) i
 
 abbrev pub cutFrom : List ℕ → ℕ → ℕ
 cutFrom w i = view w (rc CUT) i
+
+abbrev pub keptOf : List ℕ → ℕ → ℕ
+keptOf w i = view w (rc REASON) i
+
+abbrev pub takerOf : List ℕ → ℕ → ℕ
+takerOf w i = view w (rc TAKER) i
 
 -- ---- the words with another number there
 

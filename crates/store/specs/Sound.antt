@@ -3,12 +3,14 @@ use Prim.Native.Nat.{ℕ, zero, suc, _%_, _<_}
 use mathlib.Core.Path.{_≡_}
 use mathlib.Core.Bool.{Bool, false, cond}
 use mathlib.Core.List.{List, []}
+use mathlib.Core.Option.{none}
 use lib.Dec.{eqb}
 use Rattle.rings.specs.Place.{place, orZero}
 use Rattle.rings.specs.Progress.{Ring, Due, validity, removal, triangle, split, done, resting, gone}
 use Rattle.rings.specs.Walk.{walk}
-use Rattle.store.specs.Field.{pt, rc, ct, NEXT, FLAGS, FIRST, MARK, PRESENT, START, POINTS, RECORDS, NONE}
+use Rattle.store.specs.Field.{pt, rc, ct, NEXT, FLAGS, FIRST, MARK, PRESENT, START, REASON, POINTS, RECORDS, NONE}
 use Rattle.store.specs.Words.{Store}
+use Rattle.store.specs.Reason.{discardOf}
 
 abbrev pub pts : Store → ℕ
 pts s = s (ct POINTS) 0
@@ -49,19 +51,19 @@ pub record Closed (s : Store) (i : ℕ) : Type 0 where
   pub ringed : ringless s i ≡ false
   pub closed : isOpen s i ≡ false
 
--- ---- the lone ring of a record, by indices: in a loop from the present place, else from the first point
+-- ---- the lone ring of a record, by indices: in a loop from the present place, else from the first point; without a ring, with the rule that discarded it, if one is kept
 
 abbrev pub looping : Store → ℕ → Due → Ring ℕ
 looping s i d =
     let c : List ℕ = walk (s (pt NEXT)) (s (rc PRESENT) i) in
-    record { circle = c; first = orZero (place (s (rc FIRST) i) c); start = place (s (rc START) i) c; due = d }
+    record { circle = c; first = orZero (place (s (rc FIRST) i) c); start = place (s (rc START) i) c; due = d; why = none }
 
 abbrev pub loneDue : Store → ℕ → Due → Ring ℕ
-loneDue s i validity = resting validity (walk (s (pt NEXT)) (s (rc FIRST) i))
+loneDue s i validity = resting validity none (walk (s (pt NEXT)) (s (rc FIRST) i))
 loneDue s i removal = looping s i removal
-loneDue s i triangle = resting triangle (walk (s (pt NEXT)) (s (rc FIRST) i))
+loneDue s i triangle = resting triangle none (walk (s (pt NEXT)) (s (rc FIRST) i))
 loneDue s i split = looping s i split
-loneDue s i done = resting done (walk (s (pt NEXT)) (s (rc FIRST) i))
+loneDue s i done = resting done none (walk (s (pt NEXT)) (s (rc FIRST) i))
 
 abbrev pub loneAt : Store → ℕ → Ring ℕ
-loneAt s i = cond (ringless s i) gone (loneDue s i (dueAt s i))
+loneAt s i = cond (ringless s i) (gone (discardOf (s (rc REASON) i))) (loneDue s i (dueAt s i))

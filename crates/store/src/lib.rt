@@ -5,11 +5,17 @@ ghost use Prim.Native.Nat.{_+_, _<_, _≤_, _^_};
 ghost use lib.ListN.{length, getD};
 ghost use Rattle.store.specs.Field.{size, base, LENGTH};
 ghost use Rattle.store.specs.Field as field;
+ghost use Rattle.store.specs.Reason as reason;
 ghost use Rattle.store.specs.Words.{cell, put};
 ghost use Rattle.store.specs.Column.{columnOf};
 
 // No point, no record.
 pub const NONE: usize = Job::NONE;
+
+// Why a record has no ring: there was none in the job, or it was joined into another record. (A step that discards a ring has numbers of its own.)
+pub const NO_RING: usize = 1;
+
+pub const JOINED: usize = 2;
 
 // The columns: the only index into the work space.
 pub enum Col {
@@ -25,6 +31,8 @@ pub enum Col {
     Present,
     Start,
     Cut,
+    Reason,
+    Taker,
     Settings,
     Points,
     Records,
@@ -36,7 +44,7 @@ const HEAD: usize = 16;
 const AFTER: usize = HEAD + Job::POINTS * 5;
 
 // The fixed length of a work space, in words: all columns.
-pub const LENGTH: usize = AFTER + Job::RECORDS * 7;
+pub const LENGTH: usize = AFTER + Job::RECORDS * 9;
 
 // Where a column begins.
 fn base_of(c: Col) -> usize
@@ -55,6 +63,8 @@ fn base_of(c: Col) -> usize
         Col::Present => AFTER + Job::RECORDS * 4,
         Col::Start => AFTER + Job::RECORDS * 5,
         Col::Cut => AFTER + Job::RECORDS * 6,
+        Col::Reason => AFTER + Job::RECORDS * 7,
+        Col::Taker => AFTER + Job::RECORDS * 8,
         Col::Settings => 0,
         Col::Points => 1,
         Col::Records => 2,
@@ -104,6 +114,8 @@ fn size_of(c: Col) -> usize
         Col::Present => Job::RECORDS,
         Col::Start => Job::RECORDS,
         Col::Cut => Job::RECORDS,
+        Col::Reason => Job::RECORDS,
+        Col::Taker => Job::RECORDS,
         Col::Settings => 1,
         Col::Points => 1,
         Col::Records => 1,
@@ -135,6 +147,8 @@ pub fn set(w: &mut [u32], c: Col, i: usize, v: usize)
 fn constants_agree()
     ensures { λ _. do ⌜ (← ⟦LENGTH⟧ .entry) ≡ field.LENGTH ⌝ }
     ensures { λ _. do ⌜ (← ⟦NONE⟧ .entry) ≡ field.NONE ⌝ }
+    ensures { λ _. do ⌜ (← ⟦NO_RING⟧ .entry) ≡ reason.NO-RING ⌝ }
+    ensures { λ _. do ⌜ (← ⟦JOINED⟧ .entry) ≡ reason.JOINED ⌝ }
 {}
 
 pub mod points;

@@ -11,7 +11,7 @@ use lib.ListN.{length}
 use Rattle.geometry.specs.declared.Point.{Point}
 use Rattle.rings.specs.Circle.{turn, spin, lastOf, headOr, oneOrThree, ahead, omap}
 use Rattle.rings.specs.Place.{isHere}
-use Rattle.rings.specs.Progress.{Due, validity, removal, triangle, split, done, Ring, atStart, tidyAt}
+use Rattle.rings.specs.Progress.{Due, validity, removal, triangle, split, done, Discard, atValidity, whileRemoving, Ring, atStart, tidyAt}
 use Rattle.rings.proofs.Circles.{length-turn, spin-round}
 use Rattle.lone.specs.Act.{Act, discard, dropPoint, moveOn, toFirst, double, cut, apply}
 use Rattle.lone.specs.Lone.{Geo, fromFirst, isValidClosedPath, removalTurn, decide, actOf, stepRing}
@@ -23,8 +23,8 @@ use Rattle.tidied.specs.Tidied.{meets, Clean, Drops, no-more, onward, dr
 use Rattle.tidied.proofs.Chains.{then, to-place, in-order, area-kept}
 
 -- a ring in its removal loop
-abbrev removing : {P : Type 0} → List P → ℕ → Option ℕ → Ring P
-removing c f s = record { circle = c; first = f; start = s; due = removal }
+abbrev removing : {P : Type 0} → List P → ℕ → Option ℕ → Option Discard → Ring P
+removing c f s y = record { circle = c; first = f; start = s; due = removal; why = y }
 
 -- ---- a circle seen from a place, and from a further one
 
@@ -97,31 +97,31 @@ module _ {P : Type 0} (G : Geo P) where
     Going : Ring P → Type 0
     Going R = At (R .circle) (R .first) (R .start) (R .due)
 
-    settle : (c : List P) (f : ℕ) (s : Option ℕ) (d : Due) → At c f s d → Going (tidyAt c f s d)
+    settle : (c : List P) (f : ℕ) (s : Option ℕ) (d : Due) (y : Option Discard) → At c f s d → Going (tidyAt c f s d y)
     unfolding Going At
-    settle c f s validity h = h
-    settle c f s removal h = h
-    settle c f s triangle h = (to-place f (h .0), clean-from f c (h .1))
-    settle c f s split h = tt
-    settle c f s done h = tt
+    settle c f s validity y h = h
+    settle c f s removal y h = h
+    settle c f s triangle y h = (to-place f (h .0), clean-from f c (h .1))
+    settle c f s split y h = tt
+    settle c f s done y h = tt
 
     -- a removal turn
-    turns : (c : List P) (f : ℕ) (s : Option ℕ) → Drops G c₀ c → Looked c s → Going (apply (λ (v : P). v) (removalTurn G c s) (removing c f s))
+    turns : (c : List P) (f : ℕ) (s : Option ℕ) (w : Option Discard) → Drops G c₀ c → Looked c s → Going (apply (λ (v : P). v) (removalTurn G c s) (removing c f s w))
     unfolding Going At Looked removalTurn
-    turns [] f s h l = tt
-    turns (x ∷ xs) f none h l = absurd l
-    turns (x ∷ xs) f (some k) h l = go (G .removable (lastOf x xs) x (headOr x xs)) refl (isValidClosedPath G xs) refl
+    turns [] f s w h l = tt
+    turns (x ∷ xs) f none w h l = absurd l
+    turns (x ∷ xs) f (some k) w h l = go (G .removable (lastOf x xs) x (headOr x xs)) refl (isValidClosedPath G xs) refl
       where
         goes : (ys : List P) → xs ≡ ys → isValidClosedPath G ys ≡ true → G .removable (lastOf x ys) x (headOr x ys) ≡ true → Drops G c₀ ys
         goes [] e v t = absurd (true≢false (sym v))
         goes (y ∷ ys) e v t = then h (rw e (dropped t no-more))
 
-        on : G .removable (lastOf x xs) x (headOr x xs) ≡ false → (n : ℕ) → n ≡ ahead (suc (length xs)) k → Going (apply (λ (v : P). v) (moveOn (cond (isHere (some n)) triangle removal)) (removing (x ∷ xs) f (some k)))
+        on : G .removable (lastOf x xs) x (headOr x xs) ≡ false → (n : ℕ) → n ≡ ahead (suc (length xs)) k → Going (apply (λ (v : P). v) (moveOn (cond (isHere (some n)) triangle removal)) (removing (x ∷ xs) f (some k) w))
         on t zero e = (then h (onward no-more), round (turn (x ∷ xs)) (λ j b. moved x xs k l t j (omega arith) b))
         on t (suc n) e = (then h (onward no-more), rw (← e) (λ j p a b. moved x xs k l t j (omega arith) b))
 
         go : (b₁ : Bool) → G .removable (lastOf x xs) x (headOr x xs) ≡ b₁ → (b₂ : Bool) → isValidClosedPath G xs ≡ b₂
-            → Going (apply (λ (v : P). v) (cond b₁ (cond b₂ dropPoint discard) (moveOn (cond (isHere (omap (ahead (suc (length xs))) (some k))) triangle removal))) (removing (x ∷ xs) f (some k)))
+            → Going (apply (λ (v : P). v) (cond b₁ (cond b₂ dropPoint (discard whileRemoving)) (moveOn (cond (isHere (omap (ahead (suc (length xs))) (some k))) triangle removal))) (removing (x ∷ xs) f (some k) w))
         go true t true v = (goes xs refl v t, λ j p. absurd (omega arith))
         go true t false v = tt
         go false t b v = on t (ahead (suc (length xs)) k) refl
@@ -135,28 +135,28 @@ module _ {P : Type 0} (G : Geo P) where
     ends R true = tt
     ends R false = tt
 
-    does : (c : List P) (f : ℕ) (s : Option ℕ) (d : Due) → At c f s d → Does (record { circle = c; first = f; start = s; due = d }) (decide G c f s d)
+    does : (c : List P) (f : ℕ) (s : Option ℕ) (d : Due) (y : Option Discard) → At c f s d → Does (record { circle = c; first = f; start = s; due = d; why = y }) (decide G c f s d)
     unfolding Does Going At Looked decide
-    does c f s validity h = go (isValidClosedPath G (spin f c)) h
+    does c f s validity y h = go (isValidClosedPath G (spin f c)) h
       where
-        go : (b : Bool) → At c f s validity → Does (record { circle = c; first = f; start = s; due = validity }) (cond b (toFirst removal) discard)
+        go : (b : Bool) → At c f s validity → Does (record { circle = c; first = f; start = s; due = validity; why = y }) (cond b (toFirst removal) (discard atValidity))
         go true h = (h, λ j p. absurd (omega arith))
         go false h = tt
-    does c f s removal h = turns c f s (h .0) (h .1)
-    does c f s triangle h = ends (record { circle = spin f c; first = 0; start = some 0; due = triangle }) (oneOrThree c)
-    does c f s split h =
-        let R : Ring P = record { circle = c; first = f; start = s; due = split } in
+    does c f s removal y h = turns c f s y (h .0) (h .1)
+    does c f s triangle y h = ends (record { circle = spin f c; first = 0; start = some 0; due = triangle; why = none }) (oneOrThree c)
+    does c f s split y h =
+        let R : Ring P = record { circle = c; first = f; start = s; due = split; why = y } in
         split-cases G (Does R) c f s tt
         (λ x xs e b i. ends (apply (λ (v : P). v) (moveOn split) R) b)
         (λ x xs e k v o b i. ends (apply (λ (v : P). v) (double v split) R) b)
         (λ x xs e k v o put off b i. ends (apply (λ (v : P). v) (cut v put off split) R) b)
-    does c f s done h = h
+    does c f s done y h = h
 
     kept : (R : Ring P) → Going R → Going (stepRing G R)
     unfolding stepRing actOf Going Does
     kept R h =
         let T : Ring P = apply (λ (v : P). v) (decide G (R .circle) (R .first) (R .start) (R .due)) R in
-        settle (T .circle) (T .first) (T .start) (T .due) (does (R .circle) (R .first) (R .start) (R .due) h)
+        settle (T .circle) (T .first) (T .start) (T .due) (T .why) (does (R .circle) (R .first) (R .start) (R .due) (R .why) h)
 
     after : (n : ℕ) → Going (stepsState (machine G) n (initial (atStart c₀)) .now)
     unfolding machine

@@ -4,6 +4,7 @@ use mathlib.Core.Path.{_≡_, refl, ap, _∙_, sym}
 use mathlib.Core.Logic.{_≢_}
 use mathlib.Core.Bool.{Bool, false, cond}
 use mathlib.Core.List.{List, [], _∷_, map}
+use mathlib.Core.Option.{none}
 use native.Mathlib.Omega.{arith}
 use borrow.Author.Tests.{eq-eqb, ne-eqb}
 use Rattle.rings.proofs.Counting.{occ-head, occ-lastOf}
@@ -11,7 +12,7 @@ use Rattle.rings.proofs.Linking.{prev-is}
 use Rattle.rings.proofs.Placing.{not-first}
 use Rattle.rings.proofs.Walking.{Seen, seen}
 use Rattle.rings.specs.Circle.{oneOrThree, lastOf}
-use Rattle.rings.specs.Progress.{Ring, Due, validity, removal, triangle, split, done, mapRing, resting}
+use Rattle.rings.specs.Progress.{Ring, Due, validity, removal, triangle, split, done, atValidity, mapRing, resting}
 use Rattle.rings.specs.Whole.{Whole}
 use Rattle.lone.specs.Kept.{GeoLaws}
 use Rattle.lone.specs.Lone.{Geo, actOf, decide, isValidClosedPath}
@@ -48,11 +49,11 @@ module _ {P : Type 0} (of : ℕ → ℕ → P) (G : Geo P) (s : Store) where
       first : Seen (s (pt NEXT)) (s (pt PREV)) (pts s) (ringAt s i) (s (rc FIRST) i)
       first = seen _ _ (pts s) (ringAt s i) (s (rc FIRST) i) (o .few-points) (whole s o i (c .known)) (first-on s i (c .ringed))
 
-      rest : (d : Due) → inLoop d ≡ false → dueAt s i ≡ d → actOf G (mapRing (value of s) (loneAt s i)) ≡ actOf G (mapRing (value of s) (resting d (s (rc FIRST) i ∷ first .others)))
+      rest : (d : Due) → inLoop d ≡ false → dueAt s i ≡ d → actOf G (mapRing (value of s) (loneAt s i)) ≡ actOf G (mapRing (value of s) (resting d none (s (rc FIRST) i ∷ first .others)))
       rest d h m = ap (λ (R : Ring ℕ). actOf G (mapRing (value of s) R)) (rested s i d h (first .others) (c .ringed) m (first .walked))
 
       go : (d : Due) → dueAt s i ≡ d → decideDue of G s i (dueAt s i) ≡ actOf G (mapRing (value of s) (loneAt s i))
-      go validity m = ap (decideDue of G s i) m ∙ ap (λ (l : List ℕ). cond (isValidClosedPath G (map (value of s) l)) (toFirst removal) discard) (first .walked) ∙ sym (rest validity refl m)
+      go validity m = ap (decideDue of G s i) m ∙ ap (λ (l : List ℕ). cond (isValidClosedPath G (map (value of s) l)) (toFirst removal) (discard atValidity)) (first .walked) ∙ sym (rest validity refl m)
       go removal m = ap (decideDue of G s i) m ∙ removal-is of G s o i c m
       go triangle m = ap (decideDue of G s i) m ∙ ap (λ (b : Bool). toFirst (cond b done split)) (three-from (s (rc FIRST) i) (first .others) (first .whole)) ∙ sym (rest triangle refl m)
       go split m = ap (decideDue of G s i) m ∙ split-is of G s f o i c m

@@ -13,7 +13,7 @@ use borrow.Author.Tests.{eq-eqb, ne-eqb, lt-ltb, le-ltb, le-leb, lt-leb}
 use mir.Syntax.{w64}
 use mir.Val.{toZ, ofZ, SFits}
 use mir.Facts.{toZ-ofZ}
-use Rattle.rings.specs.Progress.{validity, removal, triangle, split, done}
+use Rattle.rings.specs.Progress.{validity, removal, triangle, split, done, atValidity, whileRemoving, atSplit}
 use Rattle.rings.specs.Progress as rings
 use Rattle.rings.specs.Walk.{walk}
 use Rattle.geometry.specs.declared.Point.{Point}
@@ -78,7 +78,7 @@ module _ (w : List ℕ) (i f : ℕ) (b : Bool) (F : Found w (cell (rc FIRST) w i
   unfolding validityAt
   is-valid h = rw (valid-at ∙ h)
 
-  pub not-valid : b ≡ false → _≡_ {A = Act Point} discard (validityAt (raised .of) (geometryOf (view w)) (view w) i)
+  pub not-valid : b ≡ false → _≡_ {A = Act Point} (discard atValidity) (validityAt (raised .of) (geometryOf (view w)) (view w) i)
   unfolding validityAt
   not-valid h = rw (valid-at ∙ h)
 
@@ -114,15 +114,15 @@ module _ (w : List ℕ) (x a : ℕ) (A : Found w (cell (pt NEXT) w x) a) where
         unfolding validWithout
         valid-5 n m k h = rw (← A .is) (rw (ne-eqb a x n, ← B .is) (rw (ne-eqb b x m, ← C .is) (rw (ne-eqb c x k, ← E .is) (rw (ne-eqb e x h)))))
 
-pub drops : (v u : Bool) → v ≡ u → v ≡ true → _≡_ {A = Act Point} dropPoint (cond u dropPoint discard)
+pub drops : (v u : Bool) → v ≡ u → v ≡ true → _≡_ {A = Act Point} dropPoint (cond u dropPoint (discard whileRemoving))
 drops v u e h = rw (sym e ∙ h)
 
-pub discards : (v u : Bool) → v ≡ u → v ≡ false → _≡_ {A = Act Point} discard (cond u dropPoint discard)
+pub discards : (v u : Bool) → v ≡ u → v ≡ false → _≡_ {A = Act Point} (discard whileRemoving) (cond u dropPoint (discard whileRemoving))
 discards v u e h = rw (sym e ∙ h)
 
 module _ (w : List ℕ) (i x n p : ℕ) (g : Bool) (X : Found w (cell (rc PRESENT) w i) x) (N : Found w (cell (pt NEXT) w x) n) (Q : Found w (cell (pt PREV) w x) p)
     (eg : g ≡ removeAt (raised .of) (geometryOf (view w)) (view w) p x n) where
-  pub turn-drops : (r : Act Point) → g ≡ true → r ≡ cond (validWithout (raised .of) (geometryOf (view w)) (view w) x) dropPoint discard → r ≡ removalAt (raised .of) (geometryOf (view w)) (view w) i
+  pub turn-drops : (r : Act Point) → g ≡ true → r ≡ cond (validWithout (raised .of) (geometryOf (view w)) (view w) x) dropPoint (discard whileRemoving) → r ≡ removalAt (raised .of) (geometryOf (view w)) (view w) i
   unfolding removalAt
   turn-drops r h q = rw (← X .is) (rw (← N .is, ← Q .is) (rw (sym eg ∙ h) q))
 
@@ -250,7 +250,7 @@ module _ (w : List ℕ) (p x : ℕ) (k : Edges) (area1 : ℤ) (n : ℕ) (o : OnR
   area-is : toZ w64 (ofZ w64 area1) ≡ areaOutpt (valuesFrom w p)
   area-is = rw ea (toZ-ofZ (ring-fits w p o))
 
-  pub too-small : n < 4 → discard ≡ splitOpAt (raised .of) (geometryOf (view w)) (view w) p x (k .a) (k .b) (k .c) (k .d)
+  pub too-small : n < 4 → discard atSplit ≡ splitOpAt (raised .of) (geometryOf (view w)) (view w) p x (k .a) (k .b) (k .c) (k .d)
   unfolding splitOpAt
   too-small h = rw (lt-ltb (natAbs (areaOutpt (valuesFrom w p))) 4 (rw (← area-is, ← en) h))
 

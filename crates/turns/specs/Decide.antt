@@ -4,7 +4,7 @@ use mathlib.Core.Bool.{Bool, true, false, cond, not, _||_}
 use mathlib.Core.List.{List, map}
 use lib.Dec.{eqb}
 use lib.IntN.{ℤ}
-use Rattle.rings.specs.Progress.{Due, validity, removal, triangle, split, done}
+use Rattle.rings.specs.Progress.{Due, validity, removal, triangle, split, done, atValidity, whileRemoving, atSplit}
 use Rattle.rings.specs.Walk.{walk}
 use Rattle.lone.specs.Act.{Act, stay, discard, dropPoint, moveOn, toFirst, double, cut}
 use Rattle.lone.specs.Lone.{Geo, isValidClosedPath, tooSmall}
@@ -53,7 +53,7 @@ module _ {P : Type 0} (of : ℕ → ℕ → P) (G : Geo P) (s : Store) where
   removalAt i =
       let x : ℕ = s (rc PRESENT) i in
       let n : ℕ = s (pt NEXT) x in
-      cond (removeAt (s (pt PREV) x) x n) (cond (validWithout x) dropPoint discard) (moveOn (cond (eqb n (s (rc START) i)) triangle removal))
+      cond (removeAt (s (pt PREV) x) x n) (cond (validWithout x) dropPoint (discard whileRemoving)) (moveOn (cond (eqb n (s (rc START) i)) triangle removal))
 
   -- the ring from a point, by value
   abbrev pub ringFrom : ℕ → List P
@@ -61,7 +61,7 @@ module _ {P : Type 0} (of : ℕ → ℕ → P) (G : Geo P) (s : Store) where
 
   -- the validity test
   unfoldable pub validityAt : ℕ → Act P
-  validityAt i = cond (isValidClosedPath G (ringFrom (s (rc FIRST) i))) (toFirst removal) discard
+  validityAt i = cond (isValidClosedPath G (ringFrom (s (rc FIRST) i))) (toFirst removal) (discard atValidity)
 
   -- the cut at x, of a ring whose doubled area is area1, by the values of the point before x, of x, of the next and of the one after
   unfoldable pub cutAt : ℤ → ℕ → P → P → P → P → Act P
@@ -72,7 +72,7 @@ module _ {P : Type 0} (of : ℕ → ℕ → P) (G : Geo P) (s : Store) where
 
   -- `do_split_op` at x, after the point p
   unfoldable pub splitOpAt : ℕ → ℕ → P → P → P → P → Act P
-  splitOpAt p x a b c d = cond (tooSmall G (ringFrom p)) discard (cutAt (G .areaOutpt (ringFrom p)) x a b c d)
+  splitOpAt p x a b c d = cond (tooSmall G (ringFrom p)) (discard atSplit) (cutAt (G .areaOutpt (ringFrom p)) x a b c d)
 
   -- a split turn at x, where the edges about it cross; z is the second after it
   unfoldable pub crossedAt : ℕ → ℕ → ℕ → ℕ → P → P → P → P → Act P

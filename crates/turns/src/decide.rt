@@ -1,5 +1,6 @@
 // Deciding a step: reads only. Ports of `clean_collinear`, `fix_self_intersects` and `do_split_op`.
 use crate::Act;
+use crate::Discard;
 use crate::Due;
 use crate::ring::due_at;
 use crate::ring::next_of;
@@ -17,7 +18,7 @@ ghost use Prim.Native.Nat.{_+_, _<_, _≤_};
 ghost use lib.IntN.{natAbs};
 ghost use lib.ListN.{length};
 ghost use Rattle.job.specs.Limits as limit;
-ghost use Rattle.rings.specs.Progress.{split, done};
+ghost use Rattle.rings.specs.Progress.{split, done, whileRemoving};
 ghost use Rattle.geometry.specs.Plane.{samePoint, areaTriangle};
 ghost use Rattle.geometry.specs.Table.{InTable};
 ghost use Rattle.geometry.specs.Within.{Paired, Crossed};
@@ -68,7 +69,7 @@ fn validity_test(w: &[u32], i: usize) -> Act
     if valid {
         return Act::ToFirst(Due::Removal);
     }
-    Act::Discard
+    Act::Discard(Discard::AtValidity)
 }
 
 // ---- a turn of the removal loop
@@ -124,13 +125,13 @@ fn valid_without(w: &[u32], x: usize) -> bool
 // What becomes of the ring if x is dropped.
 fn after_drop(w: &[u32], x: usize) -> Act
     requires { ⌜ OnRing (now w) x ⌝ }
-    ensures { λ r. ⌜ actIs r ≡ cond (validWithout (raised .of) (geometryOf (view (now (w .entry)))) (view (now (w .entry))) x) dropPoint discard ⌝ }
+    ensures { λ r. ⌜ actIs r ≡ cond (validWithout (raised .of) (geometryOf (view (now (w .entry)))) (view (now (w .entry))) x) dropPoint (discard whileRemoving) ⌝ }
 {
     let v = valid_without(w, x);
     if v {
         return Act::Drop;
     }
-    Act::Discard
+    Act::Discard(Discard::WhileRemoving)
 }
 
 fn removal_turn(w: &[u32], i: usize) -> Act
@@ -323,7 +324,7 @@ fn do_split_op(w: &[u32], p: usize, x: usize, e: Edges) -> Act
     let area1 = area_outpt(w, p);
     let n = size_of(area1);
     if n < 4 {
-        return Act::Discard;
+        return Act::Discard(Discard::AtSplit);
     }
     cut_at(w, x, e, area1)
 }

@@ -10,10 +10,17 @@ pub enum Due {
     Done,
 }
 
+// The rule by which a ring is discarded: too small at the validity test; fell invalid while points were removed; area under 2.0 at a split.
+pub enum Discard {
+    AtValidity,
+    WhileRemoving,
+    AtSplit,
+}
+
 // What a step does, with the step due then.
 pub enum Act {
     Stay,
-    Discard,
+    Discard(Discard),
     Drop,
     MoveOn(Due),
     ToFirst(Due),

@@ -11,5 +11,7 @@ merge-spec =
     (λ c κs. search pair-four)
     (λ c κs. search (needs, pair-long, pair-low-two))
     (λ c κs. search (needs, pair-long, pair-low-one, pair-low-two))
+    (λ c κs. search (needs, pair-long, pair-low-two))
+    (λ c κs. search (needs, pair-long, pair-low-one, pair-low-two))
     (λ c. search needs)
     (λ c. search merge-done))

@@ -1,5 +1,6 @@
 -- start_record meets its contract.
 use borrow.Author.Needs.{needs}
+use Rattle.store.proofs.Taking.{started}
 use Rattle.store.proofs.points.start_record.Statement.{statement}
 use Rattle.store.proofs.points.start_record.Tie as tie
 
@@ -15,4 +16,4 @@ start-record-spec =
     (λ c κs. search needs)
     (λ c κs. search needs)
     (λ c. search needs)
-    (λ c. cc))
+    (λ c. search started))

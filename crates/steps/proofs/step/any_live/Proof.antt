@@ -8,9 +8,9 @@ use Rattle.store.specs.Sound.{recs}
 use Rattle.audit.specs.Tests.{anyBelow}
 use Rattle.audit.proofs.Testing.{none, more, hit, whole}
 use Rattle.acts.specs.Step.{live}
-use Rattle.finishing.proofs.Calls.{long-words}
-use Rattle.finishing.proofs.any_live.Statement.{statement}
-use Rattle.finishing.proofs.any_live.Tie as tie
+use Rattle.steps.specs.Live.{anyLive}
+use Rattle.steps.proofs.step.any_live.Statement.{statement}
+use Rattle.steps.proofs.step.any_live.Tie as tie
 
 abbrev Inv-loop : tie.InvT-loop
 Inv-loop w n i₀ i = (i ≤ recs (view w)) × (anyBelow i (live (view w)) ≡ false)
@@ -19,12 +19,13 @@ abbrev μ-loop : tie.MeasureT-loop
 μ-loop w n i₀ i = recs (view w) - i
 
 pub any-live-spec : {M : Type 1} → statement M
+unfolding anyLive
 any-live-spec =
     tie.close
     (tie.spec
     Inv-loop
     μ-loop
-    (λ c κs. search (long-words, needs))
+    (λ c κs. search needs)
     (λ c. (search needs, none _))
     (λ c κs. search needs)
     (λ c. search hit)

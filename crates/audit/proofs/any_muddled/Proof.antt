@@ -1,0 +1,12 @@
+-- any_muddled meets its contract.
+use borrow.Author.Needs.{needs}
+use Rattle.audit.proofs.any_muddled.Statement.{statement}
+use Rattle.audit.proofs.any_muddled.Tie as tie
+
+pub any-muddled-spec : {M : Type 1} → statement M
+any-muddled-spec =
+    tie.close
+    (tie.spec
+    (λ c κs. search needs)
+    (λ c κs. search needs)
+    (λ c. cc))
