@@ -1,5 +1,5 @@
 -- Paths and their bytes, counted record by record.
-use Prim.Native.Nat.{ℕ, suc, _+_, _*_, _≤_, _<_}
+use Prim.Native.Nat.{ℕ, suc, _+_, _*_, _^_, _≤_, _<_}
 use mathlib.Core.Path.{_≡_, refl, sym, ap, _∙_, subst}
 use mathlib.Core.Logic.{_≢_}
 use mathlib.Core.Bool.{Bool, true, false, cond, not, _&&_, Bool·beq}
@@ -147,18 +147,48 @@ tally-ends w o i bytes n t e h =
 pub no-paths : (w : List ℕ) (o : Bool) → PathsSoFar w o 0 0
 no-paths w o = record { are = refl; few = omega arith }
 
--- a record has a path where its field has bytes
+-- one record more, whose path is there or not
+paths-more : (w : List ℕ) (o : Bool) (i paths a : ℕ) → PathsSoFar w o i paths → a ≡ length (listed (pathIf (view w) o i)) → a ≤ 1 → PathsSoFar w o (i + 1) (paths + a)
+paths-more w o i paths a c e l =
+    let z : i + 1 ≡ suc i = omega arith in
+    rw z (record { are = omega (arith, c .are, length-append (pathsBelow i o (view w)) (listed (pathIf (view w) o i))); few = omega (arith, c .few) })
+
+-- a record has a path where it has points
+counted : (s : Store) (o : Bool) (i : ℕ) → length (listed (pathIf s o i)) ≡ pathCount (sizeOf (pathIf s o i))
+counted s o i = go (pathIf s o i) (if-proper s o i)
+  where
+    go : (x : Option (List Point)) → Proper (length (ringAt s i)) x → length (listed x) ≡ pathCount (sizeOf x)
+    go none p = refl
+    go (some path) p = rw (ne-eqb (length path) 0 (λ e. omega (arith, p .0)))
+
+pub paths-by : (w : List ℕ) (o : Bool) (i paths k a : ℕ) → PathsSoFar w o i paths → k ≡ sizeOf (pathIf (view w) o i) → a ≡ pathCount k → PathsSoFar w o (i + 1) (paths + a)
+paths-by w o i paths k a c e f = paths-more w o i paths a c (f ∙ ap pathCount e ∙ sym (counted (view w) o i)) (omega (arith, f, pathCount-le k))
+
+-- and where its field has bytes
 pub paths-on : (w : List ℕ) (o : Bool) (i paths size a : ℕ) → PathsSoFar w o i paths → size ≡ length (fieldAt (view w) o i) → a ≡ pathCount size → PathsSoFar w o (i + 1) (paths + a)
 unfolding fieldAt
 paths-on w o i paths size a c e f =
-    let s = view w in
-    let z : i + 1 ≡ suc i = omega arith in
-    let p : length (listed (pathIf s o i)) ≡ a = go (pathIf s o i) (if-proper s o i) ∙ ap pathCount (sym (field-length s (tagOf o) o i) ∙ sym e) ∙ sym f in
-    rw z (record { are = omega (arith, c .are, length-append (pathsBelow i o s) (listed (pathIf s o i))); few = omega (arith, c .few, pathCount-le size) })
+    let n : size ≡ fieldSize (sizeOf (pathIf (view w) o i)) = e ∙ field-length (view w) (tagOf o) o i in
+    paths-more w o i paths a c (f ∙ ap pathCount n ∙ same (sizeOf (pathIf (view w) o i)) ∙ sym (counted (view w) o i)) (omega (arith, f, pathCount-le size))
   where
-    go : (x : Option (List Point)) → Proper (length (ringAt (view w) i)) x → length (listed x) ≡ pathCount (fieldSize (sizeOf x))
-    go none p = refl
-    go (some path) p = rw (ne-eqb (length path) 0 (λ e. omega (arith, p .0)), ne-eqb (3 + 8 * length path) 0 (λ e. omega arith))
+    same : (k : ℕ) → pathCount (fieldSize k) ≡ pathCount k
+    same k = go (eqb k 0)
+      where
+        go : (t : Bool) → pathCount (cond t 0 (3 + 8 * k)) ≡ cond t 0 1
+        go true = refl
+        go false = rw (ne-eqb (3 + 8 * k) 0 (λ e. omega arith))
+
+module _ (w : List ℕ) (rev : Bool) (i : ℕ) (a : Asked w rev i) (j : ℕ) where
+  pub asked-below : j < i → Asked w rev j
+  asked-below l = record { of = record { ready = a .of .ready; known = omega (arith, a .of .known) }; direction = a .direction }
+
+  pub below-fits : (o : Bool) (paths k n : ℕ) → PathsSoFar w o j paths → j < i → n ≡ pathCount k → paths + n < 2 ^ 64
+  below-fits o paths k n c l e = omega (arith, c .few, a .of .known, a .of .ready .sound .few-records, pathCount-le k)
+
+  pub below-all : (o : Bool) (paths : ℕ) → PathsSoFar w o j paths → j ≤ i → i ≤ j → paths ≡ length (pathsBelow i o (view w))
+  below-all o paths c l m =
+      let z : j ≡ i = omega arith in
+      c .are ∙ ap (λ (n : ℕ). length (pathsBelow n o (view w))) z
 
 pub paths-all : (w : List ℕ) (o : Bool) (i paths n : ℕ) → PathsSoFar w o i paths → i ≤ recs (view w) → n ≡ recs (view w) → n ≤ i → paths ≡ needOf (view w) o .paths
 unfolding needOf

@@ -4,11 +4,11 @@ use mathlib.Core.Path.{_≡_, refl, sym, ap, _∙_, subst}
 use mathlib.Core.Logic.{_≢_}
 use mathlib.Core.Bool.{Bool, true, false, cond, not, _&&_}
 use mathlib.Core.List.{List, [], _∷_, map}
-use mathlib.Core.Option.{some}
+use mathlib.Core.Option.{Option, none, some}
 use native.Mathlib.Omega.{arith}
 use lib.Dec.{eqb, leb}
 use lib.ListN.{length, length-map, length-reverse}
-use borrow.Author.Tests.{eq-eqb, ne-eqb, le-leb, lt-leb}
+use borrow.Author.Tests.{eq-eqb, ne-eqb, le-leb, lt-leb, leb-true}
 use Rattle.rings.specs.Circle.{turn, lastOf}
 use Rattle.rings.specs.Count.{occ}
 use Rattle.rings.specs.Whole.{Whole}
@@ -23,11 +23,13 @@ use Rattle.lone.specs.Lone.{Geo}
 use Rattle.lone.specs.Plane.{plane}
 use Rattle.lone.specs.Path.{inOrder, dropEquals, withoutEquals, isSmallRing, buildPath64FromOutpt}
 use Rattle.store.specs.Field.{pt, rc, NEXT, PREV, FIRST}
-use Rattle.store.specs.Words.{view}
+use Rattle.store.specs.Words.{Store, view}
 use Rattle.store.specs.Sound.{pts, ringAt}
 use Rattle.store.specs.Good.{PointIn}
 use Rattle.store.specs.Value.{preserveCollinear}
-use Rattle.paths.specs.Path.{pointAt, pointsAt, pathBy, sizeOf}
+use Rattle.paths.specs.declared.PathEnd.{PathEnd}
+use Rattle.paths.specs.declared.PathEnd.the-variants.{Short, Small, Points}
+use Rattle.paths.specs.Path.{pointAt, pointsAt, pathBy, sizeOf, smallBy, endBy, pathEnd}
 use Rattle.paths.specs.Walking.{startFrom, roundFrom, Readable, Round, Known, ThreeOrMore, Sized, pathRound}
 use Rattle.paths.proofs.Walks.{othersOf, walk-is, round-here}
 use Rattle.paths.proofs.Directions.{Ringed, ringed, path-of}
@@ -158,19 +160,27 @@ length-inOrder true [] = refl
 length-inOrder true (q ∷ qs) = ap suc (length-reverse qs)
 
 module _ (G : Geo Point) (rev o : Bool) (c : List Point) where
-  pub size-short : leb (length c) (cond o 1 2) ≡ true → 0 ≡ sizeOf (buildPath64FromOutpt G rev o c)
+  abbrev small : Bool
+  small = not o && eqb (length (withoutEquals G (inOrder rev c))) 3 && isSmallRing G (cond rev c (turn c))
+
+  pub end-short : leb (length c) (cond o 1 2) ≡ true → Short ≡ endBy small (buildPath64FromOutpt G rev o c)
   unfolding buildPath64FromOutpt
-  size-short e = rw e
+  end-short e = rw e (go o e)
+    where
+      -- a ring too short has no path of three points
+      go : (o : Bool) → leb (length c) (cond o 1 2) ≡ true → Short ≡ endBy (not o && eqb (length (withoutEquals G (inOrder rev c))) 3 && isSmallRing G (cond rev c (turn c))) none
+      go true e = refl
+      go false e = rw (ne-eqb (length (withoutEquals G (inOrder rev c))) 3 (λ z. omega (arith, z, path-le G (inOrder rev c), length-inOrder rev c, leb-true (length c) 2 e)))
 
   module _ (e : leb (length c) (cond o 1 2) ≡ false) where
-    pub size-small : (not o && eqb (length (withoutEquals G (inOrder rev c))) 3 && isSmallRing G (cond rev c (turn c))) ≡ true → 0 ≡ sizeOf (buildPath64FromOutpt G rev o c)
+    pub end-small : small ≡ true → Small ≡ endBy small (buildPath64FromOutpt G rev o c)
     unfolding buildPath64FromOutpt
-    size-small f = rw (e, f)
+    end-small f = rw (e, f)
 
-    module _ (f : (not o && eqb (length (withoutEquals G (inOrder rev c))) 3 && isSmallRing G (cond rev c (turn c))) ≡ false) where
-      pub size-few : length (withoutEquals G (inOrder rev c)) < 2 → 0 ≡ sizeOf (buildPath64FromOutpt G rev o c)
+    module _ (f : small ≡ false) where
+      pub end-few : length (withoutEquals G (inOrder rev c)) < 2 → Short ≡ endBy small (buildPath64FromOutpt G rev o c)
       unfolding buildPath64FromOutpt
-      size-few h = rw (e, f, lt-leb 2 (length (withoutEquals G (inOrder rev c))) h)
+      end-few h = rw (e, f, lt-leb 2 (length (withoutEquals G (inOrder rev c))) h)
 
       -- the path is there
       pub built : 2 ≤ length (withoutEquals G (inOrder rev c)) → buildPath64FromOutpt G rev o c ≡ some (withoutEquals G (inOrder rev c))
@@ -180,8 +190,9 @@ module _ (G : Geo Point) (rev o : Bool) (c : List Point) where
 -- ---- a record of a work space
 
 module _ (w : List ℕ) (rev o : Bool) (i : ℕ) (k : Known w i) (f : ℕ) (e : f ≡ view w (rc FIRST) i) where
-  pub none-size : f ≡ 65535 → 0 ≡ sizeOf (pathBy (view w) rev o i)
-  none-size d = size-short (plane (preserveCollinear (view w))) rev o (pointsAt (view w) i) (rw (eq-eqb (view w (rc FIRST) i) 65535 (sym e ∙ d)) (all o))
+  pub none-end : f ≡ 65535 → Short ≡ pathEnd (view w) rev o i
+  unfolding pathEnd
+  none-end d = end-short (plane (preserveCollinear (view w))) rev o (pointsAt (view w) i) (rw (eq-eqb (view w (rc FIRST) i) 65535 (sym e ∙ d)) (all o))
     where
       all : (o : Bool) → leb 0 (cond o 1 2) ≡ true
       all true = refl
@@ -197,8 +208,9 @@ module _ (w : List ℕ) (rev o : Bool) (i : ℕ) (k : Known w i) (f : ℕ) (e : 
     length-first : length (roundFrom (view w) false f) ≡ length (pointsAt (view w) i)
     length-first = rw e (ap length (on .first-is) ∙ sym (length-map (ringAt (view w) i) (pointAt (view w))))
 
-    pub short-size : (t : Bool) → t ≡ leb (length (roundFrom (view w) false f)) (cond o 1 2) → t ≡ true → 0 ≡ sizeOf (pathBy (view w) rev o i)
-    short-size t g h = size-short (plane (preserveCollinear (view w))) rev o (pointsAt (view w) i) (ap (λ (n : ℕ). leb n (cond o 1 2)) (sym length-first) ∙ sym g ∙ h)
+    pub short-end : (t : Bool) → t ≡ leb (length (roundFrom (view w) false f)) (cond o 1 2) → t ≡ true → Short ≡ pathEnd (view w) rev o i
+    unfolding pathEnd
+    short-end t g h = end-short (plane (preserveCollinear (view w))) rev o (pointsAt (view w) i) (ap (λ (n : ℕ). leb n (cond o 1 2)) (sym length-first) ∙ sym g ∙ h)
 
     module _ (a : ℕ) (g : a ≡ startFrom (view w) rev f) where
       at : a ≡ startFrom (view w) rev (view w (rc FIRST) i)
@@ -249,15 +261,47 @@ module _ (w : List ℕ) (rev o : Bool) (i : ℕ) (k : Known w i) (f : ℕ) (e : 
           small-of : (not o && eqb (length (withoutEquals (plane (preserveCollinear (view w))) (inOrder rev (pointsAt (view w) i)))) 3 && isSmallRing (plane (preserveCollinear (view w))) (cond rev (pointsAt (view w) i) (turn (pointsAt (view w) i)))) ≡ u
           small-of = sym (x ∙ rw (h, path-is-of, ahead-of))
 
-          pub small-size : u ≡ true → 0 ≡ sizeOf (pathBy (view w) rev o i)
-          small-size y = size-small (plane (preserveCollinear (view w))) rev o (pointsAt (view w) i) long-is (small-of ∙ y)
+          pub small-end : u ≡ true → Small ≡ pathEnd (view w) rev o i
+          unfolding pathEnd
+          small-end y = end-small (plane (preserveCollinear (view w))) rev o (pointsAt (view w) i) long-is (small-of ∙ y)
 
-          pub few-size : u ≡ false → n < 2 → 0 ≡ sizeOf (pathBy (view w) rev o i)
-          few-size y z = size-few (plane (preserveCollinear (view w))) rev o (pointsAt (view w) i) long-is (small-of ∙ y) (omega (arith, h, ap length path-is-of))
+          pub few-end : u ≡ false → n < 2 → Short ≡ pathEnd (view w) rev o i
+          unfolding pathEnd
+          few-end y z = end-few (plane (preserveCollinear (view w))) rev o (pointsAt (view w) i) long-is (small-of ∙ y) (omega (arith, h, ap length path-is-of))
 
           -- the path of the record is the one that goes round
           pub path-there : u ≡ false → 2 ≤ n → pathBy (view w) rev o i ≡ some (pathRound (view w) rev a)
           path-there y z = rw path-is-of (built (plane (preserveCollinear (view w))) rev o (pointsAt (view w) i) long-is (small-of ∙ y) (omega (arith, h, ap length path-is-of)))
 
-          pub all-size : u ≡ false → 2 ≤ n → n ≡ sizeOf (pathBy (view w) rev o i)
-          all-size y z = h ∙ sym (ap sizeOf (path-there y z))
+          pub all-end : u ≡ false → 2 ≤ n → Points n ≡ pathEnd (view w) rev o i
+          unfolding pathEnd
+          all-end y z = ap Points h ∙ sym (ap (endBy (smallBy (view w) rev o i)) (path-there y z))
+
+-- ---- how many points, by how building ends
+
+module _ (s : Store) (rev o : Bool) (i : ℕ) (e : PathEnd) (h : e ≡ pathEnd s rev o i) where
+  size-by : PathEnd → ℕ
+  size-by Short = 0
+  size-by Small = 0
+  size-by (Points n) = n
+
+  size-is : size-by e ≡ sizeOf (pathBy s rev o i)
+  unfolding pathEnd size-by
+  size-is = ap size-by h ∙ go (smallBy s rev o i) (pathBy s rev o i)
+    where
+      go : (small : Bool) (x : Option (List Point)) → size-by (endBy small x) ≡ sizeOf x
+      go small (some path) = refl
+      go true none = refl
+      go false none = refl
+
+  pub short-none : e ≡ Short → 0 ≡ sizeOf (pathBy s rev o i)
+  unfolding size-by
+  short-none k = sym (ap size-by k) ∙ size-is
+
+  pub small-none : e ≡ Small → 0 ≡ sizeOf (pathBy s rev o i)
+  unfolding size-by
+  small-none k = sym (ap size-by k) ∙ size-is
+
+  pub points-size : (n : ℕ) → e ≡ Points n → n ≡ sizeOf (pathBy s rev o i)
+  unfolding size-by
+  points-size n k = sym (ap size-by k) ∙ size-is

@@ -23,7 +23,7 @@ ghost use Rattle.store.specs.Words.{view};
 ghost use Rattle.store.specs.Sound.{recs, isOpen};
 ghost use Rattle.store.specs.Good.{SoundWords};
 ghost use Rattle.store.specs.Value.{preserveCollinear, reverseSolution};
-ghost use Rattle.paths.specs.Path.{pointAt, pathBy, pathIf, sizeOf, closedPaths, openPaths};
+ghost use Rattle.paths.specs.Path.{pointAt, pathBy, pathEnd, pathIf, pathsBelow, sizeOf, closedPaths, openPaths};
 ghost use Rattle.paths.specs.Count.{pathCount, fieldSize, needOf};
 ghost use Rattle.paths.specs.Tray.{pathBytes, tagOf, fieldsOf, padded, over};
 ghost use Rattle.paths.specs.Tray as trays;
@@ -44,6 +44,13 @@ fn tray_agrees()
 pub enum Written {
     Paths { closed: usize, open: usize },
     Refused(Refusal),
+}
+
+// How building a record's path ends: no path, by the small test or by another one, or a path of so many points.
+pub enum PathEnd {
+    Short,
+    Small,
+    Points(usize),
 }
 
 // ---- one record's path
@@ -106,33 +113,46 @@ fn start_from(w: &[u32], rev: bool, f: usize) -> usize
     store::get(w, Col::Next, f)
 }
 
-// How many points the path of record i has, 0 for none.
-fn path_size(w: &[u32], rev: bool, opened: bool, i: usize) -> usize
+// How building the path of record i ends.
+pub fn path_end(w: &[u32], rev: bool, opened: bool, i: usize) -> PathEnd
     requires { ⌜ Known (now w) i ⌝ }
-    ensures { λ r. ⌜ r ≡ sizeOf (pathBy (view (now (w .entry))) rev opened i) ⌝ }
+    ensures { λ r. ⌜ r ≡ pathEnd (view (now (w .entry))) rev opened i ⌝ }
 {
     let f = store::get(w, Col::First, i);
     if f == NONE {
-        return 0;
+        return PathEnd::Short;
     }
     let short = too_short(w, opened, f);
     if short {
-        return 0;
+        return PathEnd::Short;
     }
     let a = start_from(w, rev, f);
     let n = round_size(w, rev, a);
     let small = is_small(w, opened, a, n);
     if small {
-        return 0;
+        return PathEnd::Small;
     }
     if n < 2 {
-        return 0;
+        return PathEnd::Short;
     }
-    n
+    PathEnd::Points(n)
+}
+
+// How many points the path of record i has, 0 for none.
+fn path_size(w: &[u32], rev: bool, opened: bool, i: usize) -> usize
+    requires { ⌜ Known (now w) i ⌝ }
+    ensures { λ r. ⌜ r ≡ sizeOf (pathBy (view (now (w .entry))) rev opened i) ⌝ }
+{
+    let e = path_end(w, rev, opened, i);
+    match e {
+        PathEnd::Short => 0,
+        PathEnd::Small => 0,
+        PathEnd::Points(n) => n,
+    }
 }
 
 // Whether record i is open.
-fn is_open(w: &[u32], i: usize) -> bool
+pub fn is_open(w: &[u32], i: usize) -> bool
     requires { ⌜ (LENGTH ≤ length (now w)) × (i < limit.RECORDS) ⌝ }
     ensures { λ r. ⌜ r ≡ isOpen (view (now (w .entry))) i ⌝ }
 {
@@ -169,6 +189,22 @@ fn size_if(w: &[u32], rev: bool, opened: bool, i: usize) -> usize
         return path_size(w, rev, o, i);
     }
     0
+}
+
+// How many of the records below i have a path and are open or closed as asked.
+pub fn paths_below(w: &[u32], rev: bool, opened: bool, i: usize) -> usize
+    requires { ⌜ Asked (now w) rev i ⌝ }
+    ensures { λ r. ⌜ r ≡ length (pathsBelow i opened (view (now (w .entry)))) ⌝ }
+{
+    let mut paths: usize = 0;
+    let mut j: usize = 0;
+    while j < i {
+        let k = size_if(w, rev, opened, j);
+        let one = path_count(k);
+        paths += one;
+        j += 1;
+    }
+    paths
 }
 
 // ---- how many bytes

@@ -1,8 +1,6 @@
 -- `paths::path_size` meets its contract.
-use mathlib.Core.Bool.{true}
 use borrow.Author.Needs.{needs}
-use Rattle.paths.proofs.Walks.{round-here}
-use Rattle.paths.proofs.Sizes.{none-size, first-round, short-size, along-round, ahead-sized, small-size, few-size, all-size}
+use Rattle.paths.proofs.Sizes.{short-none, small-none, points-size}
 use Rattle.paths.proofs.path_size.Statement.{statement}
 use Rattle.paths.proofs.path_size.Tie as tie
 
@@ -11,18 +9,9 @@ path-size-spec =
     tie.close
     (tie.spec
     (λ c κs. search needs)
-    (λ c. none-size _ _ _ _ (c .before .before .before .pre) _ (c .before .get .ensures .0) (c .if1 .taken))
-    (λ c κs. first-round _ true true _ (c .before .before .before .pre) _ (c .before .get .ensures .0) (c .if1 .left))
-    (λ c. short-size _ _ _ _ (c .before .before .before .before .before .pre) _ (c .before .before .before .get .ensures .0) (c .before .before .if1 .left) _ (c .before .too-short .ensures) (c .if2 .taken))
-    (λ c κs. let h = round-here _ _ _ (first-round _ true true _ (c .before .before .before .before .before .pre) _ (c .before .before .before .get .ensures .0) (c .before .before .if1 .left)) in search needs)
-    (λ c κs. along-round _ _ true _ (c .before .before .before .before .before .before .pre) _ (c .before .before .before .before .get .ensures .0) (c .before .before .before .if1 .left) _ (c .start-from .ensures))
-    (λ c κs. ahead-sized _ _ true _ (c .before .before .before .before .before .before .before .pre) _ (c .before .before .before .before .before .get .ensures .0) (c .before .before .before .before .if1 .left) _ (c .before .start-from .ensures) _ (c .round-size .ensures))
-    (λ c.
-    small-size _ _ _ _ (c .before .before .before .before .before .before .before .before .before .pre) _ (c .before .before .before .before .before .before .before .get .ensures .0) (c .before .before .before .before .before .before .if1 .left) _ (c .before .before .before .start-from .ensures) _ (c .before .before .round-size .ensures) _
-    (c .before .before .before .before .before .too-short .ensures) (c .before .before .before .before .if2 .left) _ (c .before .is-small .ensures) (c .if3 .taken))
-    (λ c.
-    few-size _ _ _ _ (c .before .before .before .before .before .before .before .before .before .before .pre) _ (c .before .before .before .before .before .before .before .before .get .ensures .0) (c .before .before .before .before .before .before .before .if1 .left) _ (c .before .before .before .before .start-from .ensures) _ (c .before .before .before .round-size .ensures) _
-    (c .before .before .before .before .before .before .too-short .ensures) (c .before .before .before .before .before .if2 .left) _ (c .before .before .is-small .ensures) (c .before .if3 .left) (c .if4 .taken))
-    (λ c.
-    all-size _ _ _ _ (c .before .before .before .before .before .before .before .before .before .before .pre) _ (c .before .before .before .before .before .before .before .before .get .ensures .0) (c .before .before .before .before .before .before .before .if1 .left) _ (c .before .before .before .before .start-from .ensures) _ (c .before .before .before .round-size .ensures) _
-    (c .before .before .before .before .before .before .too-short .ensures) (c .before .before .before .before .before .if2 .left) _ (c .before .before .is-small .ensures) (c .before .if3 .left) (c .if4 .left)))
+    (λ c. search needs)
+    (λ c. search needs)
+    (λ c. search needs)
+    (λ c. search short-none)
+    (λ c. search small-none)
+    (λ c. search points-size))

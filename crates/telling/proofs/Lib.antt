@@ -1,0 +1,3 @@
+-- Laws of telling.
+pub mod Tells
+pub mod Within
