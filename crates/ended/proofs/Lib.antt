@@ -1,0 +1,9 @@
+-- Laws of what ended a ring.
+pub mod Gone
+pub mod Joining
+pub mod Stepping
+pub mod Discarding
+pub mod Opened
+pub mod Telling
+pub mod Told
+pub mod Alike

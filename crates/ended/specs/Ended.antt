@@ -1,0 +1,73 @@
+-- "The reason told is the rule that in fact ended the ring": what each of the eight reasons says happened, by the job, the joins, the lone rings and the paths, not by the words that keep a reason.
+use mathlib.Core.Path.{_≡_}
+use mathlib.Core.Bool.{true, false}
+use mathlib.Core.List.{List, _∷_, _++_}
+use mathlib.Core.Option.{Option, none, some}
+use Prim.Native.Nat.{ℕ, _<_}
+use lib.ListN.{length}
+use Rattle.rings.specs.Progress.{Discard, atStart}
+use Rattle.geometry.specs.declared.Point.{Point}
+use Rattle.lone.specs.Forest.{initial, closedRing, at, stepsState}
+use Rattle.store.specs.Field.{NONE}
+use Rattle.store.specs.Words.{Store, view}
+use Rattle.store.specs.Named.{recordsOf, firstOf}
+use Rattle.store.specs.Sound.{recs, ringless, isOpen}
+use Rattle.store.specs.Value.{reverseSolution}
+use Rattle.steps.specs.Live.{anyLive}
+use Rattle.paths.specs.Path.{pathAt, smallBy, pathsBelow}
+use Rattle.telling.specs.declared.Reason.{Reason}
+use Rattle.telling.specs.declared.Reason.the-variants.{NoRing, Joined, SmallRing, RingFell, SmallArea, ShortPath, SmallPath, Written}
+use Rattle.telling.specs.declared.Told.the-variants.{Because}
+use Rattle.telling.specs.Telling.{discardReason, reasonAt, reasonOf}
+use Rattle.finishing.specs.Run.{runOf}
+use Rattle.order.specs.Demand3.{M, G, lones}
+use Rattle.ended.specs.Stages.{Stages}
+use Rattle.ended.specs.Joined.{EmptiedAt}
+use Rattle.ended.specs.Discarded.{DiscardedBy}
+
+-- the reasons that an open record can have: no ring in the job, too short, written
+abbrev pub OfOpen : Reason → Type 0
+OfOpen NoRing = Unit {0}
+OfOpen (Joined u) = ⊥
+OfOpen SmallRing = ⊥
+OfOpen RingFell = ⊥
+OfOpen SmallArea = ⊥
+OfOpen ShortPath = Unit {0}
+OfOpen SmallPath = ⊥
+OfOpen (Written o place) = o ≡ true
+
+-- of an accepted job, stage by stage up to w, after the list of steps `is`: record j
+module _ (bytes : List ℕ) (n : ℕ) (w : List ℕ) (t : Stages bytes n w) (is : List ℕ) (j : ℕ) where
+  abbrev s : Store
+  s = view (runOf w is)
+
+  -- the paths of its list, closed or open
+  abbrev paths : List (List Point)
+  paths = pathsBelow (recs s) (isOpen s j) s
+
+  abbrev before : List (List Point)
+  before = pathsBelow j (isOpen s j) s
+
+  pub data Ended : Reason → Type 0 where
+    -- "no ring in the job": the job's record has no first point
+    no-ring : j < recordsOf (t .read) → firstOf (t .read) j ≡ NONE → Ended NoRing
+    -- "joined into another record, with the number of the one that took it in that join": join number m
+    joined : (m u : ℕ) → m < t .many → EmptiedAt (t .joins) (t .levelled) m u j → Ended (Joined u)
+    -- the three rules of steps: its lone ring, fed with the points c and stepped k times, was discarded by one of them
+    discarded : (q : Option ℕ) (c : List Point) (k : ℕ) (y : Discard) → at (lones w is) j ≡ closedRing q (stepsState (M w) k (initial (atStart c))) → DiscardedBy (G w) c k y → Ended (discardReason (some y))
+    -- "too short when the path was built (by any test but the small one); too small when the path was built"
+    short : ringless s j ≡ false → pathAt s j ≡ none → smallBy s (reverseSolution s) (isOpen s j) j ≡ false → Ended ShortPath
+    small : ringless s j ≡ false → pathAt s j ≡ none → smallBy s (reverseSolution s) (isOpen s j) j ≡ true → Ended SmallPath
+    -- "written, with its place from 0": its path, in its list, after those of the records before it
+    written : (p : List Point) (after : List (List Point)) → pathAt s j ≡ some p → paths ≡ before ++ p ∷ after → Ended (Written (isOpen s j) (length before))
+
+  -- asked, the call tells what happened; and nothing else happened
+  pub record ToldRight : Type 0 where
+    pub call : reasonOf (runOf w is) j ≡ Because (reasonAt s j)
+    pub told : Ended (reasonAt s j)
+    pub only : (r : Reason) → Ended r → r ≡ reasonAt s j
+    pub opened : isOpen s j ≡ true → OfOpen (reasonAt s j)
+
+  -- of a record of a finished work space
+  abbrev pub Tells : Type 0
+  Tells = j < recs s → anyLive s ≡ false → ToldRight
