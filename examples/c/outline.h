@@ -44,8 +44,8 @@ extern "C" {
 /* ---- the work space and the tray */
 
 /* The fixed length of a work space in words. A shorter one is refused with 10 by every call, first of all. */
-#define OUTLINE_WORK_WORDS 13840
-#if OUTLINE_WORK_WORDS != 16 + 5 * OUTLINE_POINTS + 7 * OUTLINE_RECORDS
+#define OUTLINE_WORK_WORDS 14864
+#if OUTLINE_WORK_WORDS != 16 + 5 * OUTLINE_POINTS + 9 * OUTLINE_RECORDS
 #error "OUTLINE_WORK_WORDS is not what the limits make it"
 #endif
 
@@ -90,8 +90,21 @@ enum outline_refusal {
     OUTLINE_KNOT = 9,          /* a join's second point is already the next of its first */
     OUTLINE_FULL = 10,         /* finishing needs more than 2,048 points or 512 records, or the work space is too short */
     OUTLINE_SMALL_TRAY = 11,   /* the paths, or the job that is written, need more bytes than the tray has */
-    OUTLINE_OUT_OF_TURN = 12,  /* a step on a record that has none to take, or writing out before every closed ring is done */
+    OUTLINE_OUT_OF_TURN = 12,  /* a step on a record that has none to take, a reason of no record, or writing out or telling before every closed ring is done */
     OUTLINE_BAD_RATE = 13      /* more than one rate is given, or one that is not a whole number from 1 to 1,000 */
+};
+
+/* ---- where a record's ring went */
+
+enum outline_reason_number {
+    OUTLINE_NO_RING = 1,    /* the job has no ring for it */
+    OUTLINE_JOINED = 2,     /* joined into another record, the one that took it in that join */
+    OUTLINE_SMALL_RING = 3, /* too small at the validity test */
+    OUTLINE_RING_FELL = 4,  /* fell invalid while points were removed */
+    OUTLINE_SMALL_AREA = 5, /* its area was under 2.0 at a split */
+    OUTLINE_SHORT_PATH = 6, /* too short when its path was built */
+    OUTLINE_SMALL_PATH = 7, /* too small when its path was built */
+    OUTLINE_WRITTEN = 8     /* its path is in the tray */
 };
 
 /* ---- the calls */
@@ -127,6 +140,12 @@ uint32_t outline_step(uint32_t *work, size_t work_words, uint32_t record);
 /* Writes the paths of a work space whose closed rings are all done into the tray; past them every byte is 0. Refused with 12: a closed ring isn't
  * done; with 11: the tray is too short; with 3 to 7 as a step. A refused writing out leaves every byte as found. The work space is only read. */
 uint32_t outline_write(const uint32_t *work, size_t work_words, uint8_t *tray, size_t tray_bytes);
+
+/* Where the ring of a record went, of a work space whose closed rings are all done. The low half of the answer, (uint32_t)answer, is 0 or the refusal's number:
+ * 12 if there is no such record or a closed ring isn't done, 10 and 3 to 7 as a step. The high half is 0 if refused; else answer >> 32 & 255 is the reason;
+ * answer >> 40 & 255, of reason 8, the tag of its path's list in the tray, 6 or 7; and answer >> 48 of reason 2 the record that took it, of reason 8 its path's
+ * place in that list, from 0. The work space is only read. */
+uint64_t outline_reason(const uint32_t *work, size_t work_words, uint32_t record);
 
 #ifdef __cplusplus
 }

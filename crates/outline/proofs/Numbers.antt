@@ -1,14 +1,17 @@
 -- The number of what an entry point answered, with what it left, is the exported call's.
-use Prim.Native.Nat.{ℕ, zero, suc, _*_, _^_, _<_, _≤_}
+use Prim.Native.Nat.{ℕ, zero, suc, _+_, _*_, _^_, _<_, _≤_}
 use mathlib.Core.Path.{_≡_, refl, ap, _∙_, subst}
 use mathlib.Core.Logic.{_≢_}
+use mathlib.Core.Bool.{Bool}
 use mathlib.Core.List.{List}
 use native.Mathlib.Omega.{arith}
 use lib.ListN.{length}
 use borrow.Author.Tests.{le-leb, lt-leb}
+use Rattle.job.specs.Limits as limit
 use Rattle.rates.specs.declared.Rate.{Rate}
 use Rattle.rates.specs.declared.Rate.the-variants.{NoRate, Cents}
 use Rattle.paths.specs.declared.Written.{Written}
+use Rattle.paths.specs.Tray.{tagOf}
 use Rattle.paths.specs.Wrote as paths
 use Rattle.opening.specs.declared.open.Opened.{Opened}
 use Rattle.opening.specs.Open.{end, openOf}
@@ -27,7 +30,15 @@ use Rattle.rewriting.specs.declared.Rewritten.{Rewritten}
 use Rattle.rewriting.specs.declared.Rewritten.the-variants as rewritten
 use Rattle.rewriting.specs.Rewrite.{rewrote, rewriteOf}
 use Rattle.rewriting.specs.Answers.{BytesWithin}
-use Rattle.outline.specs.Calls.{openedNumber, steppedNumber, writtenNumber, listedBytes, rewrittenNumber, rateFrom, worked, wrote, finished, listing, asOpened, asStepped, asWritten, asFinished, asListed, asRewritten, openC, stepC, writeC, finishC, listC, rewriteC}
+use Rattle.telling.specs.declared.Reason.{Reason}
+use Rattle.telling.specs.declared.Reason.the-variants.{Joined}
+use Rattle.telling.specs.declared.Reason.the-variants as reason
+use Rattle.telling.specs.declared.Told.{Told}
+use Rattle.telling.specs.declared.Told.the-variants as telling
+use Rattle.telling.specs.Telling.{reasonOf}
+use Rattle.telling.specs.Within.{NumberWithin, ToldWithin}
+use Rattle.telling.proofs.Within.{told-within}
+use Rattle.outline.specs.Calls.{openedNumber, steppedNumber, writtenNumber, listedBytes, rewrittenNumber, reasonWord, toldNumber, rateFrom, worked, wrote, finished, listing, asOpened, asStepped, asWritten, asFinished, asListed, asRewritten, openC, stepC, writeC, finishC, listC, rewriteC, reasonC}
 
 pub as-opened : (bytes : List ℕ) (n k : ℕ) (a : Opened) (w : List ℕ) → end a w ≡ openOf bytes n → k ≡ openedNumber a → worked k w ≡ openC bytes n
 unfolding openC
@@ -56,6 +67,34 @@ half-is a k e = rw e
 pub as-rewritten : (bytes : List ℕ) (n m k : ℕ) (a : Rewritten) (w t : List ℕ) → rewrote a w t ≡ rewriteOf bytes n m → k ≡ rewrittenNumber a → finished k w t ≡ rewriteC bytes n m
 unfolding rewriteC
 as-rewritten bytes n m k a w t e h = ap (λ (z : ℕ). finished z w t) h ∙ ap asRewritten e
+
+-- ---- a record's reason
+
+module _ (x : Reason) (h : NumberWithin x) where
+  pub taker-within : (t : ℕ) → x ≡ Joined t → t < limit.RECORDS
+  taker-within t e = subst NumberWithin e h
+
+  pub place-within : (o : Bool) (p : ℕ) → x ≡ reason.Written o p → p < limit.RECORDS
+  place-within o p e = subst NumberWithin e h
+
+pub joined-is : (x : Reason) (t r : ℕ) → x ≡ Joined t → r ≡ 2 + 65536 * t → r ≡ reasonWord x
+joined-is x t r e h = rw (h, e)
+
+pub written-is : (x : Reason) (o : Bool) (p r : ℕ) → x ≡ reason.Written o p → r ≡ 8 + 256 * tagOf o + 65536 * p → r ≡ reasonWord x
+written-is x o p r e h = rw (h, e)
+
+pub told-is : (a : Told) (x : Reason) (n : ℕ) → a ≡ telling.Because x → n ≡ reasonWord x → 4294967296 * n ≡ toldNumber a
+told-is a x n e h = rw (e, h)
+
+pub reason-within : (a : Told) (x : Reason) → ToldWithin a → a ≡ telling.Because x → NumberWithin x
+reason-within a x h e = subst ToldWithin e h
+
+pub told-here : (w : List ℕ) (i : ℕ) (a : Told) → a ≡ reasonOf w i → ToldWithin a
+told-here w i a e = rw e (told-within w i)
+
+pub as-told : (w : List ℕ) (i k : ℕ) (a : Told) → a ≡ reasonOf w i → k ≡ toldNumber a → k ≡ reasonC w i
+unfolding reasonC
+as-told w i k a e h = h ∙ ap toldNumber e
 
 -- ---- the listing
 

@@ -1,5 +1,5 @@
 -- The calls for C and Rust: 0 or the table's number, and the words and bytes that the entry point of the same name leaves, on every input.
-use Prim.Native.Nat.{ℕ, zero, suc, _*_, _^_}
+use Prim.Native.Nat.{ℕ, zero, suc, _+_, _*_, _^_}
 use mathlib.Core.Bool.{cond}
 use mathlib.Core.List.{List}
 use lib.Dec.{leb}
@@ -9,6 +9,7 @@ use Rattle.rates.specs.declared.Rate.the-variants.{NoRate, Cents}
 use Rattle.job.specs.Refusal.{numberOf}
 use Rattle.paths.specs.declared.Written.{Written}
 use Rattle.paths.specs.declared.Written.the-variants as written
+use Rattle.paths.specs.Tray.{tagOf}
 use Rattle.paths.specs.Wrote as paths
 use Rattle.opening.specs.declared.open.Opened.{Opened}
 use Rattle.opening.specs.declared.open.Opened.the-variants as opened
@@ -27,6 +28,12 @@ use Rattle.job_listing.specs.Cutlist.{ListedJob, listJobOf}
 use Rattle.rewriting.specs.declared.Rewritten.{Rewritten}
 use Rattle.rewriting.specs.declared.Rewritten.the-variants as rewritten
 use Rattle.rewriting.specs.Rewrite.{Rewrote, rewriteOf}
+use Rattle.telling.specs.declared.Reason.{Reason}
+use Rattle.telling.specs.declared.Reason.the-variants.{NoRing, Joined, SmallRing, RingFell, SmallArea, ShortPath, SmallPath}
+use Rattle.telling.specs.declared.Reason.the-variants as reason
+use Rattle.telling.specs.declared.Told.{Told}
+use Rattle.telling.specs.declared.Told.the-variants as told
+use Rattle.telling.specs.Telling.{reasonOf}
 
 -- ---- numbers of answers: no refusal is 0
 
@@ -51,6 +58,22 @@ listedBytes NoRoom = 0
 abbrev pub rewrittenNumber : Rewritten → ℕ
 rewrittenNumber (rewritten.Bytes k) = 2 ^ 32 * k
 rewrittenNumber (rewritten.Refused x) = numberOf x
+
+-- a reason in one word: in the first byte its number, document 02's order from 1; in the second the tag of the list that its path is in; above them its taker, or its path's place; 0 for each that it does not have
+abbrev pub reasonWord : Reason → ℕ
+reasonWord NoRing = 1
+reasonWord (Joined taker) = 2 + 65536 * taker
+reasonWord SmallRing = 3
+reasonWord RingFell = 4
+reasonWord SmallArea = 5
+reasonWord ShortPath = 6
+reasonWord SmallPath = 7
+reasonWord (reason.Written o place) = 8 + 256 * tagOf o + 65536 * place
+
+-- in the low half 0 or the refusal's number, in the high half the reason
+abbrev pub toldNumber : Told → ℕ
+toldNumber (told.Because x) = 2 ^ 32 * reasonWord x
+toldNumber (told.Refused x) = numberOf x
 
 -- ---- a number handed over as a rate: 0 for none
 
@@ -138,3 +161,7 @@ listC bytes w t rate s = cond (leb TEXT (length s)) (asListed (listJobOf (rateFr
 -- `outline_rewrite`, by the job's bytes, the length n of the work space and the length m of the tray
 unfoldable pub rewriteC : List ℕ → ℕ → ℕ → Finished
 rewriteC bytes n m = asRewritten (rewriteOf bytes n m)
+
+-- `outline_reason`
+unfoldable pub reasonC : List ℕ → ℕ → ℕ
+reasonC w i = toldNumber (reasonOf w i)

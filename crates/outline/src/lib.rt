@@ -1,4 +1,4 @@
-// The entry points for C and Rust: the same calls, answering 0 or the refusal's number; the listing; and rewriting.
+// The entry points for C and Rust: the same calls, answering 0 or the refusal's number; the listing; rewriting; and telling a record's reason.
 use finishing::Stepped;
 use finishing::finish::finish;
 use finishing::open;
@@ -13,12 +13,19 @@ use rates::Rate;
 use rewriting::Rewritten;
 use rewriting::rewrite;
 use store::LENGTH;
+use telling::Reason;
+use telling::Told;
+use telling::reason_of;
 ghost use mathlib.Core.Path.{_≡_};
+ghost use Prim.Native.Nat.{_+_, _*_, _^_, _<_, _≤_};
 ghost use lib.ListN.{length};
+ghost use Rattle.job.specs.Limits as limit;
 ghost use Rattle.store.specs.Field.{LENGTH};
 ghost use Rattle.prefix.specs.Decides.{LONGEST};
 ghost use Rattle.rewriting.specs.Answers.{BytesWithin};
-ghost use Rattle.outline.specs.Calls.{openedNumber, steppedNumber, writtenNumber, listedBytes, rewrittenNumber, rateFrom, worked, wrote, finished, listing, openC, stepC, writeC, finishC, listC, rewriteC};
+ghost use Rattle.paths.specs.Tray.{tagOf};
+ghost use Rattle.telling.specs.Within.{NumberWithin, ToldWithin};
+ghost use Rattle.outline.specs.Calls.{openedNumber, steppedNumber, writtenNumber, listedBytes, rewrittenNumber, reasonWord, toldNumber, rateFrom, worked, wrote, finished, listing, openC, stepC, writeC, finishC, listC, rewriteC, reasonC};
 
 // ---- the numbers of answers
 
@@ -66,6 +73,64 @@ fn rewritten_number(a: Rewritten) -> u64
     match a {
         Rewritten::Bytes(n) => 4294967296 * n as u64,
         Rewritten::Refused(x) => x.number() as u64,
+    }
+}
+
+// The tag of the list that a path is in.
+fn list_tag(opened: bool) -> u64
+    ensures { λ r. ⌜ (r ≡ tagOf opened) × (r ≤ 7) ⌝ }
+{
+    if opened {
+        return 7;
+    }
+    6
+}
+
+fn joined_word(taker: usize) -> u64
+    requires { ⌜ taker < limit.RECORDS ⌝ }
+    ensures { λ r. ⌜ (r ≡ 2 + 65536 * taker) × (r < 2 ^ 32) ⌝ }
+{
+    2 + 65536 * taker as u64
+}
+
+fn written_word(opened: bool, place: usize) -> u64
+    requires { ⌜ place < limit.RECORDS ⌝ }
+    ensures { λ r. ⌜ (r ≡ 8 + 256 * tagOf opened + 65536 * place) × (r < 2 ^ 32) ⌝ }
+{
+    let tag = list_tag(opened);
+    8 + 256 * tag + 65536 * place as u64
+}
+
+// A reason in one word: its number, the tag of the list that its path is in, and its taker or its path's place; 0 for each that it does not have.
+fn reason_word(x: Reason) -> u64
+    requires { ⌜ NumberWithin x ⌝ }
+    ensures { λ r. ⌜ (r ≡ reasonWord x) × (r < 2 ^ 32) ⌝ }
+{
+    match x {
+        Reason::NoRing => 1,
+        Reason::Joined(taker) => joined_word(taker),
+        Reason::SmallRing => 3,
+        Reason::RingFell => 4,
+        Reason::SmallArea => 5,
+        Reason::ShortPath => 6,
+        Reason::SmallPath => 7,
+        Reason::Written { open, place } => written_word(open, place),
+    }
+}
+
+// In the low half 0 or the refusal's number, in the high half the reason.
+fn told_number(a: Told) -> u64
+    requires { ⌜ ToldWithin a ⌝ }
+    ensures { λ r. ⌜ r ≡ toldNumber a ⌝ }
+{
+    match a {
+        Told::Because(x) => {
+            let n = reason_word(x);
+            return 4294967296 * n;
+        }
+        Told::Refused(x) => {
+            return x.number() as u64;
+        }
     }
 }
 
@@ -159,4 +224,13 @@ pub extern "C" fn outline_rewrite(job: &[u8], work: &mut [u32], tray: &mut [u8])
 {
     let a = rewrite(job, work, tray);
     rewritten_number(a)
+}
+
+// Why a record has an outline, or none. The work space is only read.
+#[no_mangle]
+pub extern "C" fn outline_reason(work: &[u32], number: u32) -> u64
+    ensures { λ r. ⌜ r ≡ reasonC (now (work .entry)) number ⌝ }
+{
+    let a = reason_of(work, number);
+    told_number(a)
 }

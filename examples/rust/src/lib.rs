@@ -36,7 +36,7 @@ pub const JOINS: usize = 256;
 /// A coordinate is at most so many micrometres either way.
 pub const COORDINATE: i32 = 1_048_576;
 /// The fixed length of a work space in words; a shorter one is refused with 10.
-pub const WORK_WORDS: usize = 16 + 5 * POINTS + 7 * RECORDS;
+pub const WORK_WORDS: usize = 16 + 5 * POINTS + 9 * RECORDS;
 /// A tray of so many bytes is always long enough.
 pub const TRAY_BYTES: usize = 3 * RECORDS + 8 * POINTS;
 /// The first so many bytes of a job decide what becomes of it: the longest job that is accepted, and one point more.
@@ -57,6 +57,7 @@ mod c {
         pub fn outline_open(job: *const u8, bytes: usize, work: *mut u32, words: usize) -> u32;
         pub fn outline_step(work: *mut u32, words: usize, record: u32) -> u32;
         pub fn outline_write(work: *const u32, words: usize, tray: *mut u8, bytes: usize) -> u32;
+        pub fn outline_reason(work: *const u32, words: usize, record: u32) -> u64;
         pub fn outline_finish(
             job: *const u8,
             job_bytes: usize,
@@ -209,4 +210,53 @@ pub fn rewrite<'a>(job: &[u8], work: &mut [u32], tray: &'a mut [u8]) -> Result<&
     let both = unsafe { c::outline_rewrite(job.as_ptr(), job.len(), work.as_mut_ptr(), words, tray.as_mut_ptr(), room) };
     answer(both as u32)?;
     Ok(&tray[..(both >> 32) as usize])
+}
+
+/// Where a record's ring went.
+#[derive(Clone, Copy, Debug, PartialEq, Eq)]
+pub enum Reason {
+    /// The job has no ring for it.
+    NoRing,
+    /// Joined into another record, the one that took it in that join.
+    Joined { taker: u32 },
+    /// Too small at the validity test.
+    SmallRing,
+    /// Fell invalid while points were removed.
+    RingFell,
+    /// Its area was under 2.0 at a split.
+    SmallArea,
+    /// Too short when its path was built.
+    ShortPath,
+    /// Too small when its path was built.
+    SmallPath,
+    /// Its path is in the tray, at this place of the closed or the open ones, from 0.
+    Written { open: bool, place: u32 },
+}
+
+/// Why a record has an outline, or none. [`Refused::OUT_OF_TURN`]: there is no such record, or a closed ring isn't done.
+///
+/// ```
+/// # use outline::*;
+/// let (mut work, mut tray) = (vec![0; WORK_WORDS], vec![0; TRAY_BYTES]);
+/// finish(include_bytes!("../../../samples/crossed.job"), &mut work, &mut tray)?;
+/// // The ring, and what was cut off it.
+/// assert_eq!(reason(&work, 0)?, Reason::Written { open: false, place: 0 });
+/// assert_eq!(reason(&work, 1)?, Reason::Written { open: false, place: 1 });
+/// assert_eq!(reason(&work, 2), Err(Refused::OUT_OF_TURN));
+/// # Ok::<(), Refused>(())
+/// ```
+pub fn reason(work: &[u32], record: u32) -> Result<Reason, Refused> {
+    let both = unsafe { c::outline_reason(work.as_ptr(), work.len(), record) };
+    answer(both as u32)?;
+    let number = (both >> 48) as u32;
+    Ok(match both >> 32 & 255 {
+        1 => Reason::NoRing,
+        2 => Reason::Joined { taker: number },
+        3 => Reason::SmallRing,
+        4 => Reason::RingFell,
+        5 => Reason::SmallArea,
+        6 => Reason::ShortPath,
+        7 => Reason::SmallPath,
+        _ => Reason::Written { open: both >> 40 & 255 == 7, place: number },
+    })
 }
