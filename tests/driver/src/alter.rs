@@ -94,7 +94,7 @@ fn record_word(w: &mut [u32], rng: &mut Rng) -> String {
     };
     let (points, records) = (points(w), records(w));
     let on_ring = ring_point(rng, w).unwrap_or(0) as u32;
-    match rng.below(9) {
+    match rng.below(12) {
         0 => put(w, FLAGS + r, rng.bits() as u32),
         1 => put(w, FLAGS + r, w[FLAGS + r] ^ 1),
         2 => put(w, OWNER + r, number(rng, records)),
@@ -109,7 +109,14 @@ fn record_word(w: &mut [u32], rng: &mut Rng) -> String {
             let any = number(rng, points);
             put(w, START + r, rng.pick(&[on_ring, any]))
         }
-        _ => put(w, CUT + r, number(rng, records)),
+        8 => put(w, CUT + r, number(rng, records)),
+        9 => put(w, REASON + r, rng.pick(&[0, 1, 2, 3, 4, 5, 6, NONE, u32::MAX])),
+        10 => put(w, TAKER + r, number(rng, records)),
+        _ => {
+            let taker = number(rng, records);
+            (w[FIRST + r], w[REASON + r], w[TAKER + r]) = (NONE, JOINED, taker);
+            format!("record {r} was taken by {taker}")
+        }
     }
 }
 
@@ -161,7 +168,7 @@ fn fill(w: &mut [u32], rng: &mut Rng) -> String {
         return put(w, POINTS, (MOST_POINTS - left) as u32);
     }
     for r in records(w).min(MOST_RECORDS)..MOST_RECORDS - left {
-        (w[OWNER + r], w[FIRST + r]) = (NONE, NONE);
+        (w[OWNER + r], w[FIRST + r], w[REASON + r]) = (NONE, NONE, NO_RING);
     }
     put(w, RECORDS, (MOST_RECORDS - left) as u32)
 }
@@ -229,6 +236,8 @@ pub fn made_up(w: &mut [u32], rng: &mut Rng) -> String {
         w[PRESENT + r] = if rng.one_in(2) { any } else { rng.below(points) as u32 };
         w[START + r] = if rng.one_in(4) { number(rng, points) } else { rng.below(points) as u32 };
         w[CUT + r] = NONE;
+        w[REASON + r] = if rng.one_in(20) { rng.below(8) as u32 } else { 1 + rng.below(5) as u32 };
+        w[TAKER + r] = if rng.one_in(20) { number(rng, records) } else { rng.below(records) as u32 };
     }
     format!("made up: {points} points, {records} records")
 }

@@ -45,6 +45,10 @@ const ALTERED: [(usize, usize, u32); 16] = [
     (FLAGS, 1, 1),
 ];
 
+/// A record without a ring: the reason kept, and the taker.
+const EMPTIED: [(u32, u32); 7] =
+    [(0, 0), (NO_RING, 2), (JOINED, 0), (JOINED, 2), (AT_SPLIT, 2), (AT_SPLIT + 1, 0), (JOINED, NONE)];
+
 fn line(w: &[u32]) -> String {
     plain::tests(w).map_or_else(|refusal| format!("refused {refusal:02}\n"), |()| "passed\n".into())
 }
@@ -55,5 +59,10 @@ pub fn lines() -> String {
         w[column + at] = word;
         line(&w)
     });
-    std::iter::once(line(&built())).chain(altered).collect()
+    let emptied = EMPTIED.iter().map(|&(reason, taker)| {
+        let mut w = built();
+        (w[FIRST + 1], w[REASON + 1], w[TAKER + 1]) = (NONE, reason, taker);
+        line(&w)
+    });
+    std::iter::once(line(&built())).chain(altered).chain(emptied).collect()
 }

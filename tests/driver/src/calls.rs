@@ -34,6 +34,7 @@ extern "C" {
         tray: *mut u8,
         tray_length: usize,
     ) -> u64;
+    fn outline_reason(work: *const u32, words: usize, record: u32) -> u64;
 }
 
 /// What a deliberate fault does; each must be found (command `faults`).
@@ -100,9 +101,29 @@ pub enum Fault {
     RewriteWord,
     /// A byte more is said to be written.
     RewriteLength,
+    /// The taker told is the record that has the ring in the end.
+    ReasonTaker,
+    /// A ring that fell invalid while points were removed is told too small to begin with.
+    ReasonRule,
+    /// A path too small is told too short.
+    ReasonPath,
+    /// The place told counts records, not paths.
+    ReasonPlace,
+    /// An open path is told to be in the closed list.
+    ReasonList,
+    /// A ringless record that keeps no reason is said before a number that names nothing.
+    ReasonOrder,
+    /// A ringless record that keeps no reason passes.
+    ReasonLeft,
+    /// Only the record's own ring has to be done.
+    ReasonEarly,
+    /// An unknown record is refused with 5.
+    ReasonUnknown,
+    /// A refusal has a reason beside it.
+    ReasonHalf,
 }
 
-pub const FAULTS: [Fault; 30] = [
+pub const FAULTS: &[Fault] = &[
     Fault::FinishAnswer,
     Fault::TrayByte,
     Fault::PastPaths,
@@ -133,6 +154,16 @@ pub const FAULTS: [Fault; 30] = [
     Fault::RewriteKnot,
     Fault::RewriteWord,
     Fault::RewriteLength,
+    Fault::ReasonTaker,
+    Fault::ReasonRule,
+    Fault::ReasonPath,
+    Fault::ReasonPlace,
+    Fault::ReasonList,
+    Fault::ReasonOrder,
+    Fault::ReasonLeft,
+    Fault::ReasonEarly,
+    Fault::ReasonUnknown,
+    Fault::ReasonHalf,
 ];
 
 /// The listing with `piece` and `hole` exchanged, and its length.
@@ -249,4 +280,47 @@ impl Calls {
         }
         (number, length)
     }
+
+    /// The low half is 0 or the refusal's number; the high half the reason, 256 times its list and 65,536 times its number.
+    pub fn reason(self, work: &[u32], record: u32) -> u64 {
+        let answer = unsafe { outline_reason(work.as_ptr(), work.len(), record) };
+        let told = |reason: u64, list: u64, number: u64| (reason + 256 * list + 65_536 * number) << 32;
+        let (reason, list, number) = (answer >> 32 & 255, answer >> 40 & 255, answer >> 48);
+        match (self.0, answer as u32, reason) {
+            (Fault::ReasonTaker, 0, 2) => return told(2, 0, in_the_end(work, record as usize) as u64),
+            (Fault::ReasonRule, 0, 4) => return told(3, 0, 0),
+            (Fault::ReasonPath, 0, 7) => return told(6, 0, 0),
+            (Fault::ReasonPlace, 0, 8) => return told(8, list, record as u64),
+            (Fault::ReasonList, 0, 8) => return told(8, 6, number),
+            (Fault::ReasonOrder, 5, _) if untold(work) => return 7,
+            (Fault::ReasonLeft, 7, _) if untold(work) => return told(1, 0, 0),
+            (Fault::ReasonEarly, 12, _) if known(work, record) && !is_live(work, record as usize) => {
+                return told(1, 0, 0)
+            }
+            (Fault::ReasonUnknown, 12, _) if !known(work, record) => return 5,
+            (Fault::ReasonHalf, 1.., _) => return answer + told(1, 0, 0),
+            _ => {}
+        }
+        answer
+    }
+}
+
+/// The first with a ring among a record and its owners.
+fn in_the_end(work: &[u32], record: usize) -> usize {
+    let mut at = record;
+    for _ in 0..MOST_RECORDS {
+        if work[FIRST + at] == NONE && (work[OWNER + at] as usize) < records(work) {
+            at = work[OWNER + at] as usize;
+        }
+    }
+    at
+}
+
+fn known(work: &[u32], record: u32) -> bool {
+    (record as usize) < records(work)
+}
+
+/// Whether some record without a ring keeps none of the first five reasons.
+fn untold(work: &[u32]) -> bool {
+    (0..records(work)).any(|r| work[FIRST + r] == NONE && !(NO_RING..=AT_SPLIT).contains(&work[REASON + r]))
 }

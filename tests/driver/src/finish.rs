@@ -141,7 +141,7 @@ pub fn same_state(w: &[u32], state: &State) -> Same {
 }
 
 /// The paths that a tray holds, read back from its bytes, and the setting they were written under.
-fn read_tray(tray: &[u8], settings: u8) -> Option<Answer> {
+pub fn read_tray(tray: &[u8], settings: u8) -> Option<Answer> {
     let (mut closed, mut open) = (Vec::new(), Vec::new());
     let mut rest = tray;
     while rest.len() >= 3 && rest[0] != 0 {

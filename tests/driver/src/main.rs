@@ -12,6 +12,7 @@ mod listed;
 mod model;
 mod open;
 mod plain;
+mod reasons;
 mod room;
 mod runs;
 mod steps;
@@ -24,7 +25,7 @@ use oracle::text::number;
 use runs::{Kind, Run, KINDS};
 
 const USAGE: &str =
-    "usage: driver finish|large|steps|bytes|altered|canon SEED COUNT THREADS [FROM], driver faults SEED COUNT, \
+    "usage: driver finish|large|steps|bytes|altered|canon|reasons SEED COUNT THREADS [FROM], driver faults SEED COUNT, \
                      driver fault NAME KIND SEED COUNT, or driver audit_cases";
 
 fn run_of(kind: &str, seed: &str, count: &str, threads: &str, from: u64) -> Result<Run, String> {
@@ -39,9 +40,9 @@ fn run_of(kind: &str, seed: &str, count: &str, threads: &str, from: u64) -> Resu
 /// Each deliberate fault must be found by some kind within so many cases.
 fn faults(seed: u64, count: u64) -> Result<(), String> {
     let mut missed = Vec::new();
-    for fault in FAULTS {
+    for &fault in FAULTS {
         let mut found = Vec::new();
-        for (name, kind) in KINDS {
+        for &(name, kind) in KINDS {
             let run = Run { kind, seed, from: 0, to: count, threads: 1, fault };
             if let Err(difference) = run.all() {
                 found.push(format!("{name} at case {} ({})", difference.index, difference.what));
@@ -67,7 +68,7 @@ fn run(words: &[&str]) -> Result<(), String> {
         ["audit_cases"] => oracle::output(audit_cases::lines().as_bytes()),
         ["faults", seed, count] => faults(number(seed)?, number(count)?),
         ["fault", name, kind, seed, count] => {
-            let fault = FAULTS.into_iter().find(|fault| format!("{fault:?}") == *name).ok_or(USAGE)?;
+            let fault = *FAULTS.iter().find(|fault| format!("{fault:?}") == *name).ok_or(USAGE)?;
             Run { fault, ..run_of(kind, seed, count, "2", 0)? }.report()
         }
         [kind, seed, count, threads] => run_of(kind, seed, count, threads, 0)?.report(),

@@ -38,6 +38,10 @@ fn as_opened(w: &[u32], opened: &Opened) -> Same {
         expect([w[NEXT + p], w[PREV + p], w[REC + p]] == theirs, || format!("point {p} as opened"))?;
         expect(value(w, p) == (point.pt.x, point.pt.y), || format!("the place of point {p} as opened"))?;
     }
+    for r in (0..records(w)).filter(|&r| w[FIRST + r] == NONE) {
+        let told = w[REASON + r] == NO_RING || (w[REASON + r] == JOINED && w[TAKER + r] == w[OWNER + r]);
+        expect(told, || format!("why record {r} has no ring, as opened"))?;
+    }
     for r in (0..records(w)).filter(|&r| w[FIRST + r] != NONE && !is_open(w, r)) {
         expect(w[MARK + r] == VALIDITY, || format!("the mark of record {r} as opened"))?;
         expect(w[PRESENT + r] == w[FIRST + r], || format!("the present place of record {r} as opened"))?;

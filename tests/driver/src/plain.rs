@@ -1,5 +1,6 @@
 // A plain reading of document 01: "A step, or writing out after steps, first tests the work space it is handed".
-// Written from that paragraph and docs/WORKSPACE.md alone.
+// And of document 02, Ask 5: "A ringless record without one of the first five reasons kept meets 7; a taker's number naming nothing meets 5".
+// Written from these paragraphs and docs/WORKSPACE.md alone.
 use crate::words::*;
 
 /// The tests in the paper's order; the refusal's number where one fails. A work space that is too short is 10, before them all.
@@ -14,13 +15,14 @@ pub fn tests(w: &[u32]) -> Result<(), u8> {
     if reached.iter().any(|&p| off_the_table(w[X + p]) || off_the_table(w[Y + p])) {
         return Err(4);
     }
-    if reached.iter().any(|&p| no_such_link(w, p)) || (0..records(w)).any(|r| no_such_name(w, r)) {
+    if reached.iter().any(|&p| no_such_link(w, p)) || (0..records(w)).any(|r| no_such_name(w, r) || no_such_taker(w, r))
+    {
         return Err(5);
     }
     if reached.iter().any(|&p| loose(w, p)) {
         return Err(6);
     }
-    if shared(w) || (0..records(w)).any(|r| misplaced(w, r)) {
+    if shared(w) || (0..records(w)).any(|r| misplaced(w, r) || untold(w, r)) {
         return Err(7);
     }
     Ok(())
@@ -55,6 +57,16 @@ fn no_such_link(w: &[u32], p: usize) -> bool {
 fn no_such_name(w: &[u32], r: usize) -> bool {
     let (owner, first) = (w[OWNER + r], w[FIRST + r]);
     (owner != NONE && owner as usize >= records(w)) || (first != NONE && first as usize >= points(w))
+}
+
+/// The taker of a ringless record that was joined into another.
+fn no_such_taker(w: &[u32], r: usize) -> bool {
+    w[FIRST + r] == NONE && w[REASON + r] == JOINED && w[TAKER + r] as usize >= records(w)
+}
+
+/// A ringless record that keeps none of the first five reasons.
+fn untold(w: &[u32], r: usize) -> bool {
+    w[FIRST + r] == NONE && !(NO_RING..=AT_SPLIT).contains(&w[REASON + r])
 }
 
 /// Next of prev, or prev of next, isn't the point.

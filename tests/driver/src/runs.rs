@@ -3,7 +3,7 @@
 use crate::calls::Fault;
 use crate::room::{Room, Same};
 use crate::tally::Tally;
-use crate::{altered, canon, damage, finish, large, open, steps};
+use crate::{altered, canon, damage, finish, large, open, reasons, steps};
 use oracle::gen;
 use oracle::rng::Rng;
 use std::panic::{catch_unwind, AssertUnwindSafe};
@@ -21,15 +21,17 @@ pub enum Kind {
     Bytes,
     Altered,
     Canon,
+    Reasons,
 }
 
-pub const KINDS: [(&str, Kind); 6] = [
+pub const KINDS: &[(&str, Kind)] = &[
     ("finish", Kind::Finish),
     ("large", Kind::Large),
     ("steps", Kind::Steps),
     ("bytes", Kind::Bytes),
     ("altered", Kind::Altered),
     ("canon", Kind::Canon),
+    ("reasons", Kind::Reasons),
 ];
 
 impl Kind {
@@ -70,6 +72,10 @@ impl Kind {
                 room.start(&bytes, at);
                 canon::case(room, &mut rng)
             }
+            Kind::Reasons => {
+                room.start(&gen::job(seed, index), at);
+                reasons::case(room, &mut rng)
+            }
         }
     }
 
@@ -88,6 +94,7 @@ impl Kind {
                 vec![("step", vec![0, 3, 4, 5, 6, 7, 10, 12]), ("write", vec![0, 3, 4, 5, 6, 7, 11, 12])]
             }
             Kind::Canon => vec![("rewrite", (0..=8).chain(10..=11).collect()), ("finish", vec![0, 9, 10, 11])],
+            Kind::Reasons => vec![("reason", vec![0, 3, 4, 5, 6, 7, 10, 12])],
         }
     }
 }

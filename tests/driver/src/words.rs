@@ -1,7 +1,7 @@
 // The work space as docs/WORKSPACE.md lays it out, written from that table and not from the code.
 use oracle::real::Pt;
 
-pub const WORDS: usize = 13_840;
+pub const WORDS: usize = 14_864;
 pub const MOST_POINTS: usize = 2048;
 pub const MOST_RECORDS: usize = 512;
 pub const NONE: u32 = 65_535;
@@ -23,6 +23,15 @@ pub const MARK: usize = FIRST + MOST_RECORDS;
 pub const PRESENT: usize = MARK + MOST_RECORDS;
 pub const START: usize = PRESENT + MOST_RECORDS;
 pub const CUT: usize = START + MOST_RECORDS;
+pub const REASON: usize = CUT + MOST_RECORDS;
+pub const TAKER: usize = REASON + MOST_RECORDS;
+
+/// Why a record has no ring: none in the job, joined into another, and a step's three rules in the order of the marks.
+pub const NO_RING: u32 = 1;
+pub const JOINED: u32 = 2;
+pub const AT_VALIDITY: u32 = 3;
+pub const WHILE_REMOVING: u32 = 4;
+pub const AT_SPLIT: u32 = 5;
 
 /// The marks: the four kinds of step, and done.
 pub const VALIDITY: u32 = 0;

@@ -9,8 +9,9 @@ pub struct Case {
     pub expected: String,
 }
 
-pub fn parse(content: &str) -> Result<Vec<Case>, String> {
-    let mut cases = Vec::new();
+/// Each case of a file as text: its name, what stands before its line `expect`, and what stands after it.
+pub fn sections(content: &str) -> Result<Vec<[String; 3]>, String> {
+    let mut out = Vec::new();
     let mut lines = content.lines().filter(|line| !line.trim_start().starts_with('#'));
     while let Some(line) = lines.next() {
         if line.trim().is_empty() {
@@ -30,10 +31,17 @@ pub fn parse(content: &str) -> Result<Vec<Case>, String> {
         };
         let job = part("expect", &mut lines)?;
         let expected = part("end", &mut lines)?;
-        let job = text::parse(&job).map_err(|why| format!("case {name}: {why}"))?;
-        cases.push(Case { name, job, expected });
+        out.push([name, job, expected]);
     }
-    Ok(cases)
+    Ok(out)
+}
+
+pub fn parse(content: &str) -> Result<Vec<Case>, String> {
+    let case = |[name, job, expected]: [String; 3]| {
+        let job = text::parse(&job).map_err(|why| format!("case {name}: {why}"))?;
+        Ok(Case { name, job, expected })
+    };
+    sections(content)?.into_iter().map(case).collect()
 }
 
 pub fn load(path: &str) -> Result<Vec<Case>, String> {

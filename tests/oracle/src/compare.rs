@@ -43,7 +43,7 @@ impl Comparer {
         expect(opened.job.bytes() == bytes, "an accepted job, written again, is other bytes")?;
         self.stats.add("join made from segments", opened.joined.made as u64);
         self.stats.add("join splits a ring", opened.joined.split as u64);
-        self.stats.add("join merges two rings", opened.joined.merged as u64);
+        self.stats.add("join merges two rings", opened.joined.merged.len() as u64);
         self.paths_as_opened(&opened)?;
         let start = forest(&opened);
         let mut done = start.clone();
@@ -165,8 +165,8 @@ impl Comparer {
     }
 }
 
-/// Each ring that opening left, with its offcuts in cutting order, and theirs.
-fn family(forest: &Forest) -> Vec<Vec<Vec<(i64, i64)>>> {
+/// Each record that opening left, then its offcuts in cutting order, and theirs.
+pub fn families(forest: &Forest) -> Vec<Vec<usize>> {
     let mut members: Vec<Vec<usize>> = vec![Vec::new(); forest.records.len()];
     let mut roots = Vec::new();
     for (record, entry) in forest.records.iter().enumerate() {
@@ -179,12 +179,18 @@ fn family(forest: &Forest) -> Vec<Vec<Vec<(i64, i64)>>> {
         let mut out = Vec::new();
         let mut stack = vec![root];
         while let Some(record) = stack.pop() {
-            out.push(forest.ring(record));
+            out.push(record);
             stack.extend(members[record].iter().rev());
         }
         out
     };
     roots.into_iter().map(line).collect()
+}
+
+/// The rings of each family.
+fn family(forest: &Forest) -> Vec<Vec<Vec<(i64, i64)>>> {
+    let rings = |family: Vec<usize>| family.into_iter().map(|record| forest.ring(record)).collect();
+    families(forest).into_iter().map(rings).collect()
 }
 
 fn count_act(stats: &mut Stats, forest: &Forest, record: usize, due: Due, act: Act) {

@@ -19,6 +19,8 @@ pub mod oracle;
 pub mod raw;
 pub mod read;
 pub mod real;
+pub mod reasons;
+pub mod reasons_cases;
 pub mod rng;
 pub mod runs;
 pub mod search;

@@ -2,8 +2,8 @@
 use ::oracle::oracle::Oracle;
 use ::oracle::text::number;
 use ::oracle::{
-    answer, batch, canon, canon_cases, cases, charge, gen, guard, output, raw, runs, search, show, stepped, stored,
-    text, vectors,
+    answer, batch, canon, canon_cases, cases, charge, gen, guard, output, raw, reasons, reasons_cases, runs, search,
+    show, stepped, stored, text, vectors,
 };
 use std::io::Read;
 
@@ -42,6 +42,13 @@ fn run(words: &[&str]) -> Result<(), String> {
         ["canon", "expect", file] => canon_cases::expect(file),
         ["canon", "make", folder] => canon_cases::make(folder),
         ["canon", seed, count, threads] => canon_cases::compare(number(seed)?, number(count)?, number(threads)?),
+        ["reasons"] => {
+            let told = reasons::of_job(&mut Oracle::default(), &input()?)?;
+            output(reasons::lines(&told).as_bytes())
+        }
+        ["reasons", "expect", file] => reasons_cases::expect(file),
+        ["reasons", "make", folder] => reasons_cases::make(folder),
+        ["reasons", seed, count, threads] => reasons_cases::compare(number(seed)?, number(count)?, number(threads)?),
         ["opened"] => output(show::opened(&input()?).as_bytes()),
         ["acts"] => output(show::acts(&input()?).as_bytes()),
         ["alone"] => output(show::alone(&input()?).as_bytes()),

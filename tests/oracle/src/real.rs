@@ -26,12 +26,19 @@ pub struct State {
     pub records: Vec<Ring>,
 }
 
-/// How a job's joins went.
-#[derive(Clone, Copy, Debug, Default, PartialEq)]
+/// A join that left a record without a ring: the record, and the one that has the ring after that join.
+#[derive(Clone, Copy, Debug, PartialEq)]
+pub struct Emptied {
+    pub record: usize,
+    pub taker: usize,
+}
+
+/// How a job's joins went; those that merged two rings, in their order.
+#[derive(Clone, Debug, Default, PartialEq)]
 pub struct Joined {
     pub made: usize,
     pub split: usize,
-    pub merged: usize,
+    pub merged: Vec<Emptied>,
 }
 
 fn named(number: u16) -> Option<usize> {
@@ -73,24 +80,44 @@ pub fn open(job: &Job) -> Result<(ClipperBase, Joined), u8> {
     let joins = std::mem::take(&mut base.horz_join_list);
     let mut joined = Joined { made: joins.len() - job.joins.len(), ..Joined::default() };
     for join in joins {
-        if base.outpt_arena[join.op1.unwrap()].next == join.op2.unwrap() {
+        let first = join.op1.unwrap();
+        if base.outpt_arena[first].next == join.op2.unwrap() {
             return Err(KNOT);
         }
-        let before = base.outrec_list.len();
+        let before = with_rings(&base);
         base.horz_join_list = vec![join];
         base.call_process_horz_joins();
         if base.outrec_list.len() > RECORDS {
             return Err(FULL);
         }
-        if base.outrec_list.len() > before {
+        if base.outrec_list.len() > before.len() {
             joined.split += 1;
         } else {
-            joined.merged += 1;
+            joined.merged.push(emptied(&base, &before, first));
         }
     }
     let whole = open_untested(job);
     assert!(same(&base, &whole), "joining one at a time and in one call differ");
     Ok((whole, joined))
+}
+
+/// Which records have a ring.
+fn with_rings(base: &ClipperBase) -> Vec<bool> {
+    base.outrec_list.iter().map(|record| record.pts.is_some()).collect()
+}
+
+/// After a join that made no record: the one record that had a ring before, and the record whose first point is on the ring of the join's first point.
+/// Told from the rings alone, without an owner.
+fn emptied(base: &ClipperBase, before: &[bool], first: usize) -> Emptied {
+    let gone: Vec<usize> = (0..before.len()).filter(|&r| before[r] && base.outrec_list[r].pts.is_none()).collect();
+    let mut on_ring = vec![false; base.outpt_arena.len()];
+    walk(base, first).into_iter().for_each(|(at, _)| on_ring[at] = true);
+    let has_it = |r: &usize| base.outrec_list[*r].pts.is_some_and(|first| on_ring[first]);
+    let takers: Vec<usize> = (0..before.len()).filter(has_it).collect();
+    match (&gone[..], &takers[..]) {
+        (&[record], &[taker]) => Emptied { record, taker },
+        _ => panic!("a join of two rings empties {gone:?}, and {takers:?} have the ring"),
+    }
 }
 
 /// Opening as the Rust does it, one call of each function, without rows 9 and 10.

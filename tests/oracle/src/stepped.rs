@@ -33,7 +33,7 @@ fn busy(forest: &Forest) -> Vec<usize> {
 }
 
 /// The highest unfinished record each time, each done ring and an unknown record once more; ends where a step is full.
-fn reverse(mut forest: Forest) -> Vec<u16> {
+pub fn reverse(mut forest: Forest) -> Vec<u16> {
     let mut out = Vec::new();
     while let Some(&record) = busy(&forest).last() {
         out.push(record as u16);
@@ -48,7 +48,7 @@ fn reverse(mut forest: Forest) -> Vec<u16> {
 }
 
 /// All records in turn, done ones and an unknown one among them, until no step is granted.
-fn in_turn(mut forest: Forest) -> Vec<u16> {
+pub fn in_turn(mut forest: Forest) -> Vec<u16> {
     let mut out = Vec::new();
     let mut granted = true;
     while granted {
