@@ -1,6 +1,9 @@
 // Applying an act: link surgery and progress, as the act's list of writes.
 use geometry::Point;
+use store::AT_SPLIT;
+use store::AT_VALIDITY;
 use store::Col;
+use store::WHILE_REMOVING;
 use store::get;
 use store::points::dispose_out_pt;
 use store::points::dispose_out_pts;
@@ -80,9 +83,9 @@ fn reason_number(y: Discard) -> usize
     ensures { λ r. ⌜ (r ≡ reasonNumber (discardIs y)) × (r < 2 ^ 32) ⌝ }
 {
     match y {
-        Discard::AtValidity => 3,
-        Discard::WhileRemoving => 4,
-        Discard::AtSplit => 5,
+        Discard::AtValidity => AT_VALIDITY,
+        Discard::WhileRemoving => WHILE_REMOVING,
+        Discard::AtSplit => AT_SPLIT,
     }
 }
 

@@ -5,17 +5,25 @@ ghost use Prim.Native.Nat.{_+_, _<_, _≤_, _^_};
 ghost use lib.ListN.{length, getD};
 ghost use Rattle.store.specs.Field.{size, base, LENGTH};
 ghost use Rattle.store.specs.Field as field;
+ghost use Rattle.store.specs.Reason.{reasonNumber};
 ghost use Rattle.store.specs.Reason as reason;
+ghost use Rattle.rings.specs.Progress.{atValidity, whileRemoving, atSplit};
 ghost use Rattle.store.specs.Words.{cell, put};
 ghost use Rattle.store.specs.Column.{columnOf};
 
 // No point, no record.
 pub const NONE: usize = Job::NONE;
 
-// Why a record has no ring: there was none in the job, or it was joined into another record. (A step that discards a ring has numbers of its own.)
+// Why a record has no ring: there was none in the job; it was joined into another record; or a step discarded it, by one of three rules.
 pub const NO_RING: usize = 1;
 
 pub const JOINED: usize = 2;
+
+pub const AT_VALIDITY: usize = 3;
+
+pub const WHILE_REMOVING: usize = 4;
+
+pub const AT_SPLIT: usize = 5;
 
 // The columns: the only index into the work space.
 pub enum Col {
@@ -149,6 +157,9 @@ fn constants_agree()
     ensures { λ _. do ⌜ (← ⟦NONE⟧ .entry) ≡ field.NONE ⌝ }
     ensures { λ _. do ⌜ (← ⟦NO_RING⟧ .entry) ≡ reason.NO-RING ⌝ }
     ensures { λ _. do ⌜ (← ⟦JOINED⟧ .entry) ≡ reason.JOINED ⌝ }
+    ensures { λ _. do ⌜ (← ⟦AT_VALIDITY⟧ .entry) ≡ reasonNumber atValidity ⌝ }
+    ensures { λ _. do ⌜ (← ⟦WHILE_REMOVING⟧ .entry) ≡ reasonNumber whileRemoving ⌝ }
+    ensures { λ _. do ⌜ (← ⟦AT_SPLIT⟧ .entry) ≡ reasonNumber atSplit ⌝ }
 {}
 
 pub mod points;

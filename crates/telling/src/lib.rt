@@ -8,10 +8,13 @@ use paths::path_end;
 use paths::paths_below;
 use paths::reverse_solution;
 use steps::step::any_live;
+use store::AT_SPLIT;
+use store::AT_VALIDITY;
 use store::Col;
 use store::JOINED;
 use store::LENGTH;
 use store::NONE;
+use store::WHILE_REMOVING;
 use store::get;
 ghost use mathlib.Core.Path.{_≡_};
 ghost use Prim.Native.Nat.{_<_, _≤_};
@@ -53,13 +56,13 @@ fn kept_reason(w: &[u32], i: usize) -> Reason
         let t = get(w, Col::Taker, i);
         return Reason::Joined(t);
     }
-    if v == 3 {
+    if v == AT_VALIDITY {
         return Reason::SmallRing;
     }
-    if v == 4 {
+    if v == WHILE_REMOVING {
         return Reason::RingFell;
     }
-    if v == 5 {
+    if v == AT_SPLIT {
         return Reason::SmallArea;
     }
     Reason::NoRing
