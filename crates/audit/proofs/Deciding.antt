@@ -1,20 +1,18 @@
 -- The tests pass exactly when the store is sound.
 use Prim.Native.Nat.{ℕ, zero, suc, _+_, _≤_, _<_}
-use mathlib.Core.Path.{_≡_, refl, ap, _∙_, sym, subst}
+use mathlib.Core.Path.{_≡_, refl, ap}
 use mathlib.Core.Logic.{_⊎_, inl, inr}
-use mathlib.Core.Bool.{Bool, true, false, cond}
-use mathlib.Core.List.{List, [], _∷_, _++_}
+use mathlib.Core.Bool.{Bool, true, false}
+use mathlib.Core.List.{List, [], _∷_}
 use native.Mathlib.Omega.{arith}
 use native.Mathlib.Decide.{ℕ-discrete, decLt}
 use borrow.Author.Tests.{eqb-false}
 use Rattle.rings.specs.Count.{occ}
-use Rattle.rings.specs.Links.{Seg, Linked}
+use Rattle.rings.specs.Links.{Linked}
 use Rattle.rings.specs.Progress.{isDone}
-use Rattle.rings.specs.Relink.{Mutual}
 use Rattle.rings.specs.Whole.{Whole}
-use Rattle.rings.proofs.Counting.{one-here, one-else}
-use Rattle.rings.proofs.Members.{From, from, prev-next, whole-kept}
-use Rattle.rings.proofs.Orbits.{Orbit, orbit}
+use Rattle.rings.proofs.Counting.{one-here}
+use Rattle.rings.proofs.Members.{From, from}
 use Rattle.rings.proofs.Tables.{once-by}
 use Rattle.rings.proofs.Walking.{ring-is}
 use Rattle.store.specs.Field.{NONE}
@@ -23,23 +21,10 @@ use Rattle.store.specs.Named.{pointsOf, recordsOf, nextOf, prevOf, firstOf, pro
 use Rattle.store.specs.Sound.{ringless, ringAt, dueOf}
 use Rattle.store.specs.Good.{Good, Sound}
 use Rattle.store.proofs.Soundness.{whole}
-use Rattle.audit.specs.Tests.{isIn, reachedBy, offTable, noSuch, noSuchOf, lostTaker, loose, shared, misplaced, untold}
-use Rattle.audit.proofs.Reaching.{Reached, reached, in-true, in-false}
+use Rattle.audit.specs.Tests.{reachedBy, offTable, noSuch, noSuchOf, lostTaker, loose, shared, misplaced, untold}
+use Rattle.audit.proofs.Reaching.{Reached, reached}
+use Rattle.audit.proofs.Ringing.{along, ring-at}
 use Rattle.audit.proofs.Saying.{none-of, reached-none, on-table, such, tied, owned, told, alone, mark-low, place-on, Passing, Placed, Numbered, Tied}
-
--- what holds of the first of a ring, and with each point of its next, holds of all
-along : (n p : ℕ → ℕ) (m : ℕ) (P : ℕ → Type 0) → ((k : ℕ) → P k → n k < m → P (n k)) → (a : ℕ) (l : List ℕ) (b : ℕ) → Seg n p (a ∷ l ++ (b ∷ [])) → ((k : ℕ) → 0 < occ k (a ∷ l) → k < m) → P a → (k : ℕ) → 0 < occ k (a ∷ l) → P k
-along n p m P c a [] b s u h k o = go (ℕ-discrete k a)
-  where
-    go : Dec (k ≡ a) → P k
-    go (yes e) = subst P (sym e) h
-    go (no d) = absurd (omega (arith, one-else k a (λ e. d (sym e))))
-along n p m P c a (x ∷ l) b s u h k o =
-    go (ℕ-discrete k a) (along n p m P c x l b (s .2) (λ j q. u j (omega arith)) (subst P (s .0) (c a h (subst (λ (y : ℕ). y < m) (sym (s .0)) (u x (omega (arith, one-here x)))))) k)
-  where
-    go : Dec (k ≡ a) → (0 < occ k (x ∷ l) → P k) → P k
-    go (yes e) r = subst P (sym e) h
-    go (no d) r = r (omega (arith, one-else k a (λ e. d (sym e))))
 
 -- ---- the tests pass: the store is sound
 
@@ -71,43 +56,6 @@ module _ (w : List ℕ) (t : Passing w) where
   ties : (k : ℕ) → 0 < occ k R → Tied w k
   ties k o = tied w k (reached-none w (loose w) (t .tied) k (low k o) o)
 
-  next-in : (k : ℕ) → 0 < occ k R → 0 < occ (n k) R
-  next-in k o = all .shut k o (numbered k o .next)
-
-  -- the links of the reached points, and every other point a ring by itself
-  n′ : ℕ → ℕ
-  n′ k = cond (isIn k R) (n k) k
-
-  p′ : ℕ → ℕ
-  p′ k = cond (isIn k R) (p k) k
-
-  n-in : (k : ℕ) → 0 < occ k R → n′ k ≡ n k
-  unfolding n′
-  n-in k o = rw (in-true k R o)
-
-  p-in : (k : ℕ) → 0 < occ k R → p′ k ≡ p k
-  unfolding p′
-  p-in k o = rw (in-true k R o)
-
-  n-out : (k : ℕ) → occ k R ≡ 0 → n′ k ≡ k
-  unfolding n′
-  n-out k o = rw (in-false k R o)
-
-  p-out : (k : ℕ) → occ k R ≡ 0 → p′ k ≡ k
-  unfolding p′
-  p-out k o = rw (in-false k R o)
-
-  both-ways : Mutual n′ p′ m
-  both-ways = record { next-low = λ k h. by-low k h (decLt 0 (occ k R)); prev-next = λ k h. by-back k (decLt 0 (occ k R)) }
-    where
-      by-low : (k : ℕ) → k < m → Dec (0 < occ k R) → n′ k < m
-      by-low k h (yes o) = rw (n-in k o) (numbered k o .next)
-      by-low k h (no d) = rw (n-out k (omega arith)) h
-
-      by-back : (k : ℕ) → Dec (0 < occ k R) → p′ (n′ k) ≡ k
-      by-back k (yes o) = rw (n-in k o) (p-in (n k) (next-in k o) ∙ ties k o .prev-next)
-      by-back k (no d) = ap p′ (n-out k (omega arith)) ∙ p-out k (omega arith)
-
   pub record RingOf (i : ℕ) : Type 0 where
     pub others : List ℕ
     pub is : ringAt (view w) i ≡ firstOf w i ∷ others
@@ -123,11 +71,8 @@ module _ (w : List ℕ) (t : Passing w) where
 
   ring-of : (i : ℕ) → i < recordsOf w → ringless (view w) i ≡ false → RingOf i
   ring-of i h r =
-      let l : firstOf w i < m = first-low i h r in
-      let o : Orbit n′ p′ m (firstOf w i) = orbit n′ p′ m both-ways (firstOf w i) l in
-      let q : (k : ℕ) → 0 < occ k (firstOf w i ∷ o .others) → 0 < occ k R = along n′ p′ m (λ k. 0 < occ k R) (λ k x y. rw (n-in k x) (next-in k x)) (firstOf w i) (o .others) (firstOf w i) (o .whole .linked) (o .whole .below) (all .starts i h l) in
-      let u : Whole n p m (firstOf w i ∷ o .others) = whole-kept n′ p′ n p m m (firstOf w i ∷ o .others) (o .whole) (omega arith) (λ k x. sym (n-in k (q k x))) (λ k x. sym (p-in k (q k x))) in
-      record { others = o .others; is = rw r (ring-is n p m (firstOf w i) (o .others) (t .points) u); ring = u; inside = q }
+      let g = ring-at w (t .points) (λ k o. numbered k o .next) (λ k o. ties k o .prev-next) (firstOf w i) (all .starts i h (first-low i h r)) in
+      record { others = g .others; is = rw r (ring-is n p m (firstOf w i) (g .others) (t .points) (g .ring)); ring = g .ring; inside = g .inside }
 
   -- the computed ring is whole, or there is none
   data Either (i : ℕ) : Type 0 where

@@ -2,12 +2,12 @@
 use Prim.Native.Nat.{ℕ, zero, suc, _≤_, _<_}
 use mathlib.Core.Path.{_≡_, refl, ap, _∙_, sym}
 use mathlib.Core.Bool.{Bool, true, false, cond, not, _&&_, _||_}
-use mathlib.Core.List.{List, [], _∷_}
+use mathlib.Core.List.{List, _∷_}
 use native.Mathlib.Omega.{arith}
 use native.Mathlib.Nat.{zero-add}
 use native.Mathlib.Decide.{ℕ-discrete, decLt}
 use lib.Dec.{ltb}
-use lib.ListN.{length, set, replicate, length-set, length-replicate, getD-replicate}
+use lib.ListN.{length, set, replicate, length-set, length-replicate, getD-replicate, List·getD-eq-default}
 use lib.Seq.{getD-set-same, getD-set-other}
 use borrow.Author.Tests.{lt-ltb, le-ltb, ltb-true, ltb-false}
 use Rattle.job.specs.Limits as limit
@@ -19,72 +19,70 @@ use Rattle.audit.specs.declared.Verdict.{Verdict}
 use Rattle.audit.specs.declared.PointTest.{PointTest}
 use Rattle.audit.specs.declared.PointTest.the-variants.{Table, Numbers, Links}
 use Rattle.audit.specs.Tests.{isIn, anyBelow, anyReached, anyRecord, reach, reachedBy, crowded, shared, testsOf}
-use Rattle.audit.specs.Marks.{Counted, isMarked, markFrom, marksBy, meets, fails, anyMarked, linksOf, pointsTested}
+use Rattle.audit.specs.Marks.{Counted, Clear, isMarked, markFrom, marksBy, meets, AllMarked, fails, anyMarked, linksOf, passesOf}
 
--- the marks ms are those of the points l
-pub record Marks (ms l : List ℕ) : Type 0 where
-  pub all : length ms ≡ limit.POINTS
+-- the marks ms, of at least m places, are those of the points l
+pub record Marks (m : ℕ) (ms l : List ℕ) : Type 0 where
+  pub room : m ≤ length ms
   pub is : (k : ℕ) → isMarked ms k ≡ isIn k l
 
-none-marked : Marks (replicate limit.POINTS 0) []
-none-marked = record { all = length-replicate {A = ℕ} limit.POINTS 0; is = λ k. go k (decLt k limit.POINTS) }
-  where
-    go : (k : ℕ) → Dec (k < limit.POINTS) → isMarked (replicate limit.POINTS 0) k ≡ false
-    go k (yes h) = rw (lt-ltb k limit.POINTS h, getD-replicate {A = ℕ} limit.POINTS k 0 0 h)
-    go k (no h) = rw (le-ltb k limit.POINTS (omega arith))
-
-one-more : (ms l : List ℕ) (a : ℕ) → a < limit.POINTS → Marks ms l → Marks (set ms a 1) (a ∷ l)
-one-more ms l a h m = record { all = length-set ms a 1 ∙ m .all; is = λ k. go k (ℕ-discrete k a) }
+one-more : (m : ℕ) (ms l : List ℕ) (a : ℕ) → a < m → Marks m ms l → Marks m (set ms a 1) (a ∷ l)
+one-more m ms l a h g = record { room = omega (arith, g .room, length-set ms a 1); is = λ k. go k (ℕ-discrete k a) }
   where
     go : (k : ℕ) → Dec (k ≡ a) → isMarked (set ms a 1) k ≡ isIn k (a ∷ l)
-    go k (yes e) =
-        rw e (rw (lt-ltb a limit.POINTS h, getD-set-same ms a 1 0 (omega (arith, m .all))) (sym (lt-ltb 0 (occ a (a ∷ l)) (occ-head a l))))
-    go k (no d) = rw (getD-set-other ms a k 1 0 d, one-else k a (λ e. d (sym e)), zero-add (occ k l)) (m .is k)
+    go k (yes e) = rw e (rw (getD-set-same ms a 1 0 (omega (arith, g .room))) (sym (lt-ltb 0 (occ a (a ∷ l)) (occ-head a l))))
+    go k (no d) = rw (getD-set-other ms a k 1 0 d, one-else k a (λ e. d (sym e)), zero-add (occ k l)) (g .is k)
 
-from : (f : ℕ) (n : ℕ → ℕ) (m : ℕ) (ms l : List ℕ) (a : ℕ) → m ≤ limit.POINTS → Marks ms l → Marks (markFrom f n m ms a) (reach f n m l a)
+from : (f : ℕ) (n : ℕ → ℕ) (m : ℕ) (ms l : List ℕ) (a : ℕ) → Marks m ms l → Marks m (markFrom f n m ms a) (reach f n m l a)
 unfolding markFrom reach
-from zero n m ms l a h g = g
-from (suc f) n m ms l a h g = rw (g .is a) (go (ltb a m) refl (isIn a l) (λ x. from f n m (set ms a 1) (a ∷ l) (n a) h x))
+from zero n m ms l a g = g
+from (suc f) n m ms l a g = rw (g .is a) (go (ltb a m) refl (isIn a l) (λ x. from f n m (set ms a 1) (a ∷ l) (n a) x))
   where
-    go : (b : Bool) → ltb a m ≡ b → (c : Bool) → (Marks (set ms a 1) (a ∷ l) → Marks (markFrom f n m (set ms a 1) (n a)) (reach f n m (a ∷ l) (n a)))
-        → Marks (cond (b && not c) (markFrom f n m (set ms a 1) (n a)) ms) (cond (b && not c) (reach f n m (a ∷ l) (n a)) l)
+    go : (b : Bool) → ltb a m ≡ b → (c : Bool) → (Marks m (set ms a 1) (a ∷ l) → Marks m (markFrom f n m (set ms a 1) (n a)) (reach f n m (a ∷ l) (n a)))
+        → Marks m (cond (b && not c) (markFrom f n m (set ms a 1) (n a)) ms) (cond (b && not c) (reach f n m (a ∷ l) (n a)) l)
     go false e c r = g
     go true e true r = g
-    go true e false r = r (one-more ms l a (omega (arith, ltb-true a m e)) g)
+    go true e false r = r (one-more m ms l a (ltb-true a m e) g)
 
-pub marks-are : (w : List ℕ) → pointsOf w ≤ limit.POINTS → (i : ℕ) → Marks (marksBy w i) (reachedBy w i)
+pub marks-are : (w ms : List ℕ) → Clear w ms → (i : ℕ) → Marks (pointsOf w) (marksBy w ms i) (reachedBy w i)
 unfolding marksBy reachedBy
-marks-are w h zero = none-marked
-marks-are w h (suc i) = from limit.POINTS (nextOf w) (pointsOf w) (marksBy w i) (reachedBy w i) (firstOf w i) h (marks-are w h i)
+marks-are w ms c zero = record { room = c .room; is = c .none }
+marks-are w ms c (suc i) = from limit.POINTS (nextOf w) (pointsOf w) (marksBy w ms i) (reachedBy w i) (firstOf w i) (marks-are w ms c i)
+
+-- marks that are all zero are clear
+zeros : (w : List ℕ) (n : ℕ) → pointsOf w ≤ n → Clear w (replicate n 0)
+zeros w n h = record { room = omega (arith, length-replicate {A = ℕ} n 0); none = λ k. go k (decLt k n) }
+  where
+    go : (k : ℕ) → Dec (k < n) → isMarked (replicate n 0) k ≡ false
+    go k (yes l) = rw (getD-replicate {A = ℕ} n k 0 0 l)
+    go k (no d) = rw (List·getD-eq-default (replicate {A = ℕ} n 0) 0 {n = k} (omega (arith, length-replicate {A = ℕ} n 0)))
 
 pub any-same : (n : ℕ) (q r : ℕ → Bool) → ((k : ℕ) → q k ≡ r k) → anyBelow n q ≡ anyBelow n r
 unfolding anyBelow
 any-same zero q r h = refl
 any-same (suc n) q r h = rw (any-same n q r h, h n)
 
-module _ (w : List ℕ) (h : pointsOf w ≤ limit.POINTS) where
-  any-marked-is : (t : PointTest) → anyMarked w (marksBy w (recordsOf w)) t ≡ anyReached w (fails t w)
+-- ---- the tests by the marks
+
+module _ (w ms : List ℕ) (c : Clear w ms) where
+  any-marked-is : (t : PointTest) → anyMarked w (marksBy w ms (recordsOf w)) t ≡ anyReached w (fails t w)
   any-marked-is t =
-      any-same (pointsOf w) (λ k. isMarked (marksBy w (recordsOf w)) k && fails t w k) (λ k. isIn k (reachedBy w (recordsOf w)) && fails t w k)
-      (λ k. ap (λ (b : Bool). b && fails t w k) (marks-are w h (recordsOf w) .is k))
+      any-same (pointsOf w) (λ k. isMarked (marksBy w ms (recordsOf w)) k && fails t w k) (λ k. isIn k (reachedBy w (recordsOf w)) && fails t w k)
+      (λ k. ap (λ (b : Bool). b && fails t w k) (marks-are w ms c (recordsOf w) .is k))
 
-  meets-is : anyRecord w (meets w) ≡ anyRecord w (shared w)
-  meets-is = any-same (recordsOf w) (meets w) (shared w) (λ i. marks-are w h i .is (firstOf w i))
+  pub meets-is : anyRecord w (meets w ms) ≡ anyRecord w (shared w)
+  meets-is = any-same (recordsOf w) (meets w ms) (shared w) (λ i. marks-are w ms c i .is (firstOf w i))
 
-  tested-is : crowded w ≡ false → pointsTested w ≡ testsOf w
-  unfolding pointsTested linksOf testsOf
+  tested-is : crowded w ≡ false → passesOf w (marksBy w ms (recordsOf w)) (anyRecord w (meets w ms)) ≡ testsOf w
+  unfolding linksOf testsOf
   tested-is e = rw (e, any-marked-is Table, any-marked-is Numbers, any-marked-is Links, meets-is)
 
--- before the walks no point is marked
-pub blank : (w : List ℕ) (k : ℕ) → isMarked (marksBy w 0) k ≡ false
-unfolding marksBy
-blank w k = none-marked .is k
+  pub in-order : (ms′ : List ℕ) (s : Bool) (r : Verdict) → Counted w → AllMarked w ms ms′ s → r ≡ passesOf w ms′ s → r ≡ testsOf w
+  in-order ms′ s r h a e =
+      e ∙ ap (λ (l : List ℕ). passesOf w l s) (a .marks) ∙ ap (passesOf w (marksBy w ms (recordsOf w))) (a .shares)
+      ∙ tested-is (rw (le-ltb limit.POINTS (pointsOf w) (h .points), le-ltb limit.RECORDS (recordsOf w) (h .records)))
 
 -- ---- as the code asks
-
-pub no-marks : (w : List ℕ) → replicate {A = ℕ} limit.POINTS 0 ≡ marksBy w 0
-unfolding marksBy
-no-marks w = refl
 
 counts : (a b : Bool) → (a || b) ≡ false → (a ≡ false) × (b ≡ false)
 counts false false e = (refl, refl)
@@ -96,5 +94,8 @@ counted w b l e h =
     let q = counts (ltb limit.POINTS (pointsOf w)) (ltb limit.RECORDS (recordsOf w)) (sym e ∙ h) in
     record { long = l; points = ltb-false limit.POINTS (pointsOf w) (q .0); records = ltb-false limit.RECORDS (recordsOf w) (q .1) }
 
-pub all-tested : (w : List ℕ) (b : Bool) (r : Verdict) → LENGTH ≤ length w → b ≡ crowded w → b ≡ false → r ≡ pointsTested w → r ≡ testsOf w
-all-tested w b r l e h g = g ∙ tested-is w (counted w b l e h .points) (sym e ∙ h)
+pub few-zeros : (w : List ℕ) (m n : ℕ) → m ≡ pointsOf w → m ≤ n → Clear w (replicate n 0)
+few-zeros w m n e h = zeros w n (omega arith)
+
+pub all-zeros : (w : List ℕ) → Counted w → Clear w (replicate limit.POINTS 0)
+all-zeros w h = zeros w limit.POINTS (h .points)

@@ -1,27 +1,28 @@
 -- The loops of the tests, one turn at a time: each law's premises are what the callees ensure, and the branches.
-use Prim.Native.Nat.{ℕ, zero, suc, _+_, _-_, _%_, _≤_, _<_}
+use Prim.Native.Nat.{ℕ, zero, suc, _+_, _-_, _*_, _%_, _≤_, _<_}
 use mathlib.Core.Path.{_≡_, refl, ap, _∙_, sym, subst}
 use mathlib.Core.Logic.{_≢_}
-use mathlib.Core.Bool.{Bool, true, false, not, _&&_, _||_}
+use mathlib.Core.Bool.{Bool, true, false, not, _&&_, _||_, or-false}
 use mathlib.Core.List.{List}
 use native.Mathlib.Omega.{arith}
 use native.Mathlib.Nat.{zero-add}
 use native.Mathlib.Numerals.{sub-one, add-one}
-use lib.Dec.{eqb}
-use lib.ListN.{getD, set}
+use lib.Dec.{eqb, ltb}
+use lib.ListN.{length, getD, set, List·getD-eq-default}
 use borrow.Author.Tests.{eq-eqb, ne-eqb, lt-ltb, le-ltb}
 use Rattle.rings.specs.Count.{one, occ}
 use Rattle.rings.specs.Walk.{run}
 use Rattle.rings.proofs.Counting.{one-here, one-else}
 use Rattle.job.specs.Limits as limit
-use Rattle.store.specs.Field.{NONE}
-use Rattle.store.specs.Named.{pointsOf, recordsOf, nextOf, firstOf, flagsOf, progressOf, presentOf, ringOf}
+use Rattle.store.specs.Field.{pt, X, Y, NONE}
+use Rattle.store.specs.Words.{view}
+use Rattle.store.specs.Named.{pointsOf, recordsOf, nextOf, prevOf, recOf, firstOf, flagsOf, progressOf, presentOf, ringOf}
 use Rattle.job.specs.declared.refusal.Refusal.the-variants.{Crowded, OffTheTable, NoSuch, Loose, Muddled}
 use Rattle.audit.specs.declared.Verdict.{Verdict}
 use Rattle.audit.specs.declared.Verdict.the-variants.{Passed, Refused}
 use Rattle.audit.specs.declared.PointTest.the-variants.{Table, Numbers, Links}
 use Rattle.audit.specs.Tests.{isIn, anyBelow, anyRecord, crowded, noSuchOf, misplaced, testsOf, lostTaker, untold}
-use Rattle.audit.specs.Marks.{isMarked, markFrom, marksBy, meets, AllMarked, anyMarked, linksOf, passesOf, recordsOnly, pointsTested}
+use Rattle.audit.specs.Marks.{isMarked, markFrom, marksBy, meets, AllMarked, faulty, faultyOf, anyMarked, linksOf, passesOf}
 
 -- ---- the first number below n that fails
 
@@ -63,13 +64,13 @@ both-yes a r x y e h g = rw (sym e ∙ h) g
 pub both-no : (a x y : Bool) → a ≡ x → a ≡ false → false ≡ (x && y)
 both-no a x y e h = rw (sym e ∙ h)
 
+pub or-yes : (x y : Bool) → x ≡ true → true ≡ (x || y)
+or-yes x y h = rw h
+
 -- ---- marking
 
-pub unmarked : (ms : List ℕ) (k : ℕ) → limit.POINTS ≤ k → false ≡ isMarked ms k
-unmarked ms k h = rw (le-ltb k limit.POINTS h)
-
-pub marked-at : (ms : List ℕ) (k : ℕ) → k < limit.POINTS → not (eqb (getD ms k 0) 0) ≡ isMarked ms k
-marked-at ms k h = rw (lt-ltb k limit.POINTS h)
+pub unmarked : (ms : List ℕ) (k : ℕ) → length ms ≤ k → false ≡ isMarked ms k
+unmarked ms k h = rw (List·getD-eq-default ms 0 h)
 
 module _ (n : ℕ → ℕ) (m p : ℕ) (ms F : List ℕ) where
   pub mark-out : (k c : ℕ) → c ≡ m → c ≤ p → markFrom k n m ms p ≡ F → ms ≡ F
@@ -77,31 +78,46 @@ module _ (n : ℕ → ℕ) (m p : ℕ) (ms F : List ℕ) where
   mark-out zero c d h e = e
   mark-out (suc k) c d h e = rw (le-ltb p m (omega arith)) at e
 
-  pub mark-met : (k c : ℕ) → m ≤ limit.POINTS → c ≡ m → p < c → getD ms p 0 ≢ 0 → markFrom k n m ms p ≡ F → ms ≡ F
+  pub mark-met : (k c : ℕ) → c ≡ m → p < c → getD ms p 0 ≢ 0 → markFrom k n m ms p ≡ F → ms ≡ F
   unfolding markFrom
-  mark-met zero c f d l h e = e
-  mark-met (suc k) c f d l h e = rw (lt-ltb p m (omega arith), lt-ltb p limit.POINTS (omega arith), ne-eqb (getD ms p 0) 0 h) at e
+  mark-met zero c d l h e = e
+  mark-met (suc k) c d l h e = rw (lt-ltb p m (omega arith), ne-eqb (getD ms p 0) 0 h) at e
 
-  pub mark-on : (k c q : ℕ) → 0 < k → m ≤ limit.POINTS → c ≡ m → p < c → getD ms p 0 ≡ 0 → q ≡ n p → markFrom k n m ms p ≡ F → markFrom (k - 1) n m (set ms p 1) q ≡ F
+  pub mark-on : (k c q : ℕ) → 0 < k → c ≡ m → p < c → getD ms p 0 ≡ 0 → q ≡ n p → markFrom k n m ms p ≡ F → markFrom (k - 1) n m (set ms p 1) q ≡ F
   unfolding markFrom
-  mark-on zero c q z f d l h g e = absurd (omega arith)
-  mark-on (suc k) c q z f d l h g e = rw (sub-one, g) (rw (lt-ltb p m (omega arith), lt-ltb p limit.POINTS (omega arith), eq-eqb (getD ms p 0) 0 h) at e)
+  mark-on zero c q z d l h g e = absurd (omega arith)
+  mark-on (suc k) c q z d l h g e = rw (sub-one, g) (rw (lt-ltb p m (omega arith), eq-eqb (getD ms p 0) 0 h) at e)
 
   pub mark-over : (k : ℕ) → k ≤ 0 → markFrom k n m ms p ≡ F → ms ≡ F
   unfolding markFrom
   mark-over zero z e = e
   mark-over (suc k) z e = absurd (omega arith)
 
-pub marks-more : (w : List ℕ) (i a : ℕ) (ms ms′ : List ℕ) → ms ≡ marksBy w i → a ≡ firstOf w i → ms′ ≡ markFrom limit.POINTS (nextOf w) (pointsOf w) ms a → ms′ ≡ marksBy w (i + 1)
-unfolding marksBy
-marks-more w i a ms ms′ e d g = rw add-one (g ∙ ap (λ (l : List ℕ). markFrom limit.POINTS (nextOf w) (pointsOf w) l a) e ∙ ap (markFrom limit.POINTS (nextOf w) (pointsOf w) (marksBy w i)) d)
+module _ (w ms₀ : List ℕ) where
+  pub marks-none : ms₀ ≡ marksBy w ms₀ 0
+  unfolding marksBy
+  marks-none = refl
 
-pub met-more : (w : List ℕ) (i a : ℕ) (ms : List ℕ) (s b : Bool) → s ≡ anyBelow i (meets w) → ms ≡ marksBy w i → a ≡ firstOf w i → b ≡ isMarked ms a → (s || b) ≡ anyBelow (i + 1) (meets w)
-unfolding anyBelow
-met-more w i a ms s b f e d g = rw (add-one, f, g, e, d)
+  pub marks-more : (i a : ℕ) (ms ms′ : List ℕ) → ms ≡ marksBy w ms₀ i → a ≡ firstOf w i → ms′ ≡ markFrom limit.POINTS (nextOf w) (pointsOf w) ms a → ms′ ≡ marksBy w ms₀ (i + 1)
+  unfolding marksBy
+  marks-more i a ms ms′ e d g = rw add-one (g ∙ ap (λ (l : List ℕ). markFrom limit.POINTS (nextOf w) (pointsOf w) l a) e ∙ ap (markFrom limit.POINTS (nextOf w) (pointsOf w) (marksBy w ms₀ i)) d)
 
-pub all-marked : (w : List ℕ) (n i : ℕ) (ms : List ℕ) (b : Bool) → n ≤ i → n ≡ recordsOf w → i ≤ recordsOf w → ms ≡ marksBy w i → b ≡ anyBelow i (meets w) → AllMarked w ms b
-all-marked w n i ms b h g k e f = let d : i ≡ recordsOf w = omega arith in record { marks = e ∙ ap (marksBy w) d; shares = f ∙ ap (λ (j : ℕ). anyBelow j (meets w)) d }
+  pub met-more : (i a : ℕ) (ms : List ℕ) (s b : Bool) → s ≡ anyBelow i (meets w ms₀) → ms ≡ marksBy w ms₀ i → a ≡ firstOf w i → b ≡ isMarked ms a → (s || b) ≡ anyBelow (i + 1) (meets w ms₀)
+  unfolding anyBelow
+  met-more i a ms s b f e d g = rw (add-one, f, g, e, d)
+
+  pub all-marked : (n i : ℕ) (ms : List ℕ) (b : Bool) → n ≤ i → n ≡ recordsOf w → i ≤ recordsOf w → ms ≡ marksBy w ms₀ i → b ≡ anyBelow i (meets w ms₀) → AllMarked w ms₀ ms b
+  all-marked n i ms b h g k e f = let d : i ≡ recordsOf w = omega arith in record { marks = e ∙ ap (marksBy w ms₀) d; shares = f ∙ ap (λ (j : ℕ). anyBelow j (meets w ms₀)) d }
+
+-- ---- a point, as a walk asks
+
+module _ (w : List ℕ) (k m a : ℕ) (em : m ≡ pointsOf w) (ea : a ≡ nextOf w k) where
+  pub point-astray : m ≤ a → true ≡ faulty w k
+  point-astray h = rw (le-ltb (nextOf w k) (pointsOf w) (omega arith))
+
+  pub point-else : (n x y r d : ℕ) → a < m → n ≡ recordsOf w → x ≡ view w (pt X) k → y ≡ view w (pt Y) k → r ≡ recOf w k → d ≡ prevOf w a
+      → ((ltb (2 * limit.COORDINATE) x || ltb (2 * limit.COORDINATE) y) || (not (ltb r n) || not (eqb d k))) ≡ faulty w k
+  point-else n x y r d h en ex ey er ed = rw (lt-ltb (nextOf w k) (pointsOf w) (omega arith), en, ex, ey, er, ed, ea)
 
 -- ---- whether a point is on a ring
 
@@ -153,6 +169,22 @@ module _ (w : List ℕ) (i f : ℕ) (ef : f ≡ firstOf w i) where
       pub misplaced-else : (p : ℕ) (b : Bool) → d ≤ 4 → d ≢ 4 → p ≡ presentOf w i → b ≡ isIn p (ringOf w f) → not b ≡ misplaced w i
       misplaced-else p b l n ep eb = rw (ringed, shut, le-ltb 4 (progressOf w i) (omega arith), lt-ltb (progressOf w i) 4 (omega arith), eb, ep, ef)
 
+-- ---- a record, all tests at once
+
+module _ (w : List ℕ) (i : ℕ) (a : Bool) (ea : a ≡ noSuchOf w i) where
+  pub record-unnamed : a ≡ true → true ≡ faultyOf w i
+  record-unnamed h = rw (sym ea ∙ h)
+
+  module _ (ha : a ≡ false) (f : ℕ) (ef : f ≡ firstOf w i) (r : Bool) where
+    pub record-bare : f ≡ NONE → r ≡ (lostTaker w i || untold w i) → r ≡ faultyOf w i
+    record-bare h e = rw (sym ea ∙ ha, eq-eqb (firstOf w i) NONE (sym ef ∙ h)) (rw (eq-eqb (firstOf w i) NONE (sym ef ∙ h)) at e)
+
+    pub record-ringed : f ≢ NONE → r ≡ misplaced w i → r ≡ faultyOf w i
+    record-ringed h e = rw (sym ea ∙ ha) (e ∙ sym (unkept (misplaced w i) (ne-eqb (firstOf w i) NONE (λ z. h (ef ∙ z)))))
+      where
+        unkept : (b : Bool) → eqb (firstOf w i) NONE ≡ false → (lostTaker w i || (b || untold w i)) ≡ b
+        unkept b z = rw z (or-false b)
+
 -- ---- the tests together
 
 module _ (w ms : List ℕ) (s a : Bool) (ea : a ≡ (anyMarked w ms Numbers || (anyRecord w (noSuchOf w) || anyRecord w (lostTaker w)))) where
@@ -165,38 +197,20 @@ module _ (w ms : List ℕ) (s a : Bool) (ea : a ≡ (anyMarked w ms Numbers || (
     unfolding linksOf
     says-loose h = rw (sym ea ∙ ha, sym eb ∙ h)
 
-    pub says-shared : b ≡ false → s ≡ true → Refused Muddled ≡ linksOf w ms s
-    unfolding linksOf
-    says-shared h k = rw (sym ea ∙ ha, sym eb ∙ h, k)
-
-    module _ (hb : b ≡ false) (hs : s ≡ false) (d : Bool) (ed : d ≡ (anyRecord w (misplaced w) || anyRecord w (untold w))) where
+    module _ (hb : b ≡ false) (d : Bool) (ed : d ≡ (s || (anyRecord w (misplaced w) || anyRecord w (untold w)))) where
       pub says-muddled : d ≡ true → Refused Muddled ≡ linksOf w ms s
       unfolding linksOf
-      says-muddled h = rw (sym ea ∙ ha, sym eb ∙ hb, hs, sym ed ∙ h)
+      says-muddled h = rw (sym ea ∙ ha, sym eb ∙ hb, sym ed ∙ h)
 
       pub says-passed : d ≡ false → Passed ≡ linksOf w ms s
       unfolding linksOf
-      says-passed h = rw (sym ea ∙ ha, sym eb ∙ hb, hs, sym ed ∙ h)
+      says-passed h = rw (sym ea ∙ ha, sym eb ∙ hb, sym ed ∙ h)
 
 pub says-off : (w ms : List ℕ) (s a : Bool) → a ≡ anyMarked w ms Table → a ≡ true → Refused OffTheTable ≡ passesOf w ms s
 says-off w ms s a e h = rw (sym e ∙ h)
 
 pub says-links : (w ms : List ℕ) (s a : Bool) (r : Verdict) → a ≡ anyMarked w ms Table → a ≡ false → r ≡ linksOf w ms s → r ≡ passesOf w ms s
 says-links w ms s a r e h g = rw (sym e ∙ h) g
-
-module _ (w : List ℕ) (s a : Bool) (ea : a ≡ (anyRecord w (noSuchOf w) || anyRecord w (lostTaker w))) where
-  pub only-no-such : a ≡ true → Refused NoSuch ≡ recordsOnly w s
-  only-no-such h = rw (sym ea ∙ h)
-
-  pub only-shared : a ≡ false → s ≡ true → Refused Muddled ≡ recordsOnly w s
-  only-shared h k = rw (sym ea ∙ h, k)
-
-  module _ (ha : a ≡ false) (hs : s ≡ false) (d : Bool) (ed : d ≡ (anyRecord w (misplaced w) || anyRecord w (untold w))) where
-    pub only-muddled : d ≡ true → Refused Muddled ≡ recordsOnly w s
-    only-muddled h = rw (sym ea ∙ ha, hs, sym ed ∙ h)
-
-    pub only-passed : d ≡ false → Passed ≡ recordsOnly w s
-    only-passed h = rw (sym ea ∙ ha, hs, sym ed ∙ h)
 
 pub says-crowded : (w : List ℕ) (b : Bool) → b ≡ crowded w → b ≡ true → Refused Crowded ≡ testsOf w
 unfolding testsOf

@@ -1,23 +1,28 @@
--- Points are tested as they are marked: where none was found to fail, no marked point fails a test.
+-- Points are tested as they are marked: where neither they nor a record are found to fail, the work space passes.
 use Prim.Native.Nat.{ℕ, _≤_, _<_}
 use mathlib.Core.Path.{_≡_, refl, ap, _∙_, sym}
-use mathlib.Core.Bool.{Bool, true, false, _&&_, _||_}
+use mathlib.Core.Bool.{Bool, true, false, not, _||_}
 use mathlib.Core.Logic.{_≢_}
-use mathlib.Core.List.{List}
+use mathlib.Core.List.{List, _∷_}
 use native.Mathlib.Omega.{arith}
 use native.Mathlib.Decide.{ℕ-discrete}
+use lib.Dec.{eqb, ltb}
 use lib.ListN.{getD, set}
 use lib.Seq.{getD-set-other}
+use borrow.Author.Tests.{eqb-true, ltb-true, not-false}
 use Rattle.job.specs.Limits as limit
-use Rattle.store.specs.Named.{pointsOf, recordsOf, nextOf}
-use Rattle.audit.specs.declared.Verdict.{Verdict}
-use Rattle.audit.specs.declared.PointTest.{PointTest}
-use Rattle.audit.specs.declared.PointTest.the-variants.{Table, Numbers, Links}
-use Rattle.audit.specs.Tests.{offTable, noSuch, loose, anyRecord}
-use Rattle.audit.specs.Marks.{isMarked, markFrom, marksBy, meets, fails, faulty, Tried, MarkedFrom, AllMarked, anyMarked, linksOf, passesOf, recordsOnly, pointsTested}
-use Rattle.audit.proofs.Saying.{all-none}
+use Rattle.rings.specs.Count.{occ}
+use Rattle.rings.proofs.Counting.{occ-head}
+use Rattle.rings.proofs.Members.{prev-on, next-prev}
+use Rattle.store.specs.Named.{pointsOf, recordsOf, nextOf, prevOf, recOf}
+use Rattle.audit.specs.declared.Verdict.the-variants.{Passed}
+use Rattle.audit.specs.Tests.{reachedBy, anyRecord, offTable, noSuch, loose, noSuchOf, lostTaker, misplaced, untold, testsOf}
+use Rattle.audit.specs.Marks.{Counted, Clear, isMarked, markFrom, faulty, faultyOf, Tried, MarkedFrom, AllMarked}
+use Rattle.audit.proofs.Reaching.{in-true}
+use Rattle.audit.proofs.Ringing.{RingAt, ring-at}
+use Rattle.audit.proofs.Saying.{none-of, all-none, none-reached, such-not, tied-not, passed}
 use Rattle.audit.proofs.Testing.{mark-out, mark-met, mark-over}
-use Rattle.audit.proofs.Marking.{blank}
+use Rattle.audit.proofs.Marking.{marks-are, meets-is}
 
 clash : {A : Type 0} {b : Bool} → b ≡ true → b ≡ false → A
 clash e f = absurd (let z : _≡_ {A = ℕ} 0 1 = cc in omega arith)
@@ -48,8 +53,8 @@ module _ {w ms₀ ms : List ℕ} {bad : Bool} (t : Tried w ms₀ ms bad) (a p m 
   pub walked-out : (k : ℕ) → m ≡ pointsOf w → m ≤ p → markFrom k (nextOf w) (pointsOf w) ms p ≡ markFrom limit.POINTS (nextOf w) (pointsOf w) ms₀ a → MarkedFrom w ms₀ a ms bad
   walked-out k e h g = record { marks = mark-out (nextOf w) (pointsOf w) p ms (markFrom limit.POINTS (nextOf w) (pointsOf w) ms₀ a) k m e h g; tried = t }
 
-  pub walked-met : (k : ℕ) → pointsOf w ≤ limit.POINTS → m ≡ pointsOf w → p < m → getD ms p 0 ≢ 0 → markFrom k (nextOf w) (pointsOf w) ms p ≡ markFrom limit.POINTS (nextOf w) (pointsOf w) ms₀ a → MarkedFrom w ms₀ a ms bad
-  walked-met k f e l h g = record { marks = mark-met (nextOf w) (pointsOf w) p ms (markFrom limit.POINTS (nextOf w) (pointsOf w) ms₀ a) k m f e l h g; tried = t }
+  pub walked-met : (k : ℕ) → m ≡ pointsOf w → p < m → getD ms p 0 ≢ 0 → markFrom k (nextOf w) (pointsOf w) ms p ≡ markFrom limit.POINTS (nextOf w) (pointsOf w) ms₀ a → MarkedFrom w ms₀ a ms bad
+  walked-met k e l h g = record { marks = mark-met (nextOf w) (pointsOf w) p ms (markFrom limit.POINTS (nextOf w) (pointsOf w) ms₀ a) k m e l h g; tried = t }
 
   pub walked-over : (k : ℕ) → k ≤ 0 → markFrom k (nextOf w) (pointsOf w) ms p ≡ markFrom limit.POINTS (nextOf w) (pointsOf w) ms₀ a → MarkedFrom w ms₀ a ms bad
   walked-over k z g = record { marks = mark-over (nextOf w) (pointsOf w) p ms (markFrom limit.POINTS (nextOf w) (pointsOf w) ms₀ a) k z g; tried = t }
@@ -58,35 +63,60 @@ module _ {w ms₀ ms : List ℕ} {bad : Bool} (t : Tried w ms₀ ms bad) (a p m 
 pub walked-more : {w ms₀ ms ms′ : List ℕ} {bad b : Bool} {a : ℕ} → Tried w ms₀ ms bad → MarkedFrom w ms a ms′ b → Tried w ms₀ ms′ (bad || b)
 walked-more t m = tried-both t (m .tried)
 
--- no marked point fails
-module _ (w ms : List ℕ) (t : Tried w (marksBy w 0) ms false) where
-  sound : (k : ℕ) → isMarked ms k ≡ true → faulty w k ≡ false
-  sound k m = t .good refl k m (blank w k)
+-- ---- nothing found: the work space passes
 
-  none-fails : (x : PointTest) → anyMarked w ms x ≡ false
-  none-fails x = all-none (pointsOf w) (λ k. isMarked ms k && fails x w k) (λ k l. by x k (isMarked ms k) refl)
-    where
-      part : (x : PointTest) (k : ℕ) → faulty w k ≡ false → fails x w k ≡ false
-      part Table k e = or-parts (offTable w k) (noSuch w k || loose w k) e .0
-      part Numbers k e = or-parts (noSuch w k) (loose w k) (or-parts (offTable w k) (noSuch w k || loose w k) e .1) .0
-      part Links k e = or-parts (noSuch w k) (loose w k) (or-parts (offTable w k) (noSuch w k || loose w k) e .1) .1
+-- what a point that a walk tested is known to be
+record Tested (w : List ℕ) (k : ℕ) : Type 0 where
+  next : nextOf w k < pointsOf w
+  table : offTable w k ≡ false
+  owner : recOf w k < recordsOf w
+  back : prevOf w (nextOf w k) ≡ k
 
-      by : (x : PointTest) (k : ℕ) (b : Bool) → isMarked ms k ≡ b → (b && fails x w k) ≡ false
-      by x k true e = part x k (sound k e)
-      by x k false e = refl
+tested : (w : List ℕ) (k : ℕ) → faulty w k ≡ false → Tested w k
+tested w k e =
+    let a = or-parts (not (ltb (nextOf w k) (pointsOf w))) (offTable w k || (not (ltb (recOf w k) (recordsOf w)) || not (eqb (prevOf w (nextOf w k)) k))) e in
+    let b = or-parts (offTable w k) (not (ltb (recOf w k) (recordsOf w)) || not (eqb (prevOf w (nextOf w k)) k)) (a .1) in
+    let c = or-parts (not (ltb (recOf w k) (recordsOf w))) (not (eqb (prevOf w (nextOf w k)) k)) (b .1) in
+    record {
+      next = ltb-true (nextOf w k) (pointsOf w) (not-false (ltb (nextOf w k) (pointsOf w)) (a .0));
+      table = b .0;
+      owner = ltb-true (recOf w k) (recordsOf w) (not-false (ltb (recOf w k) (recordsOf w)) (c .0));
+      back = eqb-true (prevOf w (nextOf w k)) k (not-false (eqb (prevOf w (nextOf w k)) k) (c .1));
+    }
 
-  only-records : (s : Bool) → passesOf w ms s ≡ recordsOnly w s
-  unfolding linksOf
-  only-records s = rw (none-fails Table, none-fails Numbers, none-fails Links)
+module _ (w ms ms′ : List ℕ) (s b : Bool) (h : Counted w) (c : Clear w ms) (a : AllMarked w ms ms′ s) (t : Tried w ms ms′ b) (e : (b || s) ≡ false) where
+  good : (k : ℕ) → 0 < occ k (reachedBy w (recordsOf w)) → Tested w k
+  good k o = tested w k (t .good (or-parts b s e .0) k (ap (λ (l : List ℕ). isMarked l k) (a .marks) ∙ marks-are w ms c (recordsOf w) .is k ∙ in-true k (reachedBy w (recordsOf w)) o) (c .none k))
 
--- the tests after the counts
-module _ (w ms : List ℕ) (s : Bool) (m : AllMarked w ms s) where
-  by-passes : passesOf w ms s ≡ pointsTested w
-  unfolding pointsTested
-  by-passes = ap (λ (l : List ℕ). passesOf w l s) (m .marks) ∙ ap (passesOf w (marksBy w (recordsOf w))) (m .shares)
+  module _ (k : ℕ) (o : 0 < occ k (reachedBy w (recordsOf w))) where
+    g : RingAt w (h .points) (λ j q. good j q .next) (λ j q. good j q .back) k
+    g = ring-at w (h .points) (λ j q. good j q .next) (λ j q. good j q .back) k o
 
-  pub passes : (r : Verdict) → r ≡ passesOf w ms s → r ≡ pointsTested w
-  passes r e = e ∙ by-passes
+    numbered : noSuch w k ≡ false
+    numbered = such-not w k (good k o .next) (g .ring .below (prevOf w k) (prev-on (nextOf w) (prevOf w) (pointsOf w) (k ∷ g .others) (g .ring) k (occ-head k (g .others)))) (good k o .owner)
 
-  pub records : (ms₀ : List ℕ) (b : Bool) (r : Verdict) → ms₀ ≡ marksBy w 0 → Tried w ms₀ ms b → b ≡ false → r ≡ recordsOnly w s → r ≡ pointsTested w
-  records ms₀ b r z t h e = e ∙ sym (only-records w ms (rw (z, h) at t) s) ∙ by-passes
+    linked : loose w k ≡ false
+    linked = tied-not w k (next-prev (nextOf w) (prevOf w) (pointsOf w) (k ∷ g .others) (g .ring) k (occ-head k (g .others))) (good k o .back)
+
+  module _ (f : Bool) (ef : f ≡ anyRecord w (faultyOf w)) (ff : f ≡ false) where
+    parts : (i : ℕ) → i < recordsOf w → (noSuchOf w i ≡ false) × (lostTaker w i ≡ false) × (misplaced w i ≡ false) × (untold w i ≡ false)
+    parts i l =
+        let x = or-parts (noSuchOf w i) (lostTaker w i || (misplaced w i || untold w i)) (none-of (recordsOf w) (faultyOf w) (sym ef ∙ ff) i l) in
+        let y = or-parts (lostTaker w i) (misplaced w i || untold w i) (x .1) in
+        let z = or-parts (misplaced w i) (untold w i) (y .1) in
+        (x .0, y .0, z .0, z .1)
+
+    pub nothing : Passed ≡ testsOf w
+    nothing =
+        sym (passed w (record {
+          points = h .points;
+          records = h .records;
+          placed = none-reached w (offTable w) (λ k o. good k o .table);
+          numbered = none-reached w (noSuch w) numbered;
+          owned = all-none (recordsOf w) (noSuchOf w) (λ i l. parts i l .0);
+          taken = all-none (recordsOf w) (lostTaker w) (λ i l. parts i l .1);
+          tied = none-reached w (loose w) linked;
+          apart = sym (meets-is w ms c) ∙ sym (a .shares) ∙ or-parts b s e .1;
+          meant = all-none (recordsOf w) (misplaced w) (λ i l. parts i l .2);
+          told-all = all-none (recordsOf w) (untold w) (λ i l. parts i l .3);
+        }))

@@ -4,13 +4,13 @@ use mathlib.Core.Path.{_≡_}
 use mathlib.Core.Bool.{Bool, true, false, cond, not, _&&_, _||_}
 use mathlib.Core.List.{List}
 use lib.Dec.{eqb, ltb}
-use lib.ListN.{length, getD, set, replicate}
+use lib.ListN.{length, getD, set}
 use Rattle.job.specs.Limits as limit
 use Rattle.job.specs.declared.refusal.Refusal.the-variants.{OffTheTable, NoSuch, Loose, Muddled}
 use Rattle.audit.specs.declared.Verdict.{Verdict}
 use Rattle.audit.specs.declared.Verdict.the-variants.{Passed, Refused}
 use Rattle.store.specs.Field.{LENGTH}
-use Rattle.store.specs.Named.{pointsOf, recordsOf, nextOf, firstOf}
+use Rattle.store.specs.Named.{pointsOf, recordsOf, nextOf, prevOf, recOf, firstOf}
 use Rattle.audit.specs.Tests.{anyBelow, anyRecord, offTable, noSuch, loose, noSuchOf, lostTaker, misplaced, untold}
 use Rattle.audit.specs.declared.PointTest.{PointTest}
 use Rattle.audit.specs.declared.PointTest.the-variants.{Table, Numbers, Links}
@@ -23,9 +23,14 @@ pub record Counted (w : List ℕ) : Type 0 where
   pub points : pointsOf w ≤ limit.POINTS
   pub records : recordsOf w ≤ limit.RECORDS
 
--- a marked point: there is one mark for each point that a job may have
+-- a marked point
 abbrev pub isMarked : List ℕ → ℕ → Bool
-isMarked ms k = ltb k limit.POINTS && not (eqb (getD ms k 0) 0)
+isMarked ms k = not (eqb (getD ms k 0) 0)
+
+-- marks with a place for each point, none of them set
+pub record Clear (w ms : List ℕ) : Type 0 where
+  pub room : pointsOf w ≤ length ms
+  pub none : (k : ℕ) → isMarked ms k ≡ false
 
 -- the marks after a walk from a that ends at a number that names no point, or at a marked point
 unfoldable pub markFrom : ℕ → (ℕ → ℕ) → ℕ → List ℕ → ℕ → List ℕ
@@ -33,27 +38,29 @@ markFrom zero next m ms a = ms
 markFrom (suc f) next m ms a = cond (ltb a m && not (isMarked ms a)) (markFrom f next m (set ms a 1) (next a)) ms
 
 -- the marks after the walks from the first points of the records below i
-unfoldable pub marksBy : List ℕ → ℕ → List ℕ
-marksBy w zero = replicate limit.POINTS 0
-marksBy w (suc i) = markFrom limit.POINTS (nextOf w) (pointsOf w) (marksBy w i) (firstOf w i)
+unfoldable pub marksBy : List ℕ → List ℕ → ℕ → List ℕ
+marksBy w ms zero = ms
+marksBy w ms (suc i) = markFrom limit.POINTS (nextOf w) (pointsOf w) (marksBy w ms i) (firstOf w i)
 
 -- record i's first point was marked by the walks before
-abbrev pub meets : List ℕ → ℕ → Bool
-meets w i = isMarked (marksBy w i) (firstOf w i)
+abbrev pub meets : List ℕ → List ℕ → ℕ → Bool
+meets w ms i = isMarked (marksBy w ms i) (firstOf w i)
 
 -- what `mark_all` leaves: the marks of every reached point, and whether two records share a ring
-pub record AllMarked (w ms : List ℕ) (r : Bool) : Type 0 where
-  pub marks : ms ≡ marksBy w (recordsOf w)
-  pub shares : r ≡ anyBelow (recordsOf w) (λ i. meets w i)
+pub record AllMarked (w ms ms′ : List ℕ) (r : Bool) : Type 0 where
+  pub marks : ms′ ≡ marksBy w ms (recordsOf w)
+  pub shares : r ≡ anyBelow (recordsOf w) (λ i. meets w ms i)
 
 abbrev pub fails : PointTest → List ℕ → ℕ → Bool
 fails Table w k = offTable w k
 fails Numbers w k = noSuch w k
 fails Links w k = loose w k
 
--- a point fails one of the three
+-- a point fails a test that the walks ask: its coordinates, next and record, and prev of next
 abbrev pub faulty : List ℕ → ℕ → Bool
-faulty w k = offTable w k || (noSuch w k || loose w k)
+faulty w k =
+    not (ltb (nextOf w k) (pointsOf w))
+    || (offTable w k || (not (ltb (recOf w k) (recordsOf w)) || not (eqb (prevOf w (nextOf w k)) k)))
 
 -- of the points that walks have marked, whether one is faulty: if none was found, none is
 pub record Tried (w ms ms′ : List ℕ) (r : Bool) : Type 0 where
@@ -70,6 +77,10 @@ failsOf Taken w i = lostTaker w i
 failsOf Placed w i = misplaced w i
 failsOf Told w i = untold w i
 
+-- a record fails one of its four
+abbrev pub faultyOf : List ℕ → ℕ → Bool
+faultyOf w i = noSuchOf w i || (lostTaker w i || (misplaced w i || untold w i))
+
 -- a marked point fails the test
 abbrev pub anyMarked : List ℕ → List ℕ → PointTest → Bool
 anyMarked w ms t = anyBelow (pointsOf w) (λ k. isMarked ms k && fails t w k)
@@ -83,12 +94,3 @@ linksOf w ms shares =
 
 abbrev pub passesOf : List ℕ → List ℕ → Bool → Verdict
 passesOf w ms shares = cond (anyMarked w ms Table) (Refused OffTheTable) (linksOf w ms shares)
-
--- the same where no marked point fails a test
-abbrev pub recordsOnly : List ℕ → Bool → Verdict
-recordsOnly w shares =
-    cond (anyRecord w (λ i. noSuchOf w i) || anyRecord w (λ i. lostTaker w i)) (Refused NoSuch)
-    (cond (shares || (anyRecord w (λ i. misplaced w i) || anyRecord w (λ i. untold w i))) (Refused Muddled) Passed)
-
-unfoldable pub pointsTested : List ℕ → Verdict
-pointsTested w = passesOf w (marksBy w (recordsOf w)) (anyRecord w (λ i. meets w i))

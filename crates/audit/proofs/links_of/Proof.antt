@@ -1,6 +1,6 @@
 -- links_of meets its contract.
 use borrow.Author.Needs.{needs}
-use Rattle.audit.proofs.Testing.{says-no-such, says-loose, says-shared, says-muddled, says-passed}
+use Rattle.audit.proofs.Testing.{says-no-such, says-loose, says-muddled, says-passed}
 use Rattle.audit.proofs.links_of.Statement.{statement}
 use Rattle.audit.proofs.links_of.Tie as tie
 
@@ -12,7 +12,6 @@ links-of-spec =
     (λ c. search says-no-such)
     (λ c κs. search needs)
     (λ c. search says-loose)
-    (λ c. search says-shared)
     (λ c κs. search needs)
     (λ c. search says-muddled)
     (λ c. search says-passed))

@@ -1,7 +1,7 @@
 -- tests_of meets its contract.
 use borrow.Author.Needs.{needs}
 use Rattle.audit.proofs.Testing.{says-crowded}
-use Rattle.audit.proofs.Marking.{counted, all-tested}
+use Rattle.audit.proofs.Marking.{counted, few-zeros, all-zeros}
 use Rattle.audit.proofs.tests_of.Statement.{statement}
 use Rattle.audit.proofs.tests_of.Tie as tie
 
@@ -11,5 +11,10 @@ tests-of-spec =
     (tie.spec
     (λ c κs. search needs)
     (λ c. search says-crowded)
-    (λ c κs. search counted)
-    (λ c. search all-tested))
+    (λ c κs. search needs)
+    (λ c. search needs)
+    (λ c κs. (search counted, search few-zeros))
+    (λ c. search needs)
+    (λ c. search needs)
+    (λ c κs. (search counted, search (counted, all-zeros)))
+    (λ c. search needs))
