@@ -1,5 +1,6 @@
 // The tests of a record, one by one, and all of them at once.
 use job::Job;
+use store::AT_SPLIT;
 use store::Col;
 use store::JOINED;
 use store::NO_RING;
@@ -16,9 +17,6 @@ ghost use Rattle.store.specs.Field.{LENGTH};
 ghost use Rattle.store.specs.Named.{firstOf, ringOf};
 ghost use Rattle.audit.specs.Tests.{isIn, anyRecord, namesNothing, noSuchOf, lostTaker, misplaced, untold};
 ghost use Rattle.audit.specs.Marks.{faultyOf};
-
-// The last of the reasons that a record without a ring keeps.
-const LAST: usize = 5;
 
 fn names_nothing(n: usize, v: usize) -> bool
     ensures { λ r. ⌜ r ≡ namesNothing n v ⌝ }
@@ -56,7 +54,7 @@ pub fn untold(w: &[u32], i: usize) -> bool
 {
     let f = read(w, Col::First, i);
     let r = read(w, Col::Reason, i);
-    (f == NONE) & !((NO_RING <= r) & (r <= LAST))
+    (f == NONE) & !((NO_RING <= r) & (r <= AT_SPLIT))
 }
 
 // Whether k is on the ring that starts at a.
