@@ -9,7 +9,7 @@ use native.Mathlib.Decide.{ℕ-discrete}
 use lib.Dec.{eqb, ltb}
 use lib.ListN.{getD, set}
 use lib.Seq.{getD-set-other}
-use borrow.Author.Tests.{eqb-true, ltb-true, not-false}
+use borrow.Author.Tests.{eqb-true, ltb-true, not-true, not-false}
 use Rattle.job.specs.Limits as limit
 use Rattle.rings.specs.Count.{occ}
 use Rattle.rings.proofs.Counting.{occ-head}
@@ -17,7 +17,7 @@ use Rattle.rings.proofs.Members.{prev-on, next-prev}
 use Rattle.store.specs.Named.{pointsOf, recordsOf, nextOf, prevOf, recOf}
 use Rattle.audit.specs.declared.Verdict.the-variants.{Passed}
 use Rattle.audit.specs.Tests.{reachedBy, anyRecord, offTable, noSuch, loose, noSuchOf, lostTaker, misplaced, untold, testsOf}
-use Rattle.audit.specs.Marks.{Counted, Clear, isMarked, markFrom, faulty, faultyOf, Tried, MarkedFrom, AllMarked}
+use Rattle.audit.specs.Marks.{Counted, Clear, isMarked, markFrom, faulty, faultyOf, Tried, MarkedFrom, AllMarked, Looked}
 use Rattle.audit.proofs.Reaching.{in-true}
 use Rattle.audit.proofs.Ringing.{RingAt, ring-at}
 use Rattle.audit.proofs.Saying.{none-of, all-none, none-reached, such-not, tied-not, passed}
@@ -106,9 +106,9 @@ module _ (w ms ms′ : List ℕ) (s b : Bool) (h : Counted w) (c : Clear w ms) (
         let z = or-parts (misplaced w i) (untold w i) (y .1) in
         (x .0, y .0, z .0, z .1)
 
-    pub nothing : Passed ≡ testsOf w
+    nothing : testsOf w ≡ Passed
     nothing =
-        sym (passed w (record {
+        passed w (record {
           points = h .points;
           records = h .records;
           placed = none-reached w (offTable w) (λ k o. good k o .table);
@@ -119,4 +119,13 @@ module _ (w ms ms′ : List ℕ) (s b : Bool) (h : Counted w) (c : Clear w ms) (
           apart = sym (meets-is w ms c) ∙ sym (a .shares) ∙ or-parts b s e .1;
           meant = all-none (recordsOf w) (misplaced w) (λ i l. parts i l .2);
           told-all = all-none (recordsOf w) (untold w) (λ i l. parts i l .3);
-        }))
+        })
+
+  pub looked : (f : Bool) → f ≡ anyRecord w (faultyOf w) → Looked w (not f)
+  looked f ef = record { passes = λ h. nothing f ef (not-true f h) }
+
+pub found : (w : List ℕ) → Looked w false
+found w = record { passes = λ h. clash h refl }
+
+pub at-once : (w : List ℕ) (b : Bool) → Looked w b → b ≡ true → Passed ≡ testsOf w
+at-once w b l h = sym (l .passes h)

@@ -11,7 +11,7 @@ use Rattle.audit.specs.declared.Verdict.{Verdict}
 use Rattle.audit.specs.declared.Verdict.the-variants.{Passed, Refused}
 use Rattle.store.specs.Field.{LENGTH}
 use Rattle.store.specs.Named.{pointsOf, recordsOf, nextOf, prevOf, recOf, firstOf}
-use Rattle.audit.specs.Tests.{anyBelow, anyRecord, offTable, noSuch, loose, noSuchOf, lostTaker, misplaced, untold}
+use Rattle.audit.specs.Tests.{anyBelow, anyRecord, offTable, noSuch, loose, noSuchOf, lostTaker, misplaced, untold, testsOf}
 use Rattle.audit.specs.declared.PointTest.{PointTest}
 use Rattle.audit.specs.declared.PointTest.the-variants.{Table, Numbers, Links}
 use Rattle.audit.specs.declared.RecordTest.{RecordTest}
@@ -94,3 +94,7 @@ linksOf w ms shares =
 
 abbrev pub passesOf : List ℕ → List ℕ → Bool → Verdict
 passesOf w ms shares = cond (anyMarked w ms Table) (Refused OffTheTable) (linksOf w ms shares)
+
+-- what a look at everything at once finds: if nothing fails, the work space passes
+pub record Looked (w : List ℕ) (r : Bool) : Type 0 where
+  pub passes : r ≡ true → testsOf w ≡ Passed

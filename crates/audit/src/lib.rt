@@ -11,21 +11,21 @@ use crate::records::lost_taker;
 use crate::records::misplaced;
 use crate::records::no_such_of;
 use crate::records::untold;
-use crate::walks::is_marked;
+use crate::walks::any_marked;
 use crate::walks::mark_all;
 use job::Job;
 use job::refusal::Refusal;
 use store::Col;
 use store::get;
 ghost use mathlib.Core.Path.{_≡_};
-ghost use mathlib.Core.Bool.{_&&_, _||_};
+ghost use mathlib.Core.Bool.{_||_};
 ghost use Prim.Native.Nat.{_≤_};
 ghost use lib.ListN.{length};
 ghost use Rattle.store.specs.Field.{LENGTH};
 ghost use Rattle.store.specs.Named.{recordsOf};
 ghost use Rattle.audit.specs.Tests.{anyBelow, noSuchOf, lostTaker, misplaced, untold, crowded, anyRecord, testsOf};
 ghost use Rattle.audit.specs.declared.PointTest.the-variants.{Numbers};
-ghost use Rattle.audit.specs.Marks.{Counted, Clear, isMarked, fails, failsOf, anyMarked, linksOf, passesOf};
+ghost use Rattle.audit.specs.Marks.{Counted, Clear, Looked, fails, failsOf, anyMarked, linksOf, passesOf};
 
 // As many points as a small array has marks for: zeros for all that a job may have would cost a small one more than its tests.
 const FEW: usize = 64;
@@ -78,35 +78,6 @@ pub fn point_fails(w: &[u32], t: PointTest, k: usize) -> bool
             return loose(w, k);
         }
     }
-}
-
-// Whether the point is marked and fails the test.
-fn marked_fails(w: &[u32], marks: &[u8], t: PointTest, k: usize) -> bool
-    requires { ⌜ LENGTH ≤ length (now w) ⌝ }
-    ensures { λ r. ⌜ r ≡ (isMarked (now (marks .entry)) k && fails t (now (w .entry)) k) ⌝ }
-{
-    let marked = is_marked(marks, k);
-    if marked {
-        return point_fails(w, t, k);
-    }
-    false
-}
-
-// Whether a marked point fails the test.
-fn any_marked(w: &[u32], marks: &[u8], t: PointTest) -> bool
-    requires { ⌜ LENGTH ≤ length (now w) ⌝ }
-    ensures { λ r. ⌜ r ≡ anyMarked (now (w .entry)) (now (marks .entry)) t ⌝ }
-{
-    let m = get(w, Col::Points, 0);
-    let mut k: usize = 0;
-    while k < m {
-        let found = marked_fails(w, marks, t, k);
-        if found {
-            return true;
-        }
-        k += 1;
-    }
-    false
 }
 
 fn record_fails(w: &[u32], t: RecordTest, i: usize) -> bool
@@ -204,25 +175,46 @@ fn passes_of(w: &[u32], marks: &[u8], shares: bool) -> Verdict
     links_of(w, marks, shares)
 }
 
+// The tests after the counts, in their order.
+fn in_order(w: &[u32]) -> Verdict
+    requires { ⌜ Counted (now w) ⌝ }
+    ensures { λ r. ⌜ r ≡ testsOf (now (w .entry)) ⌝ }
+{
+    let mut marks = [0u8; Job::POINTS];
+    let walks = mark_all(w, &mut marks);
+    passes_of(w, &marks, walks.shared)
+}
+
 // ---- all tests at once
 
-// The tests after the counts: where a walk or a record finds one that fails, all of them again, in their order.
-fn points_of(w: &[u32], marks: &mut [u8]) -> Verdict
+// Whether neither the walks nor a turn through the records find anything that fails.
+fn none_found(w: &[u32], marks: &mut [u8]) -> bool
     requires { ⌜ Counted (now w) × Clear (now w) (now marks) ⌝ }
-    ensures { λ r. ⌜ r ≡ testsOf (now (w .entry)) ⌝ }
+    ensures { λ r. ⌜ Looked (now (w .entry)) r ⌝ }
 {
     let walks = mark_all(w, marks);
     if walks.bad | walks.shared {
-        return passes_of(w, marks, walks.shared);
+        return false;
     }
     let faulty = any_faulty(w);
-    if faulty {
-        return passes_of(w, marks, walks.shared);
-    }
-    Verdict::Passed
+    !faulty
 }
 
-// The tests of a work space that a step, or writing out after steps, is handed.
+// The same, with marks of its own.
+fn is_good(w: &[u32]) -> bool
+    requires { ⌜ Counted (now w) ⌝ }
+    ensures { λ r. ⌜ Looked (now (w .entry)) r ⌝ }
+{
+    let m = get(w, Col::Points, 0);
+    if m <= FEW {
+        let mut marks = [0u8; FEW];
+        return none_found(w, &mut marks);
+    }
+    let mut marks = [0u8; Job::POINTS];
+    none_found(w, &mut marks)
+}
+
+// The tests of a work space that a step, or writing out after steps, is handed: at once, and in their order only where something fails.
 pub fn tests_of(w: &[u32]) -> Verdict
     requires { ⌜ LENGTH ≤ length (now w) ⌝ }
     ensures { λ r. ⌜ r ≡ testsOf (now (w .entry)) ⌝ }
@@ -231,11 +223,9 @@ pub fn tests_of(w: &[u32]) -> Verdict
     if many {
         return Verdict::Refused(Refusal::Crowded);
     }
-    let m = get(w, Col::Points, 0);
-    if m <= FEW {
-        let mut marks = [0u8; FEW];
-        return points_of(w, &mut marks);
+    let good = is_good(w);
+    if good {
+        return Verdict::Passed;
     }
-    let mut marks = [0u8; Job::POINTS];
-    points_of(w, &mut marks)
+    in_order(w)
 }

@@ -1,16 +1,20 @@
 // The walks along next from the first points: points are marked, and tested as they are met.
+use crate::PointTest;
+use crate::point_fails;
 use crate::points::is_faulty;
 use job::Job;
 use store::Col;
 use store::get;
 ghost use mathlib.Core.Path.{_≡_};
+ghost use mathlib.Core.Bool.{_&&_};
 ghost use Prim.Native.Nat.{_≤_};
 ghost use lib.ListN.{length};
+ghost use Rattle.store.specs.Field.{LENGTH};
 ghost use Rattle.store.specs.Named.{pointsOf, recordsOf};
-ghost use Rattle.audit.specs.Marks.{Counted, isMarked, AllMarked, MarkedFrom, Tried};
+ghost use Rattle.audit.specs.Marks.{Counted, isMarked, AllMarked, MarkedFrom, Tried, fails, anyMarked};
 
 // Whether a number is a marked point.
-pub fn is_marked(marks: &[u8], k: usize) -> bool
+fn is_marked(marks: &[u8], k: usize) -> bool
     ensures { λ r. ⌜ r ≡ isMarked (now (marks .entry)) k ⌝ }
 {
     if k < marks.len() {
@@ -72,4 +76,35 @@ pub fn mark_all(w: &[u32], marks: &mut [u8]) -> Walks
         shared: shared,
         bad: bad,
     }
+}
+
+// ---- the marked points, by one test
+
+// Whether the point is marked and fails the test.
+fn marked_fails(w: &[u32], marks: &[u8], t: PointTest, k: usize) -> bool
+    requires { ⌜ LENGTH ≤ length (now w) ⌝ }
+    ensures { λ r. ⌜ r ≡ (isMarked (now (marks .entry)) k && fails t (now (w .entry)) k) ⌝ }
+{
+    let marked = is_marked(marks, k);
+    if marked {
+        return point_fails(w, t, k);
+    }
+    false
+}
+
+// Whether a marked point fails the test.
+pub fn any_marked(w: &[u32], marks: &[u8], t: PointTest) -> bool
+    requires { ⌜ LENGTH ≤ length (now w) ⌝ }
+    ensures { λ r. ⌜ r ≡ anyMarked (now (w .entry)) (now (marks .entry)) t ⌝ }
+{
+    let m = get(w, Col::Points, 0);
+    let mut k: usize = 0;
+    while k < m {
+        let found = marked_fails(w, marks, t, k);
+        if found {
+            return true;
+        }
+        k += 1;
+    }
+    false
 }

@@ -1,8 +1,8 @@
 -- marked_fails meets its contract.
 use borrow.Author.Needs.{needs}
 use Rattle.audit.proofs.Testing.{both-yes, both-no}
-use Rattle.audit.proofs.marked_fails.Statement.{statement}
-use Rattle.audit.proofs.marked_fails.Tie as tie
+use Rattle.audit.proofs.walks.marked_fails.Statement.{statement}
+use Rattle.audit.proofs.walks.marked_fails.Tie as tie
 
 pub marked-fails-spec : {M : Type 1} → statement M
 marked-fails-spec =

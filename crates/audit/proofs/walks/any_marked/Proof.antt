@@ -7,8 +7,8 @@ use Rattle.store.specs.Named.{pointsOf}
 use Rattle.audit.specs.Tests.{anyBelow}
 use Rattle.audit.specs.Marks.{isMarked, fails}
 use Rattle.audit.proofs.Testing.{none, more, hit, whole}
-use Rattle.audit.proofs.any_marked.Statement.{statement}
-use Rattle.audit.proofs.any_marked.Tie as tie
+use Rattle.audit.proofs.walks.any_marked.Statement.{statement}
+use Rattle.audit.proofs.walks.any_marked.Tie as tie
 
 abbrev Inv-loop : tie.InvT-loop
 Inv-loop w marks t m k₀ k = (k ≤ pointsOf w) × (anyBelow k (λ j. isMarked marks j && fails t w j) ≡ false)
