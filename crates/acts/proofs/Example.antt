@@ -73,7 +73,7 @@ good-0 =
       owner = inl refl;
       meant = λ c. omega arith;
       going = λ c e. rw ring-0 (omega arith);
-      told = λ e. absurd (true≢false (sym e));
+      explained = λ e. absurd (true≢false (sym e));
     }
 
 once : (k : ℕ) → occ k (0 ∷ 1 ∷ 2 ∷ []) ≤ 1

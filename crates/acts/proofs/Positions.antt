@@ -102,7 +102,7 @@ module _ (s : Store) (i x : ℕ) (l : List ℕ) (f : ℕ) (st : Option ℕ) (d :
         owner = ow;
         meant = λ c. rw (a .mark-is) (mark-le d);
         going = λ c e. rw (occ-from (s (rc PRESENT) i), a .present-is) (occ-head x l);
-        told = λ e. absurd (true≢false (sym e ∙ ringed));
+        explained = λ e. absurd (true≢false (sym e ∙ ringed));
       }
 
   -- no new record, and no point but the record's own and fresh ones: the store is sound

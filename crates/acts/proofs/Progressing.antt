@@ -191,7 +191,7 @@ module _ (W : Type 0) (s : Store) (o : Sound s) (i : ℕ) (c : Closed s i) where
         owner = o .good i (c .known) .owner;
         meant = λ z. absurd (no-ring (z .ringed) n);
         going = λ z q. absurd (no-ring (z .ringed) n);
-        told = λ z. record { kept = ap isKept w ∙ discard-kept y; taker = λ q. absurd (not-joined y (sym w ∙ q)) };
+        explained = λ z. record { kept = ap isKept w ∙ discard-kept y; taker = λ q. absurd (not-joined y (sym w ∙ q)) };
       } in
       record {
         kept = local-kept s s′ o i (c .known) (local s s′ i (discards y));

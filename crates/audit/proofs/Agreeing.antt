@@ -119,11 +119,11 @@ module _ (w : List ℕ) (s : Sound (view w)) where
         placed = none-reached w (offTable w) on-table;
         numbered = none-reached w (noSuch w) numbered;
         owned = all-none (recordsOf w) (noSuchOf w) (λ i h. owned-not w i (s .good i h .owner) (first-is i h));
-        taken = all-none (recordsOf w) (lostTaker w) (λ i h. taker-not w i (s .good i h .told));
+        taken = all-none (recordsOf w) (lostTaker w) (λ i h. taker-not w i (s .good i h .explained));
         tied = none-reached w (loose w) tied;
         apart = all-none (recordsOf w) (shared w) (λ j h. alone-not w j (apart j h));
         meant = all-none (recordsOf w) (misplaced w) placed;
-        told-all = all-none (recordsOf w) (untold w) (λ i h. untold-not w i (s .good i h .told));
+        explained-all = all-none (recordsOf w) (untold w) (λ i h. untold-not w i (s .good i h .explained));
       }
 
 pub passed-sound : (w : List ℕ) → testsOf w ≡ Passed → Sound (view w)

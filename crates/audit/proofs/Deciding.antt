@@ -24,7 +24,7 @@ use Rattle.store.proofs.Soundness.{whole}
 use Rattle.audit.specs.Tests.{reachedBy, offTable, noSuch, noSuchOf, lostTaker, loose, shared, misplaced, untold}
 use Rattle.audit.proofs.Reaching.{Reached, reached}
 use Rattle.audit.proofs.Ringing.{along, ring-at}
-use Rattle.audit.proofs.Saying.{none-of, reached-none, on-table, such, tied, owned, told, alone, mark-low, place-on, Passing, Placed, Numbered, Tied}
+use Rattle.audit.proofs.Saying.{none-of, reached-none, on-table, such, tied, owned, explained, alone, mark-low, place-on, Passing, Placed, Numbered, Tied}
 
 -- ---- the tests pass: the store is sound
 
@@ -149,7 +149,7 @@ module _ (w : List ℕ) (t : Passing w) where
         owner = owned w i (none-of (recordsOf w) (noSuchOf w) (t .owned) i h) .owner;
         meant = λ c. mark-low w i (c .ringed) (c .closed) a;
         going = λ c e. place-on w i (c .ringed) (c .closed) a (not-done (progressOf w i) e);
-        told = λ e. told w i e (none-of (recordsOf w) (lostTaker w) (t .taken) i h) (none-of (recordsOf w) (untold w) (t .told-all) i h);
+        explained = λ e. explained w i e (none-of (recordsOf w) (lostTaker w) (t .taken) i h) (none-of (recordsOf w) (untold w) (t .explained-all) i h);
       }
 
   pub passing-sound : Sound (view w)

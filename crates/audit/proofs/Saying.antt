@@ -15,7 +15,7 @@ use Rattle.store.specs.Field.{pt, X, Y, NONE}
 use Rattle.store.specs.Words.{view}
 use Rattle.store.specs.Named.{pointsOf, recordsOf, nextOf, prevOf, recOf, ownerOf, firstOf, progressOf, presentOf, keptOf, takerOf}
 use Rattle.store.specs.Reason.{JOINED, isKept}
-use Rattle.store.specs.Good.{Told}
+use Rattle.store.specs.Good.{Explained}
 use Rattle.store.specs.Sound.{ringless, ringAt, isOpen}
 use Rattle.audit.specs.declared.Verdict.the-variants.{Passed, Refused}
 use Rattle.audit.specs.Tests.{isIn, anyBelow, anyReached, anyRecord, reachedBy, crowded, offTable, noSuch, noSuchOf, namesNothing, lostTaker, loose, shared, misplaced, untold, testsOf}
@@ -150,15 +150,15 @@ module _ (w : List ℕ) (i : ℕ) where
 
   -- of a record without a ring: why it has none
   module _ (r : ringless (view w) i ≡ true) where
-    pub told : lostTaker w i ≡ false → untold w i ≡ false → Told (view w) i
-    told e u =
+    pub explained : lostTaker w i ≡ false → untold w i ≡ false → Explained (view w) i
+    explained e u =
         record {
           kept = not-false (isKept (keptOf w i)) (and-true (ringless (view w) i) (not (isKept (keptOf w i))) u r);
           taker = λ z. not-below (takerOf w i) (recordsOf w)
               (and-true (eqb (keptOf w i) JOINED) (not (ltb (takerOf w i) (recordsOf w))) (and-true (ringless (view w) i) (eqb (keptOf w i) JOINED && not (ltb (takerOf w i) (recordsOf w))) e r) (eq-eqb (keptOf w i) JOINED z));
         }
 
-  pub taker-not : (ringless (view w) i ≡ true → Told (view w) i) → lostTaker w i ≡ false
+  pub taker-not : (ringless (view w) i ≡ true → Explained (view w) i) → lostTaker w i ≡ false
   taker-not h = go (ringless (view w) i) refl (ℕ-discrete (keptOf w i) JOINED)
     where
       go : (b : Bool) → ringless (view w) i ≡ b → Dec (keptOf w i ≡ JOINED) → (b && (eqb (keptOf w i) JOINED && not (ltb (takerOf w i) (recordsOf w)))) ≡ false
@@ -166,7 +166,7 @@ module _ (w : List ℕ) (i : ℕ) where
       go true e (yes z) = rw (eq-eqb (keptOf w i) JOINED z, lt-ltb (takerOf w i) (recordsOf w) (h e .taker z))
       go true e (no z) = rw (ne-eqb (keptOf w i) JOINED z)
 
-  pub untold-not : (ringless (view w) i ≡ true → Told (view w) i) → untold w i ≡ false
+  pub untold-not : (ringless (view w) i ≡ true → Explained (view w) i) → untold w i ≡ false
   untold-not h = go (ringless (view w) i) refl
     where
       go : (b : Bool) → ringless (view w) i ≡ b → (b && not (isKept (keptOf w i))) ≡ false
@@ -231,7 +231,7 @@ module _ (w : List ℕ) where
     pub tied : anyReached w (loose w) ≡ false
     pub apart : anyRecord w (shared w) ≡ false
     pub meant : anyRecord w (misplaced w) ≡ false
-    pub told-all : anyRecord w (untold w) ≡ false
+    pub explained-all : anyRecord w (untold w) ≡ false
 
   pub passing : testsOf w ≡ Passed → Passing
   unfolding testsOf
@@ -252,9 +252,9 @@ module _ (w : List ℕ) where
         tied = o .links;
         apart = m .0;
         meant = u .0;
-        told-all = u .1;
+        explained-all = u .1;
       }
 
   pub passed : Passing → testsOf w ≡ Passed
   unfolding testsOf
-  passed p = rw (le-ltb limit.POINTS (pointsOf w) (p .points), le-ltb limit.RECORDS (recordsOf w) (p .records), p .placed, p .numbered, p .owned, p .taken, p .tied, p .apart, p .meant, p .told-all)
+  passed p = rw (le-ltb limit.POINTS (pointsOf w) (p .points), le-ltb limit.RECORDS (recordsOf w) (p .records), p .placed, p .numbered, p .owned, p .taken, p .tied, p .apart, p .meant, p .explained-all)

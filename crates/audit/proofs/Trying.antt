@@ -118,7 +118,7 @@ module _ (w ms ms′ : List ℕ) (s b : Bool) (h : Counted w) (c : Clear w ms) (
           tied = none-reached w (loose w) linked;
           apart = sym (meets-is w ms c) ∙ sym (a .shares) ∙ or-parts b s e .1;
           meant = all-none (recordsOf w) (misplaced w) (λ i l. parts i l .2);
-          told-all = all-none (recordsOf w) (untold w) (λ i l. parts i l .3);
+          explained-all = all-none (recordsOf w) (untold w) (λ i l. parts i l .3);
         })
 
   pub looked : (f : Bool) → f ≡ anyRecord w (faultyOf w) → Looked w (not f)

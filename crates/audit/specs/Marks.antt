@@ -15,7 +15,7 @@ use Rattle.audit.specs.Tests.{anyBelow, anyRecord, offTable, noSuch, loo
 use Rattle.audit.specs.declared.PointTest.{PointTest}
 use Rattle.audit.specs.declared.PointTest.the-variants.{Table, Numbers, Links}
 use Rattle.audit.specs.declared.RecordTest.{RecordTest}
-use Rattle.audit.specs.declared.RecordTest.the-variants.{Named, Taken, Placed, Told}
+use Rattle.audit.specs.declared.RecordTest.the-variants.{Named, Taken, Placed, Explained}
 
 -- a work space whose counts are within the limits
 pub record Counted (w : List ℕ) : Type 0 where
@@ -75,7 +75,7 @@ abbrev pub failsOf : RecordTest → List ℕ → ℕ → Bool
 failsOf Named w i = noSuchOf w i
 failsOf Taken w i = lostTaker w i
 failsOf Placed w i = misplaced w i
-failsOf Told w i = untold w i
+failsOf Explained w i = untold w i
 
 -- a record fails one of its four
 abbrev pub faultyOf : List ℕ → ℕ → Bool

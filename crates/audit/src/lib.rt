@@ -48,7 +48,7 @@ pub enum RecordTest {
     Named,
     Taken,
     Placed,
-    Told,
+    Explained,
 }
 
 // Whether a count is above its limit.
@@ -94,7 +94,7 @@ fn record_fails(w: &[u32], t: RecordTest, i: usize) -> bool
         RecordTest::Placed => {
             return misplaced(w, i);
         }
-        RecordTest::Told => {
+        RecordTest::Explained => {
             return untold(w, i);
         }
     }
@@ -139,7 +139,7 @@ fn any_muddled(w: &[u32], shares: bool) -> bool
         return true;
     }
     let a = any_record(w, RecordTest::Placed);
-    let b = any_record(w, RecordTest::Told);
+    let b = any_record(w, RecordTest::Explained);
     a | b
 }
 

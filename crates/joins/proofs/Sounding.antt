@@ -10,14 +10,14 @@ use Rattle.store.specs.Field.{pt, rc, REC, MARK, PRESENT}
 use Rattle.store.specs.Words.{Store}
 use Rattle.store.specs.Sound.{pts, ringAt, dueAt, Closed}
 use Rattle.store.specs.Reason.{NO-RING, JOINED}
-use Rattle.store.specs.Good.{Told, Sound}
+use Rattle.store.specs.Good.{Explained, Sound}
 use Rattle.joins.specs.Resolved.{Emptied, Resolved}
 use Rattle.joins.proofs.Resolving.{res-low}
 use Rattle.joins.proofs.Homes.{table}
 
-emptied-told : (s : Store) (i : ℕ) → Emptied s i → Told s i
-emptied-told s i (inl e) = record { kept = rw e; taker = λ z. absurd (let y : NO-RING ≡ JOINED = sym e ∙ z in omega arith) }
-emptied-told s i (inr e) = record { kept = rw (e .0); taker = λ z. e .1 }
+emptied-explained : (s : Store) (i : ℕ) → Emptied s i → Explained s i
+emptied-explained s i (inl e) = record { kept = rw e; taker = λ z. absurd (let y : NO-RING ≡ JOINED = sym e ∙ z in omega arith) }
+emptied-explained s i (inr e) = record { kept = rw (e .0); taker = λ z. e .1 }
 
 -- with marks that mean something, and present places on their rings, the store is sound
 pub resolved-sound : (s : Store) → Resolved s → ((i : ℕ) → Closed s i → s (rc MARK) i ≤ 4) → ((i : ℕ) → Closed s i → isDone (dueAt s i) ≡ false → 0 < occ (s (rc PRESENT) i) (ringAt s i)) → Sound s
@@ -33,7 +33,7 @@ resolved-sound s o meant going =
         owner = o .owner-in i h;
         meant = meant i;
         going = going i;
-        told = λ e. emptied-told s i (o .emptied i h e);
+        explained = λ e. emptied-explained s i (o .emptied i h e);
       };
       once = table s o .once;
     }

@@ -19,7 +19,7 @@ use Rattle.store.specs.Field.{RecordCol, pt, rc, X, Y, NEXT, PREV, REC, 
 use Rattle.store.specs.Words.{Store}
 use Rattle.store.specs.Sound.{pts, recs, ringless, ringAt, isOpen, dueAt, Closed, looping, loneDue, loneAt}
 use Rattle.store.specs.Reason.{discardOf}
-use Rattle.store.specs.Good.{PointIn, Told, Good, total, Sound}
+use Rattle.store.specs.Good.{PointIn, Explained, Good, total, Sound}
 use Rattle.store.proofs.Soundness.{present-on}
 
 -- record i (or a new one, i ≥ recs s) is changed, and no point that another record's ring has
@@ -45,8 +45,8 @@ pub record Local (s s′ : Store) (i : ℕ) : Type 0 where
   pub recordings : (k : ℕ) → k < pts s → occ k (ringAt s i) ≡ 0 → s′ (pt REC) k ≡ s (pt REC) k
 
 -- why a record has no ring
-pub told-kept : (s s′ : Store) (j : ℕ) → s′ (rc REASON) j ≡ s (rc REASON) j → s′ (rc TAKER) j ≡ s (rc TAKER) j → recs s ≤ recs s′ → Told s j → Told s′ j
-told-kept s s′ j a b m t = record { kept = rw a (t .kept); taker = λ e. rw b (omega (arith, t .taker (rw a at e))) }
+pub explained-kept : (s s′ : Store) (j : ℕ) → s′ (rc REASON) j ≡ s (rc REASON) j → s′ (rc TAKER) j ≡ s (rc TAKER) j → recs s ≤ recs s′ → Explained s j → Explained s′ j
+explained-kept s s′ j a b m t = record { kept = rw a (t .kept); taker = λ e. rw b (omega (arith, t .taker (rw a at e))) }
 
 module _ (s s′ : Store) (o : Sound s) (i : ℕ) (h : i < recs s) where
   apart : (j k : ℕ) → j < recs s → j ≢ i → 0 < occ k (ringAt s j) → occ k (ringAt s i) ≡ 0
@@ -109,7 +109,7 @@ module _ (s s′ : Store) (o : Sound s) (i : ℕ) (K : Kept s s′ i) where
           owner = rw (K .records OWNER j l d) (up (g .owner));
           meant = λ c. rw (K .records MARK j l d) (g .meant (closed-back c));
           going = λ c e. rw (K .records PRESENT j l d, ring-other) (g .going (closed-back c) (rw (K .records MARK j l d) at e));
-          told = λ e. told-kept s s′ j (K .records REASON j l d) (K .records TAKER j l d) (K .records-up) (g .told (rw first-same at e));
+          explained = λ e. explained-kept s s′ j (K .records REASON j l d) (K .records TAKER j l d) (K .records-up) (g .explained (rw first-same at e));
         }
       where
         up : (s (rc OWNER) j ≡ NONE) ⊎ (s (rc OWNER) j < recs s) → (s (rc OWNER) j ≡ NONE) ⊎ (s (rc OWNER) j < recs s′)

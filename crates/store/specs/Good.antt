@@ -22,7 +22,7 @@ pub record PointIn (s : Store) (k : ℕ) : Type 0 where
   pub record-in : s (pt REC) k < recs s
 
 -- why a record has no ring is kept, and where it was joined into another, that is a record
-pub record Told (s : Store) (i : ℕ) : Type 0 where
+pub record Explained (s : Store) (i : ℕ) : Type 0 where
   pub kept : isKept (s (rc REASON) i) ≡ true
   pub taker : s (rc REASON) i ≡ JOINED → s (rc TAKER) i < recs s
 
@@ -33,7 +33,7 @@ pub record Good (s : Store) (i : ℕ) : Type 0 where
   pub owner : (s (rc OWNER) i ≡ NONE) ⊎ (s (rc OWNER) i < recs s)
   pub meant : Closed s i → s (rc MARK) i ≤ 4
   pub going : Closed s i → isDone (dueAt s i) ≡ false → 0 < occ (s (rc PRESENT) i) (ringAt s i)
-  pub told : ringless s i ≡ true → Told s i
+  pub explained : ringless s i ≡ true → Explained s i
 
 -- how often k is on a ring
 abbrev pub total : Store → ℕ → ℕ

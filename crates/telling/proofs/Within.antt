@@ -45,7 +45,7 @@ module _ (s : Store) (h : Sound s) (i : ℕ) (l : i < recs s) where
   kept-within r = go (eqb (s (rc REASON) i) JOINED) refl (discardOf (s (rc REASON) i))
     where
       go : (b : Bool) → eqb (s (rc REASON) i) JOINED ≡ b → (y : Option Discard) → NumberWithin (cond b (Joined (s (rc TAKER) i)) (discardReason y))
-      go true e y = omega (arith, h .good i l .told r .taker (eqb-true _ _ e), h .few-records)
+      go true e y = omega (arith, h .good i l .explained r .taker (eqb-true _ _ e), h .few-records)
       go false e none = tt
       go false e (some atValidity) = tt
       go false e (some whileRemoving) = tt
