@@ -29,7 +29,9 @@ use Rattle.joins.specs.Join.{JoinEnd, end, splitRing, splitOf, mergeOf, 
 use Rattle.joins.specs.Needs.{Points, Unknotted, Joins}
 use Rattle.joins.specs.AsRings.{before, onward, seenFrom, goes, stays, firstLeft, spliced, OneRecord, TwoRecords, OneOrTwo, AsRings, AtTurn}
 use Rattle.joins.proofs.Homes.{on-ring, from}
-use Rattle.joins.proofs.Joining.{Split, split-others, Merged, merge-whole, merge-others}
+use Rattle.joins.proofs.Joining.{Split, Merged}
+use Rattle.joins.proofs.Splitting.{split-others}
+use Rattle.joins.proofs.Merging.{merge-whole, merge-others}
 use Rattle.joins.proofs.Cases.{mate, back, merged, parts, split, split-first, split-first-new}
 use Rattle.joins.proofs.Turns.{Still, words, pair-same, points-pair, joins-kept}
 

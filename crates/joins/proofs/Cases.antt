@@ -32,7 +32,9 @@ use Rattle.joins.specs.Needs.{Four, Ringed, Unknotted}
 use Rattle.joins.specs.AsRings.{firstLeft}
 use Rattle.joins.proofs.Resolving.{res-low}
 use Rattle.joins.proofs.Homes.{on-ring, from, next-lives, prev-lives, next-prev}
-use Rattle.joins.proofs.Joining.{Split, split-resolved, split-opened, Merged, merge-resolved, merge-opened, OpenKept}
+use Rattle.joins.proofs.Joining.{Split, Merged, OpenKept}
+use Rattle.joins.proofs.Splitting.{split-resolved, split-opened}
+use Rattle.joins.proofs.Merging.{merge-resolved, merge-opened}
 use Rattle.joins.proofs.Naming.{name-length, name-col, name-out, name-in}
 
 -- ---- the four links

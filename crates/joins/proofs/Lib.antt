@@ -2,6 +2,8 @@
 pub mod Resolving
 pub mod Homes
 pub mod Joining
+pub mod Splitting
+pub mod Merging
 pub mod Growing
 pub mod Naming
 pub mod Cases
