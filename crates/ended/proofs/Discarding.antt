@@ -1,54 +1,36 @@
 -- A closed ring without points, after any list of steps: the step that discarded its lone ring, and that the words keep that step's rule.
 use mathlib.Core.Path.{_≡_, refl, sym, ap, _∙_, subst}
 use mathlib.Core.Logic.{_⊎_, inl, inr}
-use mathlib.Core.Bool.{Bool, true, false, cond}
+use mathlib.Core.Bool.{Bool, true, cond}
 use mathlib.Core.List.{List, [], _∷_, _++_, map}
 use mathlib.Core.Option.{Option, none, some}
-use Prim.Native.Nat.{ℕ, _≤_, _<_}
+use Prim.Native.Nat.{ℕ, _≤_}
 use native.Mathlib.Omega.{arith}
-use lib.ListN.{length, take, length-map, List·getD-map}
-use Rattle.rings.specs.Count.{occ}
+use lib.ListN.{length}
 use Rattle.rings.specs.Progress.{Discard, Ring, atStart}
 use Rattle.rings.proofs.Circles.{length-spin}
 use Rattle.geometry.specs.declared.Point.{Point}
 use Rattle.job.specs.Limits as limit
-use Rattle.lone.specs.Act.{Act, stay, discard, dropPoint, moveOn, toFirst, double, cut, offcut}
-use Rattle.lone.specs.Lone.{Geo, fromFirst, actOf, offcutRing}
-use Rattle.lone.specs.Forest.{State, initial, closedRing, Forest, leftRingless, leftOpen, leftClosed, enter, at, stepsState}
-use Rattle.lone.specs.Order.{machine}
+use Rattle.lone.specs.Lone.{fromFirst}
+use Rattle.lone.specs.Forest.{State, initial, closedRing, Forest, at, stepsState}
 use Rattle.lone.specs.Plane.{plane, loneRing}
 use Rattle.lone.proofs.Plane.{plane-laws}
 use Rattle.lone.proofs.Stepping.{at-closed}
 use Rattle.lone.proofs.Ending.{run-append}
 use Rattle.lone.proofs.Coming.{stepped, Made, came}
-use Rattle.store.specs.Field.{rc, FIRST, REASON}
+use Rattle.store.specs.Field.{rc, REASON}
 use Rattle.store.specs.Words.{view}
 use Rattle.store.specs.Reason.{discardOf}
-use Rattle.store.specs.Sound.{recs, ringless, ringAt, isOpen}
-use Rattle.store.specs.Value.{pointAt, ringPoints, preserveCollinear}
-use Rattle.store.proofs.Soundness.{first-on}
+use Rattle.store.specs.Sound.{ringless}
+use Rattle.store.specs.Value.{pointAt, preserveCollinear}
 use Rattle.finishing.specs.Run.{runOf}
 use Rattle.finishing.specs.Opened.{OpeningLeft}
-use Rattle.order.specs.Demand3.{fed, Has, HasRing}
-use Rattle.order.proofs.Theorem.{os, F₀, F, follows, left-at, rings-are}
+use Rattle.order.specs.Demand3.{Has, HasRing}
+use Rattle.order.proofs.Theorem.{F₀, F, rings-are}
+use Rattle.order.proofs.Beginning.{offcut-begins, count, opened-begins}
 use Rattle.ended.specs.Discarded.{DiscardedBy}
 use Rattle.ended.proofs.Gone.{empty-gone, discarded-by}
 use Rattle.ended.proofs.Joining.{no-ring}
-
--- an offcut is at its start, with points
-begins : {P : Type 0} (act : Act P) (R O : Ring P) → offcut (λ (v : P). v) act R ≡ some O → (c : List P) × (1 ≤ length c) × (O ≡ atStart c)
-begins stay R O h = let z : _≡_ {A = ℕ} 0 1 = cc in absurd (omega arith)
-begins (discard y) R O h = let z : _≡_ {A = ℕ} 0 1 = cc in absurd (omega arith)
-begins dropPoint R O h = let z : _≡_ {A = ℕ} 0 1 = cc in absurd (omega arith)
-begins (moveOn d) R O h = let z : _≡_ {A = ℕ} 0 1 = cc in absurd (omega arith)
-begins (toFirst d) R O h = let z : _≡_ {A = ℕ} 0 1 = cc in absurd (omega arith)
-begins (double v d) R O h = let z : _≡_ {A = ℕ} 0 1 = cc in absurd (omega arith)
-begins (cut v put false d) R O h = let z : _≡_ {A = ℕ} 0 1 = cc in absurd (omega arith)
-begins (cut v put true d) R O h = (v ∷ take 2 (R .circle), omega arith, cc)
-
-offcut-begins : (G : Geo Point) (R S : Ring Point) → machine G .cuts R ≡ some S → (c : List Point) × (1 ≤ length c) × (S ≡ atStart c)
-unfolding machine offcutRing
-offcut-begins G R S e = begins (actOf G R) R S e
 
 module _ (w : List ℕ) (o : OpeningLeft w) where
   abbrev p : Bool
@@ -60,28 +42,6 @@ module _ (w : List ℕ) (o : OpeningLeft w) where
     pub some-points : 1 ≤ length points
     pub steps : ℕ
     pub is : L ≡ stepsState (loneRing p) steps (initial (atStart points))
-
-  count : (is : List ℕ) → length (F w o is .entries) ≡ recs (view (runOf w is))
-  count is = follows w o is .rep .rep .in-step .records-are
-
-  -- what the table begins with
-  pub entered : (j : ℕ) → j < recs (view w) → at (F₀ w o .entries) j ≡ enter (fed w j)
-  entered j l = List·getD-map enter (os w o) j leftRingless ∙ ap enter (left-at w o j l)
-
-  opened-begins : (j : ℕ) (q : Option ℕ) (L : State (Ring Point)) → at (F₀ w o .entries) j ≡ closedRing q L → (c : List Point) × (1 ≤ length c) × (L ≡ initial (atStart c))
-  opened-begins j q L e = go (ringless (view w) j) refl (isOpen (view w) j) (sym (entered j (omega (arith, count [], at-closed (F₀ w o .entries) j e))) ∙ e)
-    where
-      has : ringless (view w) j ≡ false → 1 ≤ length (ringPoints (view w) j)
-      has r = rw (length-map (ringAt (view w) j) (pointAt (view w))) (some-in (view w (rc FIRST) j) (ringAt (view w) j) (first-on (view w) j r))
-        where
-          some-in : (k : ℕ) (c : List ℕ) → 0 < occ k c → 1 ≤ length c
-          some-in k [] h = absurd (omega arith)
-          some-in k (x ∷ c) h = omega arith
-
-      go : (a : Bool) → ringless (view w) j ≡ a → (b : Bool) → enter (cond a leftRingless (cond b (leftOpen (ringPoints (view w) j)) (leftClosed (atStart (ringPoints (view w) j))))) ≡ closedRing q L → (c : List Point) × (1 ≤ length c) × (L ≡ initial (atStart c))
-      go true r b k = let z : _≡_ {A = ℕ} 0 1 = cc in absurd (omega arith)
-      go false r true k = let z : _≡_ {A = ℕ} 0 1 = cc in absurd (omega arith)
-      go false r false k = (ringPoints (view w) j, has r, cc)
 
   -- every closed ring is such a one
   pub lone-of : (is : List ℕ) (j : ℕ) (q : Option ℕ) (L : State (Ring Point)) → at (F w o is .entries) j ≡ closedRing q L → LoneOf L
@@ -95,7 +55,7 @@ module _ (w : List ℕ) (o : OpeningLeft w) where
           record { points = c; some-points = l; steps = n .0; is = cc }
 
       from : (((L₀ : State (Ring Point)) × (at (F₀ w o .entries) j ≡ closedRing q L₀)) ⊎ Made (loneRing p) limit.POINTS limit.RECORDS (F₀ w o) is j q) → LoneOf L
-      from (inl t) = let b = opened-begins j q (t .0) (t .1) in since [] is refl (b .0) (b .1) (t .1 ∙ ap (closedRing q) (b .2))
+      from (inl t) = let b = opened-begins w o j q (t .0) (t .1) in since [] is refl (b .0) (b .1) (t .1 ∙ ap (closedRing q) (b .2))
       from (inr m) =
           let b = offcut-begins (plane p) (m .cutter) (m .seed) (m .cut-off) in
           since (m .earlier ++ (m .last ∷ [])) (m .since) (m .together) (b .0) (b .1) (m .there ∙ ap (λ (s : Ring Point). closedRing q (initial s)) (b .2))
@@ -112,7 +72,7 @@ module _ (w : List ℕ) (o : OpeningLeft w) where
   pub rule-kept : (is : List ℕ) (j : ℕ) (q : Option ℕ) (L : State (Ring Point)) → at (F w o is .entries) j ≡ closedRing q L → ringless (view (runOf w is)) j ≡ true → RuleKept is j L
   rule-kept is j q L e r =
       let a : LoneOf L = lone-of is j q L e in
-      let h : HasRing (view (runOf w is)) j q L = subst (Has (view (runOf w is)) j) e (rings-are w o is j (omega (arith, count is, at-closed (F w o is .entries) j e))) in
+      let h : HasRing (view (runOf w is)) j q L = subst (Has (view (runOf w is)) j) e (rings-are w o is j (omega (arith, count w o is, at-closed (F w o is .entries) j e))) in
       let n : fromFirst (L .now) ≡ [] = sym (h .points) ∙ ap (map (pointAt (view (runOf w is)))) (no-ring (view (runOf w is)) j r) in
       let g = empty-gone (plane p) (plane-laws p) (a .points) (a .some-points) (a .steps) (ap (λ (K : State (Ring Point)). K .now .circle) (sym (a .is)) ∙ none-left (L .now) n) in
       let y : L .now .why ≡ some (g .0) = ap (λ (K : State (Ring Point)). K .now .why) (a .is) ∙ ap (λ (R : Ring Point). R .why) (g .1) in

@@ -38,6 +38,7 @@ use Rattle.finishing.proofs.InOneCall.{opening-left}
 use Rattle.order.specs.Demand3.{M, G, Lone, lones, HasRing, Has}
 use Rattle.order.proofs.Table.{opened-is}
 use Rattle.order.proofs.Theorem.{os, follows, lones-are, after-list}
+use Rattle.order.proofs.Beginning.{entered}
 use Rattle.ended.specs.Discarded.{DiscardedBy}
 use Rattle.ended.specs.Joined.{EmptiedAt}
 use Rattle.ended.specs.Stages.{Stages}
@@ -46,7 +47,7 @@ use Rattle.ended.proofs.Gone.{by-discarded}
 use Rattle.ended.proofs.Joining as joining
 use Rattle.ended.proofs.Joining.{ringless-by, points-none}
 use Rattle.ended.proofs.Stepping.{bare-stays}
-use Rattle.ended.proofs.Discarding.{entered, rule-kept}
+use Rattle.ended.proofs.Discarding.{rule-kept}
 use Rattle.ended.proofs.Opened.{stages, LeftBare, none-left, taken-left, WhyBare, read-none, emptied, why-bare}
 use Rattle.ended.proofs.Telling.{tells-none, tells-joined, tells-rule, tells-short, tells-small, tells-written, in-list, own-list, call-tells}
 

@@ -2,60 +2,36 @@
 use Prim.Native.Nat.{ℕ}
 use mathlib.Core.Path.{_≡_, refl, sym, ap, _∙_, subst}
 use mathlib.Core.Logic.{_⊎_, inl, inr}
-use mathlib.Core.Bool.{Bool, true, false, cond, true≢false}
+use mathlib.Core.Bool.{Bool, true, false, true≢false}
 use mathlib.Core.List.{List, [], _∷_, _++_}
-use mathlib.Core.Option.{Option, some}
+use mathlib.Core.Option.{Option}
 use native.Mathlib.Omega.{arith}
-use lib.ListN.{length, List·getD-map}
 use Rattle.rings.specs.Progress.{Ring, triangle, atStart}
 use Rattle.geometry.specs.declared.Point.{Point}
 use Rattle.job.specs.Limits as limit
-use Rattle.lone.specs.Lone.{Geo, actOf, offcutRing}
-use Rattle.lone.specs.Order.{machine}
-use Rattle.lone.specs.Forest.{State, initial, Entry, openRing, closedRing, Forest, leftRingless, leftOpen, leftClosed, enter, at, stepsState}
+use Rattle.lone.specs.Forest.{State, initial, Entry, openRing, closedRing, Forest, at, stepsState}
 use Rattle.lone.specs.Forest as forest
 use Rattle.lone.specs.Plane.{plane, loneRing}
 use Rattle.lone.proofs.Stepping.{at-closed}
-use Rattle.lone.proofs.Keeping.{offcut-starts}
 use Rattle.lone.proofs.Ending.{run-append}
 use Rattle.lone.proofs.Coming.{stepped, Made, came}
 use Rattle.store.specs.Words.{view}
-use Rattle.store.specs.Sound.{recs, ringless, isOpen, dueAt}
+use Rattle.store.specs.Sound.{ringless, dueAt}
 use Rattle.store.specs.Value.{ringPoints, preserveCollinear}
 use Rattle.finishing.specs.Run.{runOf}
 use Rattle.finishing.specs.Opened.{OpeningLeft}
-use Rattle.order.specs.Demand3.{fed, Has, HasRing}
-use Rattle.order.proofs.Theorem.{os, F₀, F, follows, left-at, rings-are}
+use Rattle.order.specs.Demand3.{Has, HasRing}
+use Rattle.order.proofs.Theorem.{F₀, F, rings-are}
+use Rattle.order.proofs.Beginning.{offcut-begins, count, opened-begins}
 use Rattle.tidied.specs.Tidied.{Tidied, CameWith, opening-left, step-made, PassBehind, NothingLeft}
 use Rattle.tidied.proofs.Pass.{tidied}
-
--- ---- an offcut is at its start
-
-offcut-begins : (G : Geo Point) (R S : Ring Point) → machine G .cuts R ≡ some S → (c : List Point) × (S ≡ atStart c)
-unfolding machine offcutRing
-offcut-begins G R S e = offcut-starts (λ (v : Point). v) (λ (O : Ring Point). (c : List Point) × (O ≡ atStart c)) (λ c. (c, refl)) (actOf G R) R S e
 
 module _ (w : List ℕ) (o : OpeningLeft w) where
   abbrev p : Bool
   p = preserveCollinear (view w)
 
-  count : (is : List ℕ) → length (F w o is .entries) ≡ recs (view (runOf w is))
-  count is = follows w o is .rep .rep .in-step .records-are
-
   ring-of : (is : List ℕ) (j : ℕ) (q : Option ℕ) (L : State (Ring Point)) → at (F w o is .entries) j ≡ closedRing q L → HasRing (view (runOf w is)) j q L
-  ring-of is j q L e = subst (Has (view (runOf w is)) j) e (rings-are w o is j (omega (arith, count is, at-closed (F w o is .entries) j e)))
-
-  -- what opening left is at its start
-  opened-begins : (j : ℕ) (q : Option ℕ) (L : State (Ring Point)) → at (F₀ w o .entries) j ≡ closedRing q L → (c : List Point) × (L ≡ initial (atStart c))
-  opened-begins j q L e = go (ringless (view w) j) (isOpen (view w) j) (sym here ∙ e)
-    where
-      here : at (F₀ w o .entries) j ≡ enter (fed w j)
-      here = List·getD-map enter (os w o) j leftRingless ∙ ap enter (left-at w o j (omega (arith, count [], at-closed (F₀ w o .entries) j e)))
-
-      go : (a b : Bool) → enter (cond a leftRingless (cond b (leftOpen (ringPoints (view w) j)) (leftClosed (atStart (ringPoints (view w) j))))) ≡ closedRing q L → (c : List Point) × (L ≡ initial (atStart c))
-      go true b k = let z : _≡_ {A = ℕ} 0 1 = cc in absurd (omega arith)
-      go false true k = let z : _≡_ {A = ℕ} 0 1 = cc in absurd (omega arith)
-      go false false k = (ringPoints (view w) j, cc)
+  ring-of is j q L e = subst (Has (view (runOf w is)) j) e (rings-are w o is j (omega (arith, count w o is, at-closed (F w o is .entries) j e)))
 
   -- ---- from a start on
 
@@ -86,9 +62,9 @@ module _ (w : List ℕ) (o : OpeningLeft w) where
         where
           from : (((L₀ : State (Ring Point)) × (at (F₀ w o .entries) j ≡ closedRing q L₀)) ⊎ Made (loneRing p) limit.POINTS limit.RECORDS (F₀ w o) is j q) → PassBehind w is j
           from (inl t) =
-              let b = opened-begins j q (t .0) (t .1) in
-              behind is [] is j q (b .0) refl (t .1 ∙ ap (closedRing q) (b .1)) due (opening-left (omega (arith, count [], at-closed (F₀ w o .entries) j (t .1))))
+              let b = opened-begins w o j q (t .0) (t .1) in
+              behind is [] is j q (b .0) refl (t .1 ∙ ap (closedRing q) (b .2)) due (opening-left (omega (arith, count w o [], at-closed (F₀ w o .entries) j (t .1))))
           from (inr m) =
               let b = offcut-begins (plane p) (m .cutter) (m .seed) (m .cut-off) in
-              behind is (m .earlier ++ (m .last ∷ [])) (m .since) j q (b .0) (m .together) (m .there ∙ ap (λ (s : Ring Point). closedRing q (initial s)) (b .1)) due
-              (step-made (m .earlier) (m .last) (omega (arith, count (m .earlier), m .not-yet)) (omega (arith, count (m .earlier ++ (m .last ∷ [])), at-closed (F w o (m .earlier ++ (m .last ∷ [])) .entries) j (m .there))))
+              behind is (m .earlier ++ (m .last ∷ [])) (m .since) j q (b .0) (m .together) (m .there ∙ ap (λ (s : Ring Point). closedRing q (initial s)) (b .2)) due
+              (step-made (m .earlier) (m .last) (omega (arith, count w o (m .earlier), m .not-yet)) (omega (arith, count w o (m .earlier ++ (m .last ∷ [])), at-closed (F w o (m .earlier ++ (m .last ∷ [])) .entries) j (m .there))))
