@@ -9,6 +9,7 @@ use listing::Listed;
 use listing::TEXT;
 use opening::open::Opened;
 use paths::Written;
+use paths::tag_of;
 use rates::Rate;
 use rewriting::Rewritten;
 use rewriting::rewrite;
@@ -76,16 +77,6 @@ fn rewritten_number(a: Rewritten) -> u64
     }
 }
 
-// The tag of the list that a path is in.
-fn list_tag(opened: bool) -> u64
-    ensures { λ r. ⌜ (r ≡ tagOf opened) × (r ≤ 7) ⌝ }
-{
-    if opened {
-        return 7;
-    }
-    6
-}
-
 fn joined_word(taker: usize) -> u64
     requires { ⌜ taker < limit.RECORDS ⌝ }
     ensures { λ r. ⌜ (r ≡ 2 + 65536 * taker) × (r < 2 ^ 32) ⌝ }
@@ -97,8 +88,8 @@ fn written_word(opened: bool, place: usize) -> u64
     requires { ⌜ place < limit.RECORDS ⌝ }
     ensures { λ r. ⌜ (r ≡ 8 + 256 * tagOf opened + 65536 * place) × (r < 2 ^ 32) ⌝ }
 {
-    let tag = list_tag(opened);
-    8 + 256 * tag + 65536 * place as u64
+    let tag = tag_of(opened);
+    8 + 256 * tag as u64 + 65536 * place as u64
 }
 
 // A reason in one word: its number, the tag of the list that its path is in, and its taker or its path's place; 0 for each that it does not have.

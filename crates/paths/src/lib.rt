@@ -266,7 +266,8 @@ fn too_small(w: &[u32], rev: bool, n: usize) -> bool
 
 // ---- the tray
 
-fn tag_of(opened: bool) -> u8
+// The tag of the list that a path is in.
+pub fn tag_of(opened: bool) -> u8
     ensures { λ r. ⌜ r ≡ tagOf opened ⌝ }
 {
     if opened {
