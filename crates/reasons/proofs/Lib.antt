@@ -1,0 +1,2 @@
+-- Why there is always room for the text.
+pub mod Saying
