@@ -23,14 +23,15 @@ use Rattle.finishing.specs.Run.{runOf}
 use Rattle.finishing.specs.Write.{writeOf}
 use Rattle.finishing.specs.InOneCall.{Finished, finished, refused, afterWriting, afterOpening, finishOf}
 use Rattle.order.specs.Demand3.{RingsFit, RingsNeverEnd}
-use Rattle.order.specs.Jobs.{ByRising, OfJob}
+use Rattle.order.specs.Jobs.{ByRising}
 use Rattle.order.proofs.Jobs.{of-job}
 use Rattle.job_listing.proofs.Listing.{may-ask}
 use Rattle.ended.proofs.Opened.{stages}
 use Rattle.ended.proofs.Told.{tells}
 use Rattle.ended.proofs.Telling.{call-tells}
 use Rattle.job_reasons.specs.Needs.{Tellable, TellableAt}
-use Rattle.job_reasons.specs.InFact.{InFact}
+use Rattle.job_reasons.specs.Reasons.{reasonsAs, reasonsOf}
+use Rattle.job_reasons.specs.InFact.{left, InFact}
 
 -- asked for one of its records, such a work space tells it
 pub call-told : (w : List ℕ) (i : ℕ) → TellableAt w i → reasonOf w i ≡ Because (reasonAt (view w) i)
@@ -42,9 +43,9 @@ apart c o x e = let z : _≡_ {A = ℕ} 0 1 = cc in absurd (omega arith)
 module _ (bytes : List ℕ) (n : ℕ) (t w′ t′ : List ℕ) (c o : ℕ) (e : finished (Paths c o) w′ t′ ≡ finishOf bytes n t) where
   -- the job was accepted
   record Steps : Type 0 where
-    left : List ℕ
-    opens : openOf bytes n ≡ end Accepted left
-    rising : ByRising bytes n left
+    from : List ℕ
+    opens : openOf bytes n ≡ end Accepted from
+    rising : ByRising bytes n from
 
   accepted : Steps
   unfolding finishOf
@@ -54,26 +55,26 @@ module _ (bytes : List ℕ) (n : ℕ) (t w′ t′ : List ℕ) (c o : ℕ) (e : 
       go (end Accepted w) h g = by (of-job bytes n w h .holds .either)
         where
           by : RingsFit w ⊎ RingsNeverEnd w → Steps
-          by (inl f) = record { left = w; opens = h; rising = of-job bytes n w h .ends f }
+          by (inl f) = record { from = w; opens = h; rising = of-job bytes n w h .ends f }
           by (inr f) =
               let d : finished (Paths c o) w′ t′ ≡ refused Full (length w) (length t) = g ∙ sym (ap (λ (z : End). afterOpening z t) h) ∙ of-job bytes n w h .overflows f t in
               apart c o Full (ap (λ (z : Finished). z .answer) d)
       go (end (opened.Refused x) w) h g = apart c o x (ap (λ (z : Finished). z .answer) g)
 
   -- the words are those that a list of steps leaves
-  words-are : w′ ≡ runOf (accepted .left) (accepted .rising .steps)
+  words-are : w′ ≡ runOf (accepted .from) (accepted .rising .steps)
   words-are =
       go (writeOf v t .answer) (writeOf v t .tray) (e ∙ accepted .rising .is t)
     where
       v : List ℕ
-      v = runOf (accepted .left) (accepted .rising .steps)
+      v = runOf (accepted .from) (accepted .rising .steps)
 
       go : (r : Written) (u : List ℕ) → finished (Paths c o) w′ t′ ≡ afterWriting v r u → w′ ≡ v
       go (Paths a b) u g = ap (λ (f : Finished). f .words) g
       go (Refused x) u g = apart c o x (ap (λ (f : Finished). f .answer) g)
 
-  done : anyLive (view (runOf (accepted .left) (accepted .rising .steps))) ≡ false
-  done = of-job bytes n (accepted .left) (accepted .opens) .holds .after-every-list (accepted .rising .steps) .all-done .1 (accepted .rising .all-done)
+  done : anyLive (view (runOf (accepted .from) (accepted .rising .steps))) ≡ false
+  done = of-job bytes n (accepted .from) (accepted .opens) .holds .after-every-list (accepted .rising .steps) .all-done .1 (accepted .rising .all-done)
 
   pub tellable : Tellable w′
   tellable =
@@ -81,19 +82,31 @@ module _ (bytes : List ℕ) (n : ℕ) (t w′ t′ : List ℕ) (c o : ℕ) (e : 
         tested =
             record {
               long = may-ask bytes n t w′ t′ (Paths c o) e c o refl;
-              passed = ap testsOf words-are ∙ of-job bytes n (accepted .left) (accepted .opens) .holds .after-every-list (accepted .rising .steps) .tests-pass;
+              passed = ap testsOf words-are ∙ of-job bytes n (accepted .from) (accepted .opens) .holds .after-every-list (accepted .rising .steps) .tests-pass;
             };
         done = ap (λ (v : List ℕ). anyLive (view v)) words-are ∙ done;
       }
 
+-- of what finishing in one call leaves where it gives paths
+module _ (bytes : List ℕ) (n : ℕ) (t : List ℕ) (c o : ℕ) (h : finishOf bytes n t .answer ≡ Paths c o) where
+  given : finished (Paths c o) (left bytes n t) (finishOf bytes n t .tray) ≡ finishOf bytes n t
+  given = ap (λ (r : Written). finished r (left bytes n t) (finishOf bytes n t .tray)) (sym h)
+
+  pub left-tellable : Tellable (left bytes n t)
+  left-tellable = tellable bytes n t (left bytes n t) (finishOf bytes n t .tray) c o given
+
   -- THE THEOREM: what each line tells is what the call tells, and what in fact ended the ring
-  pub in-fact : InFact bytes n w′
+  pub in-fact : InFact bytes n t
+  unfolding reasonsOf
   in-fact =
+      let a = accepted bytes n t (left bytes n t) (finishOf bytes n t .tray) c o given in
+      let e = words-are bytes n t (left bytes n t) (finishOf bytes n t .tray) c o given in
       record {
-        calls = λ i l. call-told w′ i (record { work = tellable; known = l });
-        opened = accepted .left;
-        stages = stages bytes n (accepted .left) (accepted .opens);
-        steps = accepted .rising .steps;
-        words = words-are;
-        ends = λ i l. tells bytes n (accepted .left) (accepted .opens) (accepted .rising .steps) i (subst (λ (v : List ℕ). i < recs (view v)) words-are l) done;
+        text = ap (λ (r : Written). reasonsAs r (left bytes n t)) h;
+        calls = λ i l. call-told (left bytes n t) i (record { work = left-tellable; known = l });
+        opened = a .from;
+        stages = stages bytes n (a .from) (a .opens);
+        steps = a .rising .steps;
+        words = e;
+        ends = λ i l. tells bytes n (a .from) (a .opens) (a .rising .steps) i (subst (λ (v : List ℕ). i < recs (view v)) e l) (done bytes n t (left bytes n t) (finishOf bytes n t .tray) c o given);
       }

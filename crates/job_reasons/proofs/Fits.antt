@@ -1,6 +1,6 @@
 -- The text of a job's records has at most `TEXT` bytes: so a program that lends as many always has room for it.
-use Prim.Native.Nat.{ℕ, zero, suc, _+_, _*_, _/_, _%_, _^_, _≤_, _<_}
-use mathlib.Core.Path.{_≡_, refl, sym, ap, _∙_, subst}
+use Prim.Native.Nat.{ℕ, zero, suc, _+_, _*_, _/_, _%_, _≤_, _<_}
+use mathlib.Core.Path.{_≡_, refl, ap, _∙_, subst}
 use mathlib.Core.Bool.{Bool, true, false, cond}
 use mathlib.Core.List.{List, [], _∷_, _++_}
 use native.Mathlib.Omega.{arith}
@@ -9,10 +9,9 @@ use lib.Dec.{leb}
 use lib.ListN.{length, drop, length-append}
 use lib.Seq.{take-all}
 use borrow.Author.Tests.{le-leb}
-use Rattle.job.specs.Limits as limit
 use Rattle.job.specs.Refusal.{numberOf}
 use Rattle.job.specs.declared.refusal.Refusal.the-variants.{SmallTray}
-use Rattle.store.specs.Words.{Store, view}
+use Rattle.store.specs.Words.{view}
 use Rattle.store.specs.Sound.{recs}
 use Rattle.acts.specs.Finish.{RingsEnd, ringsDone, ringsFull}
 use Rattle.paths.specs.declared.Written.{Written}
@@ -29,7 +28,7 @@ use Rattle.opening.specs.declared.open.Opened.the-variants.{Accepted}
 use Rattle.opening.specs.declared.open.Opened.the-variants as opened
 use Rattle.opening.specs.Open.{End, end, openOf}
 use Rattle.finishing.specs.Finish.{finishRings}
-use Rattle.finishing.specs.InOneCall.{finished, afterWriting, afterSteps, afterOpening, finishOf}
+use Rattle.finishing.specs.InOneCall.{afterWriting, afterSteps, afterOpening, finishOf}
 use Rattle.finishing.proofs.Refusals.{OpenedTo, open-rows}
 use Rattle.listing.specs.declared.Listed.{Listed}
 use Rattle.listing.specs.declared.Listed.the-variants.{Bytes}
@@ -43,7 +42,7 @@ use Rattle.job_reasons.specs.Lines.{whyText, lineOf, linesBelow, reasons
 use Rattle.job_reasons.specs.Room.{TEXT}
 use Rattle.job_reasons.specs.Needs.{Tellable}
 use Rattle.job_reasons.specs.Reasons.{reasonsAs, reasonsOf, tellJobOf}
-use Rattle.job_reasons.proofs.Finished.{call-told, tellable}
+use Rattle.job_reasons.proofs.Finished.{call-told, left-tellable}
 use Rattle.job_reasons.proofs.Telling.{few-records}
 
 -- ---- numbers: three digits at most below 1,000
@@ -145,7 +144,7 @@ module _ (bytes : List ℕ) (n : ℕ) (t : List ℕ) where
   reasons-fit = go (finishOf bytes n t .answer) refl finish-rows
     where
       go : (r : Written) → finishOf bytes n t .answer ≡ r → RefusedTo 11 r → length (reasonsAs r (finishOf bytes n t .words)) ≤ TEXT
-      go (Paths c o) h k = text-le (finishOf bytes n t .words) (tellable bytes n t (finishOf bytes n t .words) (finishOf bytes n t .tray) c o (ap (λ (r : Written). finished r (finishOf bytes n t .words) (finishOf bytes n t .tray)) (sym h)))
+      go (Paths c o) h k = text-le (finishOf bytes n t .words) (left-tellable bytes n t c o h)
       go (Refused x) h k = refused-le (numberOf x) (omega (arith, k))
 
 -- a text that has room is told whole

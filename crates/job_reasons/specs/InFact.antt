@@ -7,17 +7,27 @@ use Rattle.store.specs.Sound.{recs}
 use Rattle.telling.specs.declared.Told.the-variants.{Because}
 use Rattle.telling.specs.Telling.{reasonAt, reasonOf}
 use Rattle.finishing.specs.Run.{runOf}
+use Rattle.finishing.specs.InOneCall.{finishOf}
 use Rattle.ended.specs.Stages.{Stages}
 use Rattle.ended.specs.Ended.{ToldRight}
+use Rattle.job_reasons.specs.Lines.{reasonsText}
+use Rattle.job_reasons.specs.Reasons.{reasonsOf}
 
--- of the job's bytes, finished in one call in a work space of n words, which leaves w
-pub record InFact (bytes : List ℕ) (n : ℕ) (w : List ℕ) : Type 0 where
-  -- the call is not refused below the count
-  pub calls : (i : ℕ) → i < recs (view w) → reasonOf w i ≡ Because (reasonAt (view w) i)
-  -- what opening left, stage by stage, and the steps since
-  pub opened : List ℕ
-  pub stages : Stages bytes n opened
-  pub steps : List ℕ
-  pub words : w ≡ runOf opened steps
-  -- what the line tells happened to the ring (`told`), and nothing else did (`only`)
-  pub ends : (i : ℕ) → i < recs (view w) → ToldRight bytes n opened stages steps i
+-- of the job's bytes, finished in one call in a work space of n words and a tray t
+module _ (bytes : List ℕ) (n : ℕ) (t : List ℕ) where
+  -- the words that are left
+  abbrev pub left : List ℕ
+  left = finishOf bytes n t .words
+
+  pub record InFact : Type 0 where
+    -- the text is the lines of their records
+    pub text : reasonsOf bytes n t ≡ reasonsText (view left)
+    -- a line's reason is what the call tells: below the count it is never refused
+    pub calls : (i : ℕ) → i < recs (view left) → reasonOf left i ≡ Because (reasonAt (view left) i)
+    -- what opening left, stage by stage, and the steps since
+    pub opened : List ℕ
+    pub stages : Stages bytes n opened
+    pub steps : List ℕ
+    pub words : left ≡ runOf opened steps
+    -- that reason is what happened to the ring (`told`), and nothing else did (`only`)
+    pub ends : (i : ℕ) → i < recs (view left) → ToldRight bytes n opened stages steps i

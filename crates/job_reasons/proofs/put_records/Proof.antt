@@ -2,7 +2,6 @@
 use borrow.Author.Needs.{needs}
 use Prim.Native.Nat.{_-_}
 use Rattle.store.specs.Words.{view}
-use Rattle.store.specs.Sound.{recs}
 use Rattle.job_reasons.specs.Needs.{Going}
 use Rattle.job_reasons.proofs.Lines.{going-begins, going-on, going-length, going-ends}
 use Rattle.job_reasons.proofs.Telling.{known-record}
