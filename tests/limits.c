@@ -1,5 +1,5 @@
-/* limits: every constant of outline.h against the library's calls. What is at a limit passes, what is one past it is refused; and each refusal
- * is given by name, on a smallest job of docs/JOB.md. */
+/* limits: every constant of outline.h against the library's calls. What is at a limit passes, what is one past it is refused; each refusal
+ * is given by name, on a smallest job of docs/JOB.md; and each reason, on the job with one of each. */
 #include "outline.h"
 #include <stdio.h>
 #include <string.h>
@@ -163,10 +163,63 @@ static void rewriting(void) {
     is("a word less, of it", rewritten(OUTLINE_WORK_WORDS - 1, OUTLINE_REWRITTEN_BYTES), OUTLINE_FULL);
 }
 
+/* A ring for each reason, the second joined into the first: the case `one of each` of tests/answers/reasons.txt. Two offcuts come to it. */
+static const struct {
+    uint32_t reason, open, points;
+    int32_t at[8];
+} rings[] = {
+    {OUTLINE_WRITTEN, 0, 4, {0, 0, 10, 0, 10, 10, 0, 10}},
+    {OUTLINE_JOINED, 0, 4, {20, 0, 30, 0, 30, 10, 20, 10}},
+    {OUTLINE_NO_RING, 0, 0, {0}},
+    {OUTLINE_SMALL_RING, 0, 1, {5, 5}},
+    {OUTLINE_RING_FELL, 0, 3, {0, 0, 10, 0, 20, 0}},
+    {OUTLINE_SMALL_AREA, 0, 4, {0, 0, 10, 10, 10, 0, 0, 10}},
+    {OUTLINE_SHORT_PATH, 0, 4, {0, -5, 2, 1, 0, 1, 1, 7}},
+    {OUTLINE_SMALL_PATH, 0, 4, {-2, 0, 3, 1, 0, 2, -1, -1}},
+    {OUTLINE_WRITTEN, 1, 2, {0, 0, 5, 5}},
+};
+#define RINGS (sizeof rings / sizeof *rings)
+
+static void one_of_each(void) {
+    uint32_t first[RINGS], next = 0;
+    settings();
+    for (uint32_t r = 0; r < RINGS; r++) {
+        const uint32_t count = rings[r].points;
+        first[r] = count ? next : NONE;
+        for (uint32_t i = 0; i < count; i++)
+            point(rings[r].at[2 * i], rings[r].at[2 * i + 1], next + (i + 1) % count, next + (i + count - 1) % count, r);
+        next += count;
+    }
+    for (uint32_t r = 0; r < RINGS; r++) record(rings[r].open, NONE, first[r]);
+    field(5, 4), number(1, 2), number(4, 2);
+}
+
+static uint64_t told(uint32_t record) { return outline_reason(work, OUTLINE_WORK_WORDS, record); }
+
+/* An answer, whole. */
+static uint64_t answer(uint64_t reason, uint64_t list, uint64_t number) { return (reason + 256 * list + 65536 * number) << 32; }
+
+static void reasons(void) {
+    one_of_each();
+    is("one of each, opened", outline_open(job, length, work, OUTLINE_WORK_WORDS), 0);
+    is("a reason before all is done", told(2), OUTLINE_OUT_OF_TURN);
+    is("one of each", whole(), 0);
+    for (uint32_t r = 0; r < RINGS; r++) {
+        is("a reason's refusal", (uint32_t)told(r), 0);
+        is("a reason", told(r) >> 32 & 255, rings[r].reason);
+    }
+    is("the joined ring", told(1), answer(OUTLINE_JOINED, 0, 0));
+    is("the open line", told(8), answer(OUTLINE_WRITTEN, 7, 0));
+    is("the second offcut", told(10), answer(OUTLINE_WRITTEN, 6, 2));
+    is("a record that is not there", told(11), OUTLINE_OUT_OF_TURN);
+    is("a word less, of a reason", outline_reason(work, OUTLINE_WORK_WORDS - 1, 0), OUTLINE_FULL);
+}
+
 int main(void) {
     lengths();
     listings();
     rewriting();
+    reasons();
     counts();
     coordinates();
     other_refusals();

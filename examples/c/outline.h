@@ -90,7 +90,7 @@ enum outline_refusal {
     OUTLINE_KNOT = 9,          /* a join's second point is already the next of its first */
     OUTLINE_FULL = 10,         /* finishing needs more than 2,048 points or 512 records, or the work space is too short */
     OUTLINE_SMALL_TRAY = 11,   /* the paths, or the job that is written, need more bytes than the tray has */
-    OUTLINE_OUT_OF_TURN = 12,  /* a step on a record that has none to take, a reason of no record, or writing out or telling before every closed ring is done */
+    OUTLINE_OUT_OF_TURN = 12,  /* a step on a record that has none to take, the reason of an unknown record, or writing out or asking for a reason before every closed ring is done */
     OUTLINE_BAD_RATE = 13      /* more than one rate is given, or one that is not a whole number from 1 to 1,000 */
 };
 

@@ -19,9 +19,11 @@
 //! A work space is lent by the caller and nothing else is kept between calls, so two threads may use two work spaces at once.
 #![deny(missing_docs)]
 
+mod reason;
 mod refused;
 mod tray;
 
+pub use reason::Reason;
 pub use refused::Refused;
 pub use tray::{paths, Path};
 
@@ -207,30 +209,10 @@ pub fn list<'a>(job: &[u8], work: &mut [u32], tray: &mut [u8], rate: u32, text: 
 /// ```
 pub fn rewrite<'a>(job: &[u8], work: &mut [u32], tray: &'a mut [u8]) -> Result<&'a [u8], Refused> {
     let (words, room) = (work.len(), tray.len());
-    let both = unsafe { c::outline_rewrite(job.as_ptr(), job.len(), work.as_mut_ptr(), words, tray.as_mut_ptr(), room) };
+    let both =
+        unsafe { c::outline_rewrite(job.as_ptr(), job.len(), work.as_mut_ptr(), words, tray.as_mut_ptr(), room) };
     answer(both as u32)?;
     Ok(&tray[..(both >> 32) as usize])
-}
-
-/// Where a record's ring went.
-#[derive(Clone, Copy, Debug, PartialEq, Eq)]
-pub enum Reason {
-    /// The job has no ring for it.
-    NoRing,
-    /// Joined into another record, the one that took it in that join.
-    Joined { taker: u32 },
-    /// Too small at the validity test.
-    SmallRing,
-    /// Fell invalid while points were removed.
-    RingFell,
-    /// Its area was under 2.0 at a split.
-    SmallArea,
-    /// Too short when its path was built.
-    ShortPath,
-    /// Too small when its path was built.
-    SmallPath,
-    /// Its path is in the tray, at this place of the closed or the open ones, from 0.
-    Written { open: bool, place: u32 },
 }
 
 /// Why a record has an outline, or none. [`Refused::OUT_OF_TURN`]: there is no such record, or a closed ring isn't done.
@@ -248,15 +230,5 @@ pub enum Reason {
 pub fn reason(work: &[u32], record: u32) -> Result<Reason, Refused> {
     let both = unsafe { c::outline_reason(work.as_ptr(), work.len(), record) };
     answer(both as u32)?;
-    let number = (both >> 48) as u32;
-    Ok(match both >> 32 & 255 {
-        1 => Reason::NoRing,
-        2 => Reason::Joined { taker: number },
-        3 => Reason::SmallRing,
-        4 => Reason::RingFell,
-        5 => Reason::SmallArea,
-        6 => Reason::ShortPath,
-        7 => Reason::SmallPath,
-        _ => Reason::Written { open: both >> 40 & 255 == 7, place: number },
-    })
+    Ok(Reason::told((both >> 32) as u32))
 }

@@ -38,7 +38,7 @@ impl Refused {
     pub const FULL: Refused = Refused(10);
     /// The paths, or the job that is written, need more bytes than the tray has.
     pub const SMALL_TRAY: Refused = Refused(11);
-    /// A step on a record that has none to take, or writing out or asking for a reason before every closed ring is done.
+    /// A step on a record that has none to take, the reason of an unknown record, or writing out or asking for a reason before every closed ring is done.
     pub const OUT_OF_TURN: Refused = Refused(12);
     /// More than one rate is given, or one that is not a whole number from 1 to [`RATE`](crate::RATE).
     pub const BAD_RATE: Refused = Refused(13);

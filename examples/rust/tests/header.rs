@@ -4,7 +4,7 @@ use std::collections::BTreeMap;
 
 const HEADER: &str = include_str!("../../c/outline.h");
 
-/// `#define OUTLINE_NAME 1` and, in the enum of refusals, `OUTLINE_NAME = 1`.
+/// `#define OUTLINE_NAME 1` and, in the enums, `OUTLINE_NAME = 1`.
 fn header() -> BTreeMap<&'static str, u64> {
     let constant = |line: &'static str| {
         let line = line.strip_prefix("#define ").unwrap_or(line).trim_start().strip_prefix("OUTLINE_")?;
@@ -48,6 +48,17 @@ fn constants() {
     for (name, refused) in refusals {
         assert_eq!(refused.word().replace(' ', "_").to_uppercase(), name);
     }
+    let reasons = [
+        ("NO_RING", Reason::NoRing),
+        ("JOINED", Reason::Joined { taker: 0 }),
+        ("SMALL_RING", Reason::SmallRing),
+        ("RING_FELL", Reason::RingFell),
+        ("SMALL_AREA", Reason::SmallArea),
+        ("SHORT_PATH", Reason::ShortPath),
+        ("SMALL_PATH", Reason::SmallPath),
+        ("WRITTEN", Reason::Written { open: false, place: 0 }),
+    ];
     let refusals = refusals.map(|(name, refused)| (name, u64::from(refused.0)));
-    assert_eq!(header(), ours.into_iter().chain(refusals).collect());
+    let reasons = reasons.map(|(name, reason)| (name, u64::from(reason.number())));
+    assert_eq!(header(), ours.into_iter().chain(refusals).chain(reasons).collect());
 }
