@@ -1,4 +1,4 @@
-// Alterations of a work space, by kind: counts, links, records, first points, progress marks, present places, coordinates, any word;
+// Alterations of a work space, by kind: counts, links, records, first points, progress marks, present places, reasons and takers, coordinates, any word;
 // and some that keep it sound but leave it in a state that our own calls never make.
 use crate::words::*;
 use oracle::rng::Rng;
@@ -35,7 +35,7 @@ fn some_record(rng: &mut Rng, w: &[u32]) -> Option<usize> {
 
 /// Alters something and says what.
 pub fn alter(w: &mut [u32], rng: &mut Rng) -> String {
-    match rng.below(30) {
+    match rng.below(33) {
         0 => count(w, rng),
         1..=4 => point_word(w, rng),
         5..=11 => record_word(w, rng),
@@ -52,6 +52,7 @@ pub fn alter(w: &mut [u32], rng: &mut Rng) -> String {
         20 => fill(w, rng),
         21 => end_all(w, rng),
         22 => lone_point(w, rng),
+        23..=25 => kept(w, rng),
         _ => progress(w, rng),
     }
 }
@@ -94,7 +95,7 @@ fn record_word(w: &mut [u32], rng: &mut Rng) -> String {
     };
     let (points, records) = (points(w), records(w));
     let on_ring = ring_point(rng, w).unwrap_or(0) as u32;
-    match rng.below(12) {
+    match rng.below(11) {
         0 => put(w, FLAGS + r, rng.bits() as u32),
         1 => put(w, FLAGS + r, w[FLAGS + r] ^ 1),
         2 => put(w, OWNER + r, number(rng, records)),
@@ -111,13 +112,31 @@ fn record_word(w: &mut [u32], rng: &mut Rng) -> String {
         }
         8 => put(w, CUT + r, number(rng, records)),
         9 => put(w, REASON + r, rng.pick(&[0, 1, 2, 3, 4, 5, 6, NONE, u32::MAX])),
-        10 => put(w, TAKER + r, number(rng, records)),
-        _ => {
-            let taker = number(rng, records);
-            (w[FIRST + r], w[REASON + r], w[TAKER + r]) = (NONE, JOINED, taker);
-            format!("record {r} was taken by {taker}")
-        }
+        _ => put(w, TAKER + r, number(rng, records)),
     }
+}
+
+/// A record loses its ring, or the reason or the taker of one without is another.
+pub fn kept(w: &mut [u32], rng: &mut Rng) -> String {
+    let held = records(w).min(MOST_RECORDS);
+    if held == 0 {
+        return "nothing".into();
+    }
+    let ringless: Vec<usize> = (0..held).filter(|&r| w[FIRST + r] == NONE).collect();
+    let r = if ringless.is_empty() || rng.one_in(4) { rng.below(held) } else { rng.pick(&ringless) };
+    if !rng.one_in(6) {
+        w[FIRST + r] = NONE;
+    }
+    let any = held as u32;
+    let taker = rng.pick(&[0, r as u32, any - 1, any - 1, any, any + 1, 511, 512, NONE, any + 65_536, u32::MAX]);
+    match rng.below(5) {
+        0 => w[REASON + r] = rng.pick(&[0, 6, 7, 8, 9, 255, 256 + JOINED, 65_536 + NO_RING, NONE, u32::MAX]),
+        1 => w[TAKER + r] = taker,
+        2 => (w[REASON + r], w[TAKER + r]) = (JOINED, taker),
+        3 => (w[REASON + r], w[TAKER + r]) = (JOINED, rng.below(held) as u32),
+        _ => w[REASON + r] = 1 + rng.below(5) as u32,
+    }
+    format!("record {r} has first point {}, reason {}, taker {}", w[FIRST + r], w[REASON + r], w[TAKER + r])
 }
 
 /// Two points exchange their nexts, links kept right: a ring falls in two, or two become one.

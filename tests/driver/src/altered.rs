@@ -1,6 +1,6 @@
 // Kind `altered`: a work space after opening and some steps, some words altered; then steps and writing out against the plain
 // reading of the tests, then 12, then 10; where a step is carried out, against the model loaded from the words.
-use crate::alter::{alter, made_up, progress};
+use crate::alter::{alter, kept, made_up, progress};
 use crate::calls::{Calls, Fault};
 use crate::finish::tray_length;
 use crate::model::{load, same_forest, stray};
@@ -60,13 +60,19 @@ pub fn case(room: &mut Room, seed: u64, index: u64, rng: &mut Rng) -> Same {
     let past = rng.below(2) * rng.below(20);
     room.work.lend(WORDS + past, rng.bits() as u32)[..WORDS].copy_from_slice(&room.base.words);
     // One case in three has rings elsewhere in their stepping only, so that steps are carried out there.
-    let change = if rng.one_in(3) { progress } else { alter };
+    let elsewhere = rng.one_in(3);
+    let change = if elsewhere { progress } else { alter };
     if rng.one_in(8) {
         let said = made_up(&mut room.work.get_mut()[..WORDS], rng);
         room.trace.push(said);
     }
     for _ in 0..1 + rng.below(3) {
         let said = change(&mut room.work.get_mut()[..WORDS], rng);
+        room.trace.push(said);
+    }
+    // Beside other faults, so that the order of the tests shows.
+    if !elsewhere && rng.one_in(4) {
+        let said = kept(&mut room.work.get_mut()[..WORDS], rng);
         room.trace.push(said);
     }
     if rng.one_in(30) {
@@ -105,7 +111,7 @@ fn step(room: &mut Room, number: u32) -> Same {
     let before = room.work.get().to_vec();
     let answer = room.calls.step(room.work.get_mut(), number);
     room.trace.push(format!("step {number}: {answer}"));
-    room.tally.answer("step", answer);
+    room.tally.tested("step", &before, answer);
     let (act, model) = match plain::tests(&before) {
         Err(refusal) => (Err(refusal), None),
         Ok(()) => {
@@ -160,7 +166,7 @@ fn write(room: &mut Room, rng: &mut Rng) -> Same {
     room.tray.lend(length, fill);
     let answer = room.calls.write(room.work.get(), room.tray.get_mut());
     room.trace.push(format!("write with a tray of {length} bytes: {answer}"));
-    room.tally.answer("write", answer);
+    room.tally.tested("write", &before, answer);
     let number = match tests {
         Err(refusal) => refusal as u32,
         Ok(()) if live => 12,

@@ -1,5 +1,6 @@
 // The proved entry points as liboutline.a exports them. A slice is a pointer and a length.
 // A fault, which only the check of the driver itself switches on, spoils what a call left.
+use crate::plain::kept;
 use crate::words::*;
 
 extern "C" {
@@ -101,6 +102,20 @@ pub enum Fault {
     RewriteWord,
     /// A byte more is said to be written.
     RewriteLength,
+    /// Opening keeps the record that has the ring in the end as the taker.
+    OpenTaker,
+    /// Opening keeps no reason of a record that has no ring in the job.
+    OpenReason,
+    /// A step that discards keeps another of its three reasons.
+    StepReason,
+    /// A step on a work space whose taker names nothing says muddled.
+    StepTaker,
+    /// A step says that a reason is missing before any number or link.
+    StepOrder,
+    /// Writing out passes a taker that names nothing.
+    WriteTaker,
+    /// Writing out passes a missing reason.
+    WriteReason,
     /// The taker told is the record that has the ring in the end.
     ReasonTaker,
     /// A ring that fell invalid while points were removed is told too small to begin with.
@@ -154,6 +169,13 @@ pub const FAULTS: &[Fault] = &[
     Fault::RewriteKnot,
     Fault::RewriteWord,
     Fault::RewriteLength,
+    Fault::OpenTaker,
+    Fault::OpenReason,
+    Fault::StepReason,
+    Fault::StepTaker,
+    Fault::StepOrder,
+    Fault::WriteTaker,
+    Fault::WriteReason,
     Fault::ReasonTaker,
     Fault::ReasonRule,
     Fault::ReasonPath,
@@ -195,6 +217,12 @@ impl Calls {
                 work[PRESENT] = work[NEXT + work[FIRST] as usize];
             }
             Fault::OpenPast if answer == 0 && n > WORDS => work[n - 1] = 1,
+            Fault::OpenTaker if answer == 0 => {
+                (0..records(work)).for_each(|r| work[TAKER + r] = in_the_end(work, r) as u32)
+            }
+            Fault::OpenReason if answer == 0 => {
+                (0..records(work)).for_each(|r| work[REASON + r] &= !NO_RING);
+            }
             _ => {}
         }
         answer
@@ -215,6 +243,9 @@ impl Calls {
             (Fault::StepOwner, 0) if records(work) > held => work[OWNER + held] ^= 1,
             (Fault::TestsOrder, 6) => return 5,
             (Fault::TestsLeft, 7) => return 0,
+            (Fault::StepReason, 0) if work[FIRST + r] == NONE => work[REASON + r] = AT_VALIDITY + (work[REASON + r] - JOINED) % 3,
+            (Fault::StepTaker, 5) if kept(work, 5) == Some("5 for a taker alone") => return 7,
+            (Fault::StepOrder, 5 | 6) if untold(work) => return 7,
             (Fault::Beyond, 0) => unsafe { *work.as_mut_ptr().sub(1) = 1 },
             _ => {}
         }
@@ -226,6 +257,8 @@ impl Calls {
         match (self.0, answer) {
             (Fault::WriteFound, 1..) if !tray.is_empty() => tray[0] = 0,
             (Fault::WriteEarly, 12) => return 0,
+            (Fault::WriteTaker, 5) if kept(work, 5) == Some("5 for a taker alone") => return 0,
+            (Fault::WriteReason, 7) if kept(work, 7).is_some() => return 0,
             _ => {}
         }
         answer

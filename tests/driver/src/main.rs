@@ -37,12 +37,22 @@ fn run_of(kind: &str, seed: &str, count: &str, threads: &str, from: u64) -> Resu
     Ok(Run { kind, seed, from, to: from + count, threads, fault: Fault::None })
 }
 
+/// Whether a kind makes the call that a fault spoils. Two calls have a kind of their own; every other is tried in all.
+fn is_made(fault: Fault, kind: Kind) -> bool {
+    let name = format!("{fault:?}");
+    match () {
+        _ if name.starts_with("Reason") => kind == Kind::Reasons,
+        _ if name.starts_with("Rewrite") => kind == Kind::Canon,
+        _ => true,
+    }
+}
+
 /// Each deliberate fault must be found by some kind within so many cases.
 fn faults(seed: u64, count: u64) -> Result<(), String> {
     let mut missed = Vec::new();
     for &fault in FAULTS {
         let mut found = Vec::new();
-        for &(name, kind) in KINDS {
+        for &(name, kind) in KINDS.iter().filter(|(_, kind)| is_made(fault, *kind)) {
             let run = Run { kind, seed, from: 0, to: count, threads: 1, fault };
             if let Err(difference) = run.all() {
                 found.push(format!("{name} at case {} ({})", difference.index, difference.what));

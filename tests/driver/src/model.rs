@@ -83,7 +83,7 @@ pub fn load(w: &[u32]) -> Forest {
 }
 
 /// A word that a step carried out on a record may not have written: all but both counts, the links and record names of its
-/// ring's points, the record's first point, mark and loop, its reason once it is emptied, and the places that are new.
+/// ring's points, the record's first point, mark and loop, and the places that are new; and, once it is emptied, its reason, which must be that of the mark.
 pub fn stray(before: &[u32], after: &[u32], record: usize) -> Option<usize> {
     let mut allowed = before.to_vec();
     let mut allow = |at: usize| allowed[at] = after[at];
@@ -92,14 +92,14 @@ pub fn stray(before: &[u32], after: &[u32], record: usize) -> Option<usize> {
         [NEXT + p, PREV + p, REC + p].into_iter().for_each(&mut allow);
     }
     [FIRST, MARK, PRESENT, START].into_iter().for_each(|column| allow(column + record));
-    if after[FIRST + record] == NONE {
-        allow(REASON + record);
-    }
     for p in points(before)..points(after).min(MOST_POINTS) {
         [X, Y, NEXT, PREV, REC].into_iter().for_each(|column| allow(column + p));
     }
     for r in records(before)..records(after).min(MOST_RECORDS) {
         [FLAGS, OWNER, FIRST, MARK, PRESENT, START, CUT].into_iter().for_each(|column| allow(column + r));
+    }
+    if let (NONE, Some(reason)) = (after[FIRST + record], discarded_at(before[MARK + record])) {
+        allowed[REASON + record] = reason;
     }
     if allowed == after {
         return None;

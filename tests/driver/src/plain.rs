@@ -28,6 +28,45 @@ pub fn tests(w: &[u32]) -> Result<(), u8> {
     Ok(())
 }
 
+/// How a refusal may stand to what ringless records keep: each must come up, of every call that tests a work space.
+pub const KEPT: [&str; 8] = [
+    "4, before a taker or a reason",
+    "5 for a taker alone",
+    "5 for a taker, before 6",
+    "5 for a taker, before 7",
+    "5 for a taker, before a missing reason",
+    "5 for another number, before a missing reason",
+    "6, before a missing reason",
+    "7 for a missing reason alone",
+];
+
+/// Which of these a refusal of these words is, if any.
+pub fn kept(w: &[u32], refusal: u8) -> Option<&'static str> {
+    if !(4..=7).contains(&refusal) {
+        return None;
+    }
+    let ringless: Vec<usize> = (0..records(w)).filter(|&r| w[FIRST + r] == NONE).collect();
+    let taker = ringless.iter().any(|&r| no_such_taker(w, r));
+    let reason = ringless.iter().any(|&r| untold(w, r));
+    if !taker && !reason {
+        return None;
+    }
+    // The same words, but that these records keep a right reason.
+    let mut other = w.to_vec();
+    ringless.iter().for_each(|&r| other[REASON + r] = NO_RING);
+    let which = match (refusal, tests(&other)) {
+        (4, _) => 0,
+        (5, Ok(())) => 1 + 3 * reason as usize,
+        (5, Err(6)) => 2,
+        (5, Err(7)) => 3,
+        (5, _) if reason => 5,
+        (6, _) if reason => 6,
+        (7, Ok(())) => 7,
+        _ => return None,
+    };
+    Some(KEPT[which])
+}
+
 /// All points reached along next from the first points, as far as a number names a point.
 fn reached(w: &[u32]) -> Vec<usize> {
     let mut seen = [false; MOST_POINTS];

@@ -1,6 +1,6 @@
 // Kind `reasons`: outline_reason after opening, steps in any order and finishing in one call, against what happened in the oracle's stepping model; on altered
 // work spaces, against a plain reading of document 02, Ask 5. The work space is only read.
-use crate::alter::{alter, made_up};
+use crate::alter::{alter, kept, made_up};
 use crate::finish::read_tray;
 use crate::open::open_job;
 use crate::plain;
@@ -39,18 +39,22 @@ fn packed(told: Result<Reason, u32>) -> u64 {
     (reason.number() as u64 + 256 * list + 65_536 * number as u64) << 32
 }
 
+/// What may be told, for the tally; a long run must have met each.
+pub const TOLD: [&str; 9] = [
+    "told 1: no ring in the job",
+    "told 2: joined into another",
+    "told 3: too small at the validity test",
+    "told 4: fell invalid while points were removed",
+    "told 5: area under 2 at a split",
+    "told 6: path too short",
+    "told 7: path too small",
+    "told 8: written, closed",
+    "told 8: written, open",
+];
+
 fn event(reason: Reason) -> &'static str {
-    match reason {
-        Reason::NoRing => "told 1: no ring in the job",
-        Reason::Joined { .. } => "told 2: joined into another",
-        Reason::SmallRing => "told 3: too small at the validity test",
-        Reason::RingFell => "told 4: fell invalid while points were removed",
-        Reason::SmallArea => "told 5: area under 2 at a split",
-        Reason::ShortPath => "told 6: path too short",
-        Reason::SmallPath => "told 7: path too small",
-        Reason::Written { open: false, .. } => "told 8: written, closed",
-        Reason::Written { open: true, .. } => "told 8: written, open",
-    }
+    let open = matches!(reason, Reason::Written { open: true, .. });
+    TOLD[reason.number() as usize - 1 + open as usize]
 }
 
 /// Asks for one record's reason, in the first so many words.
@@ -58,7 +62,7 @@ fn ask_in(room: &mut Room, words: usize, record: u32, told: Result<Reason, u32>)
     let before = room.work.get().to_vec();
     let answer = room.calls.reason(&room.work.get()[..words], record);
     room.trace.push(format!("reason of {record} with {words} words: {}, {:#x}", answer as u32, answer >> 32));
-    room.tally.answer("reason", answer as u32);
+    room.tally.tested("reason", &before[..words], answer as u32);
     if let Ok(reason) = told {
         room.tally.event(event(reason), 1);
     }
@@ -193,29 +197,6 @@ fn told(w: &[u32], record: u32) -> Result<Reason, u32> {
     })
 }
 
-/// A record loses its ring, or the reason or the taker of one without is another.
-fn alter_reason(w: &mut [u32], rng: &mut Rng) -> String {
-    let held = records(w).min(MOST_RECORDS);
-    if held == 0 {
-        return "nothing".into();
-    }
-    let ringless: Vec<usize> = (0..held).filter(|&r| w[FIRST + r] == NONE).collect();
-    let r = if ringless.is_empty() || rng.one_in(4) { rng.below(held) } else { rng.pick(&ringless) };
-    if !rng.one_in(6) {
-        w[FIRST + r] = NONE;
-    }
-    let any = held as u32;
-    let taker = rng.pick(&[0, r as u32, any - 1, any - 1, any, any + 1, 511, 512, NONE, any + 65_536, u32::MAX]);
-    match rng.below(5) {
-        0 => w[REASON + r] = rng.pick(&[0, 6, 7, 8, 9, 255, 256 + JOINED, 65_536 + NO_RING, NONE, u32::MAX]),
-        1 => w[TAKER + r] = taker,
-        2 => (w[REASON + r], w[TAKER + r]) = (JOINED, taker),
-        3 => (w[REASON + r], w[TAKER + r]) = (JOINED, rng.below(held) as u32),
-        _ => w[REASON + r] = 1 + rng.below(5) as u32,
-    }
-    format!("record {r} has first point {}, reason {}, taker {}", w[FIRST + r], w[REASON + r], w[TAKER + r])
-}
-
 /// A finished or an opened work space with some words altered, reasons and takers mostly.
 fn altered(room: &mut Room, rng: &mut Rng) -> Same {
     room.work.lend(WORDS + rng.below(2) * rng.below(20), rng.bits() as u32);
@@ -230,7 +211,7 @@ fn altered(room: &mut Room, rng: &mut Rng) -> Same {
         (0..records(w)).filter(|_| rng.one_in(3)).for_each(|r| w[MARK + r] = DONE);
     }
     for _ in 0..1 + rng.below(4) {
-        let said = if rng.one_in(4) { alter(w, rng) } else { alter_reason(w, rng) };
+        let said = if rng.one_in(4) { alter(w, rng) } else { kept(w, rng) };
         room.trace.push(said);
     }
     for _ in 0..4 {

@@ -97,6 +97,15 @@ impl Kind {
             Kind::Reasons => vec![("reason", vec![0, 3, 4, 5, 6, 7, 10, 12])],
         }
     }
+
+    /// The calls on altered work spaces, whose refusals must have stood in every way to what ringless records keep.
+    fn must_test(self) -> &'static [&'static str] {
+        match self {
+            Kind::Altered => &["step", "write"],
+            Kind::Reasons => &["reason"],
+            _ => &[],
+        }
+    }
 }
 
 pub struct Difference {
@@ -168,9 +177,13 @@ impl Run {
         println!("{name}, seed {seed}: {count} cases, none differs, {seconds:.1} s, {rate:.0} a second");
         print!("{}", tally.print());
         let must = self.kind.must_see().into_iter();
-        let lacking: Vec<String> = must.flat_map(|(call, answers)| tally.lacking(call, &answers)).collect();
+        let mut lacking: Vec<String> = must.flat_map(|(call, answers)| tally.lacking(call, &answers)).collect();
+        if self.kind == Kind::Reasons {
+            lacking.extend(tally.lacking_events(&reasons::TOLD));
+        }
+        lacking.extend(self.kind.must_test().iter().flat_map(|call| tally.lacking_kept(call)));
         if count >= 10_000 && !lacking.is_empty() {
-            return Err(format!("{name}: among {count} cases these answers never came up: {}", lacking.join(", ")));
+            return Err(format!("{name}: among {count} cases these never came up: {}", lacking.join(", ")));
         }
         Ok(())
     }

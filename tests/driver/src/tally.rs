@@ -1,10 +1,13 @@
 // How often each call gave each answer, and each event came up.
+use crate::plain;
 use std::collections::BTreeMap;
 
 #[derive(Clone, Default)]
 pub struct Tally {
     answers: BTreeMap<(&'static str, u32), u64>,
     events: BTreeMap<&'static str, u64>,
+    /// How a call's refusals stood to what ringless records keep.
+    kept: BTreeMap<(&'static str, &'static str), u64>,
 }
 
 impl Tally {
@@ -16,12 +19,23 @@ impl Tally {
         *self.events.entry(name).or_default() += times;
     }
 
+    /// A call's answer on a work space that somebody altered.
+    pub fn tested(&mut self, call: &'static str, w: &[u32], answer: u32) {
+        self.answer(call, answer);
+        if let Some(name) = u8::try_from(answer).ok().and_then(|refusal| plain::kept(w, refusal)) {
+            *self.kept.entry((call, name)).or_default() += 1;
+        }
+    }
+
     pub fn merge(&mut self, other: &Tally) {
         for (key, times) in &other.answers {
             *self.answers.entry(*key).or_default() += times;
         }
         for (name, times) in &other.events {
             self.event(name, *times);
+        }
+        for (key, times) in &other.kept {
+            *self.kept.entry(*key).or_default() += times;
         }
     }
 
@@ -31,10 +45,24 @@ impl Tally {
         missing.map(|answer| format!("{call} {answer}")).collect()
     }
 
+    /// Which of these events never came up.
+    pub fn lacking_events(&self, events: &[&'static str]) -> Vec<String> {
+        events.iter().filter(|name| !self.events.contains_key(*name)).map(|name| name.to_string()).collect()
+    }
+
+    /// In which ways a call's refusals never stood to what ringless records keep.
+    pub fn lacking_kept(&self, call: &'static str) -> Vec<String> {
+        let missing = plain::KEPT.iter().filter(|name| !self.kept.contains_key(&(call, **name)));
+        missing.map(|name| format!("{call} {name}")).collect()
+    }
+
     pub fn print(&self) -> String {
         let mut out = String::new();
         for ((call, answer), times) in &self.answers {
             out += &format!("{times:>12}  {call} {answer}\n");
+        }
+        for ((call, name), times) in &self.kept {
+            out += &format!("{times:>12}  {call} {name}\n");
         }
         for (name, times) in &self.events {
             out += &format!("{times:>12}  {name}\n");

@@ -40,6 +40,16 @@ pub const TRIANGLE: u32 = 2;
 pub const SPLIT: u32 = 3;
 pub const DONE: u32 = 4;
 
+/// What is kept of a ring that a step at this mark discards; none at the others.
+pub fn discarded_at(mark: u32) -> Option<u32> {
+    match mark {
+        VALIDITY => Some(AT_VALIDITY),
+        REMOVAL => Some(WHILE_REMOVING),
+        SPLIT => Some(AT_SPLIT),
+        _ => None,
+    }
+}
+
 pub fn points(w: &[u32]) -> usize {
     w[POINTS] as usize
 }
