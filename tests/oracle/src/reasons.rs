@@ -232,9 +232,22 @@ fn as_in_rust(opened: &Opened, reverse: bool, reasons: &[Reason]) -> Result<(), 
             _ => {}
         }
     }
+    let broken = broken(&done);
     let told = |wanted: [Reason; 2]| reasons.iter().filter(|reason| wanted.contains(reason)).count();
     let left = (told([Reason::SmallRing, Reason::RingFell]), told([Reason::SmallArea; 2]));
-    expect(broken(&done) == left, reasons.len(), "the Rust discards other rings as too small, or at a crossing")?;
+    let few = broken.iter().filter(|(_, points)| *points <= 3).count();
+    let others = "the Rust discards other rings as too small, or at a crossing";
+    expect((few, broken.len() - few) == left, reasons.len(), others)?;
+    // An offcut has three points, which name it.
+    for (r, reason) in reasons.iter().enumerate().skip(opened.base.outrec_list.len()) {
+        let left = broken.iter().find(|(record, _)| *record == r).map(|(_, points)| *points);
+        let wanted = match reason {
+            Reason::SmallRing => Some(3),
+            Reason::RingFell => Some(2),
+            _ => None,
+        };
+        expect(left == wanted, r, "the Rust discards the offcut otherwise, or not at all")?;
+    }
     for (r, record) in opened.job.records.iter().enumerate() {
         expect((record.first == NONE) == (reasons[r] == Reason::NoRing), r, "a ring in the job, or none")?;
     }
@@ -245,14 +258,13 @@ fn as_in_rust(opened: &Opened, reverse: bool, reasons: &[Reason]) -> Result<(), 
     Ok(())
 }
 
-/// How many discarded rings the Rust left with at most three points, and with more. It breaks the circle of a ring that it discards at one next, and keeps every prev.
-/// A ring that is not valid has at most three points, and one that has a crossing has more.
-fn broken(base: &ClipperBase) -> (usize, usize) {
+/// The rings that the Rust discarded: the record that the last point names, and how many points are left, 4 for more. It breaks the circle of such a ring at one next, and keeps
+/// every prev. A ring that is not valid has at most three points, and one that has a crossing has more.
+fn broken(base: &ClipperBase) -> Vec<(usize, usize)> {
     let before = |at: &usize| Some(base.outpt_arena[*at].prev);
     let ends = (0..base.outpt_arena.len()).filter(|&at| base.outpt_arena[at].next == UNLINKED);
-    let few = |end: &usize| std::iter::successors(before(end), before).take(3).any(|at| at == *end);
-    let (few, more): (Vec<usize>, Vec<usize>) = ends.partition(few);
-    (few.len(), more.len())
+    let points = |end: usize| std::iter::successors(before(&end), before).take(3).position(|at| at == end);
+    ends.map(|end| (base.outpt_arena[end].outrec, points(end).map_or(4, |at| at + 1))).collect()
 }
 
 /// Whether the Rust's small test ends the path of a record's ring. It is asked of a closed ring whose path has three points; built as an open one, the path meets
