@@ -1,22 +1,19 @@
 -- How rows 4 to 8 go, test by test: each law's premises are what the calls ensure and how the tests came out.
 use mathlib.Core.Path.{_≡_, refl, sym, _∙_}
-use mathlib.Core.Bool.{Bool, true, false, cond, not, _||_}
+use mathlib.Core.Bool.{Bool, true, false, cond, _||_}
 use mathlib.Core.List.{List}
 use Prim.Native.Nat.{ℕ, _*_, _≤_}
 use native.Mathlib.Omega.{arith}
-use Rattle.job.specs.Limits.{POINTS}
 use Rattle.job.specs.declared.refusal.Refusal.{Refusal}
 use Rattle.job.specs.declared.refusal.Refusal.the-variants.{OffTheTable, NoSuch, Loose, Muddled, OpenEdge}
-use Rattle.marks.specs.Marks.{marked, allBelow}
 use Rattle.store.specs.Named.{pointsOf, recordsOf}
 use Rattle.audit.specs.Tests.{anyBelow, noSuch, noSuchOf}
 use Rattle.audit.specs.declared.Verdict.{Verdict}
 use Rattle.audit.specs.declared.Verdict.the-variants.{Passed, Refused}
 use Rattle.rows.specs.Owners.{circles}
-use Rattle.rows.specs.Marks.{AllWalked}
+use Rattle.rows.specs.Rings.{alone, estranged}
 use Rattle.rows.specs.Rows.{offTheTable, unnamed, noSuchNumber, looseLink, muddled, openEdge, rowsOf}
 use Rattle.rows.specs.Found.{firstRows, Filled, Named}
-use Rattle.rows.proofs.Marking.{unmarked-alone}
 use Rattle.rows.proofs.Homes.{or-left, or-right}
 
 -- row 7
@@ -27,12 +24,8 @@ module _ (w : List ℕ) (r : Bool) (a : r ≡ anyBelow (recordsOf w) (circles w)
   pub none-circles : r ≡ false → anyBelow (recordsOf w) (circles w) ≡ false
   none-circles h = sym a ∙ h
 
-  module _ (ms : List ℕ) (s : Bool) (h : r ≡ false) (g : AllWalked w ms s) where
-    pub estranged-found : s ≡ true → true ≡ muddled w
-    estranged-found e = rw (← a, h, ← g .found, e)
-
-    pub alone-found : (b : Bool) → s ≡ false → pointsOf w ≤ POINTS → b ≡ not (allBelow (pointsOf w) (marked ms)) → b ≡ muddled w
-    alone-found b e l d = rw (← a, h, ← g .found, e) (d ∙ rw (g .marks e) (unmarked-alone w l))
+  pub stray-found : (b : Bool) → r ≡ false → b ≡ (anyBelow (recordsOf w) (estranged w) || anyBelow (pointsOf w) (alone w)) → b ≡ muddled w
+  stray-found b h d = rw (← a, h) d
 
 -- rows 4 and 5
 module _ (w ss : List ℕ) (m : ℕ) (js : List ℕ) (n : ℕ) (a : Bool) (p : a ≡ offTheTable w) where

@@ -4,8 +4,8 @@ pub mod Tabling
 pub mod Following
 pub mod Circling
 pub mod Reaching
-pub mod Rounds
 pub mod Marking
+pub mod Rounds
 pub mod Homes
 pub mod Judging
 pub mod Readiness

@@ -1,30 +1,29 @@
--- How a walk round a ring goes, point by point, and round all rings, record by record.
-use mathlib.Core.Path.{_≡_, refl, sym, ap, _∙_}
-use mathlib.Core.Bool.{Bool, true, false}
+-- How the walks round the rings go: point by point in one word, ring by ring in one word, and word by word.
+use mathlib.Core.Path.{_≡_, refl, sym, ap, _∙_, subst}
+use mathlib.Core.Bool.{Bool, true, false, not, _||_}
 use mathlib.Core.Logic.{_≢_, _⊎_, inl, inr}
 use mathlib.Core.List.{List}
-use Prim.Native.Nat.{ℕ, zero, suc, _+_, _-_, _/_, _%_, _^_, _<_, _≤_}
+use Prim.Native.Nat.{ℕ, zero, suc, _+_, _-_, _*_, _/_, _%_, _^_, _<_, _≤_}
 use native.Mathlib.Numerals.{sub-one, add-one}
 use native.Mathlib.Omega.{arith}
+use lib.Bits.{bitOr}
 use lib.ListN.{replicate}
-use borrow.Author.Tests.{eq-eqb, ne-eqb}
+use borrow.Author.Tests.{eq-eqb, ne-eqb, not-true, not-false}
 use Rattle.rings.specs.Walk.{run}
 use Rattle.job.specs.Limits.{POINTS}
-use Rattle.marks.specs.Marks.{BITS, WORDS, withBit, withMark, withBits}
+use Rattle.marks.specs.Marks.{BITS, WORDS, withBit, withMark, withBits, marked, allBelow}
 use Rattle.marks.proofs.Marking.{no-bits, bits-more}
 use Rattle.store.specs.Field.{NONE}
 use Rattle.store.specs.Words.{view}
-use Rattle.store.specs.Named.{nextOf, firstOf, recordsOf, ringOf}
+use Rattle.store.specs.Named.{nextOf, firstOf, pointsOf, recordsOf}
 use Rattle.store.specs.Sound.{ringAt}
 use Rattle.audit.specs.Tests.{anyBelow}
-use Rattle.audit.proofs.Testing.{more, hit, whole}
-use Rattle.rows.specs.Rings.{anyIn, elsewhere, estranged}
-use Rattle.rows.specs.Marks.{marksOn, marksTo, Walked, AllWalked, Stretching, Stretched}
-
--- where a walk stands: what is still ahead decides
-pub record Round (w : List ℕ) (i a : ℕ) (ms₀ : List ℕ) (p left : ℕ) (ms : List ℕ) : Type 0 where
-  pub found : anyIn (elsewhere w i) (run (nextOf w) a left p) ≡ anyIn (elsewhere w i) (ringOf w a)
-  pub marks : marksOn (run (nextOf w) a left p) ms ≡ marksOn (ringOf w a) ms₀
+use Rattle.audit.proofs.Testing.{none, more, hit}
+use Rattle.rows.specs.Rings.{anyIn, alone, elsewhere, estranged}
+use Rattle.rows.specs.Marks.{marksOn, marksTo, Begins, Stretching, Stretched, Standing, toGo, Gathers}
+use Rattle.rows.specs.declared.visits.Place.{Place}
+use Rattle.rows.specs.declared.visits.Gathered.{Gathered}
+use Rattle.rows.proofs.Marking.{unmarked-alone}
 
 clash : {A : Type 0} {b : Bool} → b ≡ true → b ≡ false → A
 clash e f = absurd (let z : _≡_ {A = ℕ} 0 1 = cc in omega arith)
@@ -66,30 +65,28 @@ unfolding run marksOn
 over-marks n a p zero ms z = refl
 over-marks n a p (suc f) ms z = absurd (omega arith)
 
-pub begun : (w : List ℕ) (i a : ℕ) (ms : List ℕ) → Round w i a ms a POINTS ms
-begun w i a ms = record { found = refl; marks = refl }
-
 -- a stretch, point by point
-pub stretch-begun : (w : List ℕ) (i a p left : ℕ) → Stretching w i a p left (p / BITS) 0 p left
-stretch-begun w i a p left = record { found = refl; marks = λ ms. ap (marksOn (run (nextOf w) a left p)) (no-bits ms (p / BITS)) }
+pub stretch-begun : (w : List ℕ) (i a p left word : ℕ) → Stretching w i a p left word 0 p left
+stretch-begun w i a p left word = record { found = refl; marks = λ ms. ap (marksOn (run (nextOf w) a left p)) (no-bits ms word) }
 
-module _ {w : List ℕ} {i a p left word bits q n : ℕ} (g : Stretching w i a p left word bits q n) (z : 0 < n) where
-  pub stretch-on : (q ≡ p) ⊎ (n < left) → word ≡ p / BITS → (q / BITS ≡ word → ⊥) → Stretched w i a p left false false word bits q n
-  stretch-on h e d =
+module _ {w : List ℕ} {i a p left word bits q n : ℕ} (g : Stretching w i a p left word bits q n) (z : 0 < n) (l : n ≤ left) where
+  pub stretch-on : (q ≡ p) ⊎ (n < left) → (q / BITS ≡ word → ⊥) → Stretched w i a p left word false false bits q n
+  stretch-on h d =
       record {
         found = λ y. clash y refl;
         none = λ x y. clash y refl;
         marks = λ x y. clash y refl;
         goes-on = λ x y. g;
         falls = λ x y. by h;
+        few = l;
       }
     where
-      by : (q ≡ p) ⊎ (n < left) → n < left
-      by (inl f) = absurd (d (ap (λ (x : ℕ). x / BITS) f ∙ sym e))
-      by (inr l) = l
+      by : (q ≡ p) ⊎ (n < left) → p / BITS ≡ word → n < left
+      by (inl f) e = absurd (d (ap (λ (x : ℕ). x / BITS) f ∙ e))
+      by (inr m) e = m
 
   module _ (b : Bool) (e : b ≡ elsewhere w i q) where
-    pub stretch-met : b ≡ true → Stretched w i a p left true false word bits q n
+    pub stretch-met : b ≡ true → Stretched w i a p left word true false bits q n
     stretch-met h =
         record {
           found = λ y. sym (g .found) ∙ ahead-yes (elsewhere w i) (nextOf w) a q n z (sym e ∙ h);
@@ -97,6 +94,7 @@ module _ {w : List ℕ} {i a p left word bits q n : ℕ} (g : Stretching w i a p
           marks = λ x y. clash refl x;
           goes-on = λ x y. clash refl x;
           falls = λ x y. clash refl x;
+          few = l;
         }
 
     module _ (x bits′ : ℕ) (h : b ≡ false) (u : q / BITS ≡ word) (d : bits′ ≡ withBit bits (q % BITS)) (c : x ≡ nextOf w q) where
@@ -104,7 +102,7 @@ module _ {w : List ℕ} {i a p left word bits q n : ℕ} (g : Stretching w i a p
       unfolding withBit
       more-bits ms = rw (u, d) (bits-more ms word bits (2 ^ (q % BITS)))
 
-      pub stretch-back : x ≡ a → Stretched w i a p left false true word bits′ x n
+      pub stretch-back : x ≡ a → Stretched w i a p left word false true bits′ x n
       stretch-back y =
           record {
             found = λ t. clash t refl;
@@ -112,6 +110,7 @@ module _ {w : List ℕ} {i a p left word bits q n : ℕ} (g : Stretching w i a p
             marks = λ s t ms. sym (g .marks ms) ∙ marks-back (elsewhere w i) (nextOf w) a q n (withBits ms word bits) z (sym c ∙ y) ∙ more-bits ms;
             goes-on = λ s t. clash refl t;
             falls = λ s t. clash refl t;
+            few = l;
           }
 
       pub stretch-more : (x ≡ a → ⊥) → Stretching w i a p left word bits′ x (n - 1)
@@ -122,7 +121,7 @@ module _ {w : List ℕ} {i a p left word bits q n : ℕ} (g : Stretching w i a p
             marks = λ ms. ap (marksOn (run (nextOf w) a (n - 1) (nextOf w q))) (sym (more-bits ms)) ∙ sym (marks-on (elsewhere w i) (nextOf w) a q n (withBits ms word bits) z (λ t. y (c ∙ t))) ∙ g .marks ms;
           })
 
-pub stretch-over : {w : List ℕ} {i a p left word bits q n : ℕ} → Stretching w i a p left word bits q n → n ≤ 0 → Stretched w i a p left false true word bits q n
+pub stretch-over : {w : List ℕ} {i a p left word bits q n : ℕ} → Stretching w i a p left word bits q n → n ≤ 0 → Stretched w i a p left word false true bits q n
 stretch-over {w} {i} {a} {p} {left} {word} {bits} {q} {n} g z =
     record {
       found = λ t. clash t refl;
@@ -130,55 +129,132 @@ stretch-over {w} {i} {a} {p} {left} {word} {bits} {q} {n} g z =
       marks = λ s t ms. sym (g .marks ms) ∙ over-marks (nextOf w) a q n (withBits ms word bits) z;
       goes-on = λ s t. clash refl t;
       falls = λ s t. clash refl t;
-    }
-
--- a ring, stretch by stretch
-module _ {w : List ℕ} {i a : ℕ} {ms₀ : List ℕ} {p left : ℕ} {ms : List ℕ} (g : Round w i a ms₀ p left ms) {b back : Bool} {word bits q n : ℕ} (s : Stretched w i a p left b back word bits q n) where
-  pub met : b ≡ true → Walked w i (ringOf w a) ms₀ ms true
-  met h = record { found = sym (s .found h) ∙ g .found; marks = λ y. clash refl y }
-
-  module _ (ms′ : List ℕ) (h : b ≡ false) (d : ms′ ≡ withBits ms word bits) where
-    pub back-home : back ≡ true → Walked w i (ringOf w a) ms₀ ms′ false
-    back-home y = record { found = sym (s .none h y) ∙ g .found; marks = λ _. d ∙ sym (s .marks h y ms) ∙ g .marks }
-
-    pub onward : back ≡ false → Round w i a ms₀ q n ms′
-    onward y = record { found = s .goes-on h y .found ∙ g .found; marks = ap (marksOn (run (nextOf w) a n q)) d ∙ s .goes-on h y .marks ms ∙ g .marks }
-
-  pub shorter : b ≡ false → back ≡ false → n < left
-  shorter h y = s .falls h y
-
-pub over : {w : List ℕ} {i a : ℕ} {ms₀ : List ℕ} {p left : ℕ} {ms : List ℕ} → Round w i a ms₀ p left ms → left ≤ 0 → Walked w i (ringOf w a) ms₀ ms false
-over {w} {i} {a} {ms₀} {p} {left} {ms} g z =
-    record {
-      found = sym (over-any (elsewhere w i) (nextOf w) a p left z) ∙ g .found;
-      marks = λ _. sym (over-marks (nextOf w) a p left ms z) ∙ g .marks;
+      few = omega arith;
     }
 
 -- a record without points, and one with
-pub ringless-walked : (w : List ℕ) (i a : ℕ) (ms : List ℕ) → a ≡ firstOf w i → a ≡ NONE → Walked w i (ringAt (view w) i) ms ms false
-unfolding anyIn marksOn
-ringless-walked w i a ms e h = rw (eq-eqb (firstOf w i) NONE (sym e ∙ h)) (record { found = refl; marks = λ _. refl })
+module _ (w : List ℕ) (i a : ℕ) (e : a ≡ firstOf w i) where
+  pub begins-ringless : a ≡ NONE → Begins w i (record { ring = i; first = a; point = a; left = 0 })
+  unfolding run
+  begins-ringless h = record { ring = refl; ahead = rw (eq-eqb (firstOf w i) NONE (sym e ∙ h)); few = omega arith }
 
-pub ring-walked : (w : List ℕ) (i a : ℕ) (ms ms′ : List ℕ) (r : Bool) → a ≡ firstOf w i → (a ≡ NONE → ⊥) → Walked w i (ringOf w a) ms ms′ r → Walked w i (ringAt (view w) i) ms ms′ r
-ring-walked w i a ms ms′ r e h g = rw (ne-eqb (firstOf w i) NONE (λ y. h (e ∙ y)), ← e) g
+  pub begins-ring : (a ≡ NONE → ⊥) → Begins w i (record { ring = i; first = a; point = a; left = POINTS })
+  begins-ring h = record { ring = refl; ahead = rw (ne-eqb (firstOf w i) NONE (λ y. h (e ∙ y)), e); few = omega arith }
 
--- all records
-pub none-walked : (w ms : List ℕ) → ms ≡ replicate WORDS 0 → ms ≡ marksTo w 0
+-- at the beginning of a ring
+at-ring : (w : List ℕ) (i : ℕ) (c : Place) (ms : List ℕ) → Begins w i c → i ≤ recordsOf w → anyBelow i (estranged w) ≡ false → ms ≡ marksTo w i → Standing w c ms
 unfolding marksTo
-none-walked w ms e = e
+at-ring w i c ms b l a h =
+    record {
+      few = rw (b .ring) l;
+      none = rw (b .ring) a;
+      found = rw (b .ring, b .ahead);
+      marks = rw (b .ring, b .ahead) (ap (marksOn (ringAt (view w) i)) h);
+      all = λ _. rw (b .ring) h;
+    }
 
-module _ {w : List ℕ} {i : ℕ} {ms ms′ : List ℕ} {r : Bool} (g : Walked w i (ringAt (view w) i) ms ms′ r) where
-  pub all-met : (n : ℕ) → i < n → n ≡ recordsOf w → r ≡ true → AllWalked w ms′ r
-  all-met n l c h = record { found = h ∙ hit (estranged w) (recordsOf w) n i r l c (g .found) h; marks = λ y. clash h y }
+pub stands-first : (w : List ℕ) (c : Place) (ms : List ℕ) → Begins w 0 c → ms ≡ replicate WORDS 0 → Standing w c ms
+unfolding marksTo
+stands-first w c ms b e = at-ring w 0 c ms b (omega arith) (none (estranged w)) e
 
-  pub all-more : anyBelow i (estranged w) ≡ false → r ≡ false → anyBelow (i + 1) (estranged w) ≡ false
-  all-more a h = more (estranged w) i r a (g .found) h
+-- a ring, stretch by stretch
+module _ {w : List ℕ} {c : Place} {ms : List ℕ} (g : Standing w c ms) {met back : Bool} {word bits q n : ℕ} (s : Stretched w (c .ring) (c .first) (c .point) (c .left) word met back bits q n) (l : c .ring < recordsOf w) where
+  meets : met ≡ true → anyBelow (recordsOf w) (estranged w) ≡ true
+  meets h = sym (hit (estranged w) (recordsOf w) (recordsOf w) (c .ring) true l refl (sym (s .found h) ∙ g .found) refl)
 
-  pub marks-more : r ≡ false → ms ≡ marksTo w i → ms′ ≡ marksTo w (i + 1)
-  unfolding marksTo
-  marks-more h e = rw add-one (g .marks h ∙ ap (marksOn (ringAt (view w) i)) e)
+  module _ (h : met ≡ false) where
+    round-on : back ≡ false → Standing w (record { ring = c .ring; first = c .first; point = q; left = n }) (withBits ms word bits)
+    round-on y =
+        record {
+          few = g .few;
+          none = g .none;
+          found = s .goes-on h y .found ∙ g .found;
+          marks = s .goes-on h y .marks ms ∙ g .marks;
+          all = λ k. absurd (omega arith);
+        }
 
-pub all-walked : (w ms : List ℕ) (n i : ℕ) → n ≤ i → n ≡ recordsOf w → i ≤ recordsOf w → anyBelow i (estranged w) ≡ false → ms ≡ marksTo w i → AllWalked w ms false
-all-walked w ms n i h c k a e =
-    let d : i ≡ recordsOf w = omega arith in
-    record { found = whole (estranged w) (recordsOf w) n i h c k a; marks = λ _. e ∙ ap (marksTo w) d }
+    ring-done : back ≡ true → (d : Place) → Begins w (c .ring + 1) d → Standing w d (withBits ms word bits)
+    ring-done y d b =
+        at-ring w (c .ring + 1) d (withBits ms word bits) b (omega arith)
+        (more (estranged w) (c .ring) false (g .none) (sym (s .none h y) ∙ g .found) refl)
+        (sym (s .marks h y ms) ∙ g .marks ∙ ap (marksTo w) (sym (add-one (c .ring))))
+
+-- what is gathered in one word up to a place
+pub record Gathering (w : List ℕ) (from c : Place) (word bits : ℕ) : Type 0 where
+  pub stands : (ms : List ℕ) → Standing w from ms → Standing w c (withBits ms word bits)
+  pub moved : (c ≡ from) ⊎ ((from .ring < c .ring) × (c .left ≤ POINTS))
+
+pub gather-begun : (w : List ℕ) (from : Place) (word : ℕ) → Gathering w from from word 0
+gather-begun w from word = record { stands = λ ms s. rw (no-bits ms word) s; moved = inl refl }
+
+module _ {w : List ℕ} {from c : Place} {bits : ℕ} (g : Gathering w from c (from .point / BITS) bits) (r : ℕ) (k : r ≡ recordsOf w) where
+  pub gather-over : r ≤ c .ring → Gathers w from (record { found = false; word = from .point / BITS; bits = bits; place = c })
+  gather-over h =
+      record {
+        met = λ y. clash y refl;
+        goes-on = λ _ ms z. g .stands ms z;
+        falls = λ _ l. by (g .moved) l;
+      }
+    where
+      by : (c ≡ from) ⊎ ((from .ring < c .ring) × (c .left ≤ POINTS)) → from .ring < recordsOf w → toGo w c < toGo w from
+      by (inl e) l = let d : c .ring ≡ from .ring = ap (λ (x : Place). x .ring) e in absurd (omega arith)
+      by (inr (m, f)) l = omega arith
+
+  module _ (l : c .ring < r) {met back : Bool} {b q n : ℕ} (s : Stretched w (c .ring) (c .first) (c .point) (c .left) (from .point / BITS) met back b q n) where
+    pub gather-met : met ≡ true → Gathers w from (record { found = true; word = from .point / BITS; bits = bits; place = c })
+    gather-met h =
+        record {
+          met = λ _ ms z. meets (g .stands ms z) s (omega arith) h;
+          goes-on = λ y. clash refl y;
+          falls = λ y. clash refl y;
+        }
+
+    module _ (h : met ≡ false) (bits′ : ℕ) (d : bits′ ≡ bitOr bits b) where
+      both : (ms : List ℕ) → withBits (withBits ms (from .point / BITS) bits) (from .point / BITS) b ≡ withBits ms (from .point / BITS) bits′
+      both ms = bits-more ms (from .point / BITS) bits b ∙ ap (withBits ms (from .point / BITS)) (sym d)
+
+      pub gather-on : not back ≡ true → Gathers w from (record { found = false; word = from .point / BITS; bits = bits′; place = record { ring = c .ring; first = c .first; point = q; left = n } })
+      gather-on y =
+          record {
+            met = λ x. clash x refl;
+            goes-on = λ _ ms z. subst (Standing w (record { ring = c .ring; first = c .first; point = q; left = n })) (both ms) (round-on (g .stands ms z) s (omega arith) h (not-true back y));
+            falls = λ _ m. by (g .moved) m;
+          }
+        where
+          by : (c ≡ from) ⊎ ((from .ring < c .ring) × (c .left ≤ POINTS)) → from .ring < recordsOf w → toGo w (record { ring = c .ring; first = c .first; point = q; left = n }) < toGo w from
+          by (inl e) m =
+              let u : c .ring ≡ from .ring = ap (λ (x : Place). x .ring) e in
+              let v : c .left ≡ from .left = ap (λ (x : Place). x .left) e in
+              let t : n < c .left = s .falls h (not-true back y) (ap (λ (x : Place). x .point / BITS) e) in
+              omega arith
+          by (inr (m, f)) _ = let t : n ≤ c .left = s .few in omega arith
+
+      pub gather-more : not back ≡ false → (d : Place) → Begins w (c .ring + 1) d → Gathering w from d (from .point / BITS) bits′
+      gather-more y d b =
+          record {
+            stands = λ ms z. subst (Standing w d) (both ms) (ring-done (g .stands ms z) s (omega arith) h (not-false back y) d b);
+            moved = inr (by (g .moved));
+          }
+        where
+          by : (c ≡ from) ⊎ ((from .ring < c .ring) × (c .left ≤ POINTS)) → (from .ring < d .ring) × (d .left ≤ POINTS)
+          by (inl e) = let u : c .ring ≡ from .ring = ap (λ (x : Place). x .ring) e in let v : d .ring ≡ c .ring + 1 = b .ring in (omega arith, b .few)
+          by (inr (m, f)) = let v : d .ring ≡ c .ring + 1 = b .ring in (omega arith, b .few)
+
+-- all rings, word by word
+module _ {w : List ℕ} {c : Place} {ms : List ℕ} (s : Standing w c ms) where
+  module _ {g : Gathered} (t : Gathers w c g) where
+    pub stray-met : g .found ≡ true → true ≡ (anyBelow (recordsOf w) (estranged w) || anyBelow (pointsOf w) (alone w))
+    stray-met h = rw (t .met h ms s)
+
+    pub stray-on : (ms′ : List ℕ) → g .found ≡ false → ms′ ≡ withBits ms (g .word) (g .bits) → Standing w (g .place) ms′
+    stray-on ms′ h e = rw e (t .goes-on h ms s)
+
+    pub stray-less : (n : ℕ) → g .found ≡ false → c .ring < n → n ≡ recordsOf w → toGo w (g .place) < toGo w c
+    stray-less n h l e = t .falls h (omega arith)
+
+  pub stray-over : (n : ℕ) (b : Bool) → n ≤ c .ring → n ≡ recordsOf w → pointsOf w ≤ POINTS → b ≡ not (allBelow (pointsOf w) (marked ms)) → b ≡ (anyBelow (recordsOf w) (estranged w) || anyBelow (pointsOf w) (alone w))
+  stray-over n b h e l d =
+      let f : c .ring ≡ recordsOf w = omega (arith, s .few) in
+      let u : anyBelow (recordsOf w) (estranged w) ≡ false = rw (← f) (s .none) in
+      let m : ms ≡ marksTo w (recordsOf w) = s .all (omega arith) ∙ ap (marksTo w) f in
+      rw u (d ∙ rw m (unmarked-alone w l))

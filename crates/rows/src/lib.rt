@@ -118,12 +118,7 @@ fn muddled(w: &[u32], homes: &mut [usize]) -> bool
         return true;
     }
     resolving::find_all(w, homes);
-    let r = visits::walk_all(w, homes);
-    if r.found {
-        return true;
-    }
-    let marks = r.marks;
-    visits::any_bare(w, marks)
+    visits::any_stray(w, homes)
 }
 
 // Row 8.

@@ -9,23 +9,17 @@ use store::NONE;
 use store::get;
 use store::read;
 ghost use mathlib.Core.Path.{_≡_};
-ghost use mathlib.Core.Bool.{not};
+ghost use mathlib.Core.Bool.{not, _||_};
 ghost use Prim.Native.Nat.{_≤_};
 ghost use lib.ListN.{length};
 ghost use Rattle.marks.specs.Marks.{marked, allBelow};
 ghost use Rattle.store.specs.Field.{LENGTH};
-ghost use Rattle.store.specs.Words.{view};
-ghost use Rattle.store.specs.Named.{pointsOf, ringOf};
-ghost use Rattle.store.specs.Sound.{ringAt};
-ghost use Rattle.rows.specs.Rings.{elsewhere};
-ghost use Rattle.rows.specs.Marks.{Walked, AllWalked, Stretched};
+ghost use Rattle.store.specs.Named.{pointsOf, recordsOf};
+ghost use Rattle.audit.specs.Tests.{anyBelow};
+ghost use Rattle.audit.specs.Marks.{Counted};
+ghost use Rattle.rows.specs.Rings.{alone, elsewhere, estranged};
+ghost use Rattle.rows.specs.Marks.{Begins, Stretched, Gathers};
 ghost use Rattle.rows.specs.Tables.{Homes};
-
-// What a walk finds: whether a point resolves elsewhere, and the marks.
-pub struct Walk {
-    pub found: bool,
-    pub marks: Marks,
-}
 
 // Whether point k resolves to another record than i.
 fn elsewhere(w: &[u32], homes: &[usize], i: usize, k: usize) -> bool
@@ -37,43 +31,69 @@ fn elsewhere(w: &[u32], homes: &[usize], i: usize, k: usize) -> bool
     h != i
 }
 
-// A stretch of a ring whose points lie in one word of the marks: whether it ended at a point that resolves elsewhere, or where the ring ends; the word and the points' bits; where the
-// ring goes on, and how many points are to go.
+// Where the walks stand: the record whose ring is walked, the point that the ring began at, the one that it goes on at, and how many points are to go at most.
+pub struct Place {
+    pub ring: usize,
+    pub first: usize,
+    pub point: usize,
+    pub left: usize,
+}
+
+// The beginning of record i's ring; nothing is to go if it has none.
+fn place_of(w: &[u32], i: usize) -> Place
+    requires { ⌜ LENGTH ≤ length (now w) ⌝ }
+    ensures { λ r. ⌜ Begins (now (w .entry)) i r ⌝ }
+{
+    let a = read(w, Col::First, i);
+    if a == NONE {
+        return Place {
+            ring: i,
+            first: a,
+            point: a,
+            left: 0,
+        };
+    }
+    Place {
+        ring: i,
+        first: a,
+        point: a,
+        left: Job::POINTS,
+    }
+}
+
+// A stretch of a ring whose points lie in one word of the marks: whether it ended at a point that resolves elsewhere, or where the ring ends; the points' bits; where the ring goes on, and how
+// many points are to go.
 struct Stretch {
     found: bool,
     back: bool,
-    word: usize,
     bits: u64,
     point: usize,
     left: usize,
 }
 
-// The stretch of record i's ring, which began at a, from p on.
-fn walk_word(w: &[u32], homes: &[usize], i: usize, a: usize, p: usize, left: usize) -> Stretch
+// The stretch of a ring in the word, from the place c on.
+fn walk_word(w: &[u32], homes: &[usize], c: Place, word: usize) -> Stretch
     requires { ⌜ (LENGTH ≤ length (now w)) × Homes (now w) (now homes) ⌝ }
-    ensures { λ r. ⌜ Stretched (now (w .entry)) i a p left (r .found) (r .back) (r .word) (r .bits) (r .point) (r .left) ⌝ }
+    ensures { λ r. ⌜ Stretched (now (w .entry)) (c .ring) (c .first) (c .point) (c .left) word (r .found) (r .back) (r .bits) (r .point) (r .left) ⌝ }
 {
-    let word = p / BITS;
     let mut bits: u64 = 0;
-    let mut q = p;
-    let mut n = left;
+    let mut q = c.point;
+    let mut n = c.left;
     while 0 < n {
         if q / BITS != word {
             return Stretch {
                 found: false,
                 back: false,
-                word: word,
                 bits: bits,
                 point: q,
                 left: n,
             };
         }
-        let found = elsewhere(w, homes, i, q);
+        let found = elsewhere(w, homes, c.ring, q);
         if found {
             return Stretch {
                 found: true,
                 back: false,
-                word: word,
                 bits: bits,
                 point: q,
                 left: n,
@@ -81,11 +101,10 @@ fn walk_word(w: &[u32], homes: &[usize], i: usize, a: usize, p: usize, left: usi
         }
         bits = with_bit(bits, q % BITS);
         q = read(w, Col::Next, q);
-        if q == a {
+        if q == c.first {
             return Stretch {
                 found: false,
                 back: true,
-                word: word,
                 bits: bits,
                 point: q,
                 left: n,
@@ -96,79 +115,60 @@ fn walk_word(w: &[u32], homes: &[usize], i: usize, a: usize, p: usize, left: usi
     Stretch {
         found: false,
         back: true,
-        word: word,
         bits: bits,
         point: q,
         left: n,
     }
 }
 
-// Marks the ring from a on, a word at a time, up to a point that resolves to another record than i: is there one?
-fn walk_ring(w: &[u32], homes: &[usize], marks: Marks, i: usize, a: usize) -> Walk
-    requires { ⌜ (LENGTH ≤ length (now w)) × Homes (now w) (now homes) ⌝ }
-    ensures { λ r. ⌜ Walked (now (w .entry)) i (ringOf (now (w .entry)) a) (marks .words) (r .marks .words) (r .found) ⌝ }
+// What is gathered in one word: whether a point resolves elsewhere; the word and its points' bits; where the walks go on.
+pub struct Gathered {
+    pub found: bool,
+    pub word: usize,
+    pub bits: u64,
+    pub place: Place,
+}
+
+// The bits of the points that lie in the word of the next one, ring after ring: up to a point in another word, one that resolves elsewhere, or the last of the n rings' end.
+fn gather(w: &[u32], homes: &[usize], n: usize, from: Place) -> Gathered
+    requires { ⌜ (LENGTH ≤ length (now w)) × Homes (now w) (now homes) × (n ≡ recordsOf (now w)) ⌝ }
+    ensures { λ r. ⌜ Gathers (now (w .entry)) from r ⌝ }
 {
-    let mut m = marks;
-    let mut p = a;
-    let mut left: usize = Job::POINTS;
-    while 0 < left {
-        let s = walk_word(w, homes, i, a, p, left);
+    let word = from.point / BITS;
+    let mut bits: u64 = 0;
+    let mut c = from;
+    while c.ring < n {
+        let s = walk_word(w, homes, c, word);
         if s.found {
-            return Walk {
+            return Gathered {
                 found: true,
-                marks: m,
+                word: word,
+                bits: bits,
+                place: c,
             };
         }
-        m = m.set_bits(s.word, s.bits);
-        if s.back {
-            return Walk {
+        bits = bits | s.bits;
+        if !s.back {
+            let on = Place {
+                ring: c.ring,
+                first: c.first,
+                point: s.point,
+                left: s.left,
+            };
+            return Gathered {
                 found: false,
-                marks: m,
+                word: word,
+                bits: bits,
+                place: on,
             };
         }
-        p = s.point;
-        left = s.left;
+        c = place_of(w, c.ring + 1);
     }
-    Walk {
+    Gathered {
         found: false,
-        marks: m,
-    }
-}
-
-// The same for record i's ring, if it has one.
-fn walk_record(w: &[u32], homes: &[usize], marks: Marks, i: usize) -> Walk
-    requires { ⌜ (LENGTH ≤ length (now w)) × Homes (now w) (now homes) ⌝ }
-    ensures { λ r. ⌜ Walked (now (w .entry)) i (ringAt (view (now (w .entry))) i) (marks .words) (r .marks .words) (r .found) ⌝ }
-{
-    let a = read(w, Col::First, i);
-    if a == NONE {
-        return Walk {
-            found: false,
-            marks: marks,
-        };
-    }
-    walk_ring(w, homes, marks, i, a)
-}
-
-// The same for every record's ring, from no marks.
-pub fn walk_all(w: &[u32], homes: &[usize]) -> Walk
-    requires { ⌜ (LENGTH ≤ length (now w)) × Homes (now w) (now homes) ⌝ }
-    ensures { λ r. ⌜ AllWalked (now (w .entry)) (r .marks .words) (r .found) ⌝ }
-{
-    let n = get(w, Col::Records, 0);
-    let mut m = Marks::none();
-    let mut i: usize = 0;
-    while i < n {
-        let r = walk_record(w, homes, m, i);
-        if r.found {
-            return r;
-        }
-        m = r.marks;
-        i += 1;
-    }
-    Walk {
-        found: false,
-        marks: m,
+        word: word,
+        bits: bits,
+        place: c,
     }
 }
 
@@ -180,4 +180,24 @@ pub fn any_bare(w: &[u32], marks: Marks) -> bool
     let m = get(w, Col::Points, 0);
     let all = marks.all_set(m);
     !all
+}
+
+// Whether a point resolves to another record than its ring's, or has no mark after the walks round all rings. The marks are handed on once for the points gathered in a word.
+pub fn any_stray(w: &[u32], homes: &[usize]) -> bool
+    requires { ⌜ Counted (now w) × Homes (now w) (now homes) ⌝ }
+    ensures { λ r. ⌜ r ≡ (anyBelow (recordsOf (now (w .entry))) (estranged (now (w .entry))) || anyBelow (pointsOf (now (w .entry))) (alone (now (w .entry)))) ⌝ }
+{
+    let n = get(w, Col::Records, 0);
+    let mut m = Marks::none();
+    let mut c = place_of(w, 0);
+    while c.ring < n {
+        let g = gather(w, homes, n, c);
+        if g.found {
+            return true;
+        }
+        m = m.set_bits(g.word, g.bits);
+        let on = g.place;
+        c = on;
+    }
+    any_bare(w, m)
 }

@@ -1,6 +1,6 @@
--- `rows::muddled` meets its contract: chains, rings, points without a mark.
+-- `rows::muddled` meets its contract: chains, then points.
 use borrow.Author.Needs.{needs}
-use Rattle.rows.proofs.Judging.{circle-found, none-circles, estranged-found, alone-found}
+use Rattle.rows.proofs.Judging.{circle-found, none-circles, stray-found}
 use Rattle.rows.proofs.Reaching.{homes-blank}
 use Rattle.rows.proofs.muddled.Statement.{statement}
 use Rattle.rows.proofs.muddled.Tie as tie
@@ -14,7 +14,4 @@ muddled-spec =
     (λ c κs. search (needs, none-circles))
     (λ c κs. search needs)
     (λ c. search needs)
-    (λ c. (search (needs, estranged-found), search needs))
-    (λ c κs. search needs)
-    (λ c. search needs)
-    (λ c. (search (needs, alone-found), search needs)))
+    (λ c. (search (needs, stray-found), search needs)))

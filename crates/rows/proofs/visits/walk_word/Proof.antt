@@ -1,19 +1,18 @@
 -- `rows::visits::walk_word` meets its contract: the loop follows the ring as long as its points lie in one word.
 use mathlib.Core.Path.{_≡_, refl}
 use mathlib.Core.Logic.{_⊎_, inl, inr}
-use Prim.Native.Nat.{_/_, _<_, _≤_}
+use Prim.Native.Nat.{_<_, _≤_}
 use borrow.Author.Needs.{needs}
-use Rattle.marks.specs.Marks.{BITS}
 use Rattle.rows.specs.Marks.{Stretching}
 use Rattle.rows.proofs.Rounds.{stretch-begun, stretch-on, stretch-met, stretch-back, stretch-more, stretch-over}
 use Rattle.rows.proofs.visits.walk_word.Statement.{statement}
 use Rattle.rows.proofs.visits.walk_word.Tie as tie
 
 abbrev Inv-loop : tie.InvT-loop
-Inv-loop w homes i a p left word bits₀ q₀ n₀ bits q n = Stretching w i a p left (p / BITS) bits q n × ((q ≡ p) ⊎ (n < left)) × (n ≤ left)
+Inv-loop w homes c word bits₀ q₀ n₀ bits q n = Stretching w (c .ring) (c .first) (c .point) (c .left) word bits q n × ((q ≡ c .point) ⊎ (n < c .left)) × (n ≤ c .left)
 
 abbrev μ-loop : tie.MeasureT-loop
-μ-loop w homes i a p left word bits₀ q₀ n₀ bits q n = n
+μ-loop w homes c word bits₀ q₀ n₀ bits q n = n
 
 pub walk-word-spec : {M : Type 1} → statement M
 walk-word-spec =
@@ -21,7 +20,7 @@ walk-word-spec =
     (tie.spec
     Inv-loop
     μ-loop
-    (λ c. (stretch-begun _ _ _ _ _, inl refl, search needs))
+    (λ c. (stretch-begun _ _ _ _ _ _, inl refl, search needs))
     (λ c. search (needs, stretch-on))
     (λ c κs. search needs)
     (λ c. search (needs, stretch-met))
