@@ -122,7 +122,7 @@ pub noting : (w : List ℕ) (i n : ℕ) → Long w i n → n ≤ RECORDS → Not
 noting w i n l h = record { few = h; ahead = λ _. l }
 
 pub none-known : (w : List ℕ) → Lengths w (replicate RECORDS UNKNOWN)
-none-known w = record { few = λ r k. absurd (k (blank r)); known = λ r k. absurd (k (blank r)) }
+none-known w = record { few = λ r k. absurd (k (blank RECORDS r)); known = λ r k. absurd (k (blank RECORDS r)) }
 
 module _ {w : List ℕ} {q d : ℕ} (g : Noting w q d) (z : 0 < d) where
   pub noted : {ls : List ℕ} → Lengths w ls → (ls′ : List ℕ) → ls′ ≡ set ls q d → Lengths w ls′

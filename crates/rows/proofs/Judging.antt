@@ -6,14 +6,16 @@ use Prim.Native.Nat.{ℕ, _*_, _≤_}
 use native.Mathlib.Omega.{arith}
 use Rattle.job.specs.declared.refusal.Refusal.{Refusal}
 use Rattle.job.specs.declared.refusal.Refusal.the-variants.{OffTheTable, NoSuch, Loose, Muddled, OpenEdge}
+use Rattle.job.specs.Limits.{RECORDS}
 use Rattle.store.specs.Named.{pointsOf, recordsOf}
 use Rattle.audit.specs.Tests.{anyBelow, noSuch, noSuchOf}
 use Rattle.audit.specs.declared.Verdict.{Verdict}
 use Rattle.audit.specs.declared.Verdict.the-variants.{Passed, Refused}
-use Rattle.rows.specs.Owners.{circles}
+use Rattle.rows.specs.Owners.{chained, circles}
 use Rattle.rows.specs.Rings.{alone, estranged}
 use Rattle.rows.specs.Rows.{offTheTable, unnamed, noSuchNumber, looseLink, muddled, openEdge, rowsOf}
-use Rattle.rows.specs.Found.{firstRows, Filled, Named}
+use Rattle.rows.specs.Found.{firstRows, lastRows, Filled, Named}
+use Rattle.rows.proofs.Chains.{none-chained}
 use Rattle.rows.proofs.Homes.{or-left, or-right}
 
 -- row 7
@@ -27,6 +29,12 @@ module _ (w : List ℕ) (r : Bool) (a : r ≡ anyBelow (recordsOf w) (circles w)
   pub stray-found : (b : Bool) → r ≡ false → b ≡ (anyBelow (recordsOf w) (estranged w) || anyBelow (pointsOf w) (alone w)) → b ≡ muddled w
   stray-found b h d = rw (← a, h) d
 
+pub is-plain : (w : List ℕ) (r : Bool) → r ≡ anyBelow (recordsOf w) (chained w) → r ≡ false → anyBelow (recordsOf w) (chained w) ≡ false
+is-plain w r a h = sym a ∙ h
+
+pub plain-found : (w : List ℕ) (b : Bool) → recordsOf w ≤ RECORDS → anyBelow (recordsOf w) (chained w) ≡ false → b ≡ (anyBelow (recordsOf w) (estranged w) || anyBelow (pointsOf w) (alone w)) → b ≡ muddled w
+plain-found w b l h d = rw (none-chained w l h) d
+
 -- rows 4 and 5
 module _ (w ss : List ℕ) (m : ℕ) (js : List ℕ) (n : ℕ) (a : Bool) (p : a ≡ offTheTable w) where
   pub row-4 : a ≡ true → Refused OffTheTable ≡ firstRows w ss m js n
@@ -39,7 +47,7 @@ module _ (w ss : List ℕ) (m : ℕ) (js : List ℕ) (n : ℕ) (a : Bool) (p : a
     pub first-passed : b ≡ false → Passed ≡ firstRows w ss m js n
     first-passed i = rw (← p, h, ← q, i)
 
--- rows 6 to 8, once these have passed
+-- row 6, once these have passed, and what is left
 module _ (w ss : List ℕ) (m : ℕ) (js : List ℕ) (n : ℕ) (f : firstRows w ss m js n ≡ Passed) where
   both : (a b : Bool) → cond a (Refused OffTheTable) (cond b (Refused NoSuch) Passed) ≡ Passed → (a ≡ false) × (b ≡ false)
   both true b e = absurd (let z : _≡_ {A = ℕ} 0 1 = cc in omega arith)
@@ -57,19 +65,21 @@ module _ (w ss : List ℕ) (m : ℕ) (js : List ℕ) (n : ℕ) (f : firstRows w 
     unfolding rowsOf
     row-6 j = rw (on-table, numbered, ← r, j)
 
-    module _ (j : c ≡ false) (d : Bool) (s : d ≡ muddled w) where
-      pub row-7 : d ≡ true → Refused Muddled ≡ rowsOf w ss m js n
-      unfolding rowsOf
-      row-7 k = rw (on-table, numbered, ← r, j, ← s, k)
+    pub last-is : (v : Verdict) → c ≡ false → v ≡ lastRows w ss m js n → v ≡ rowsOf w ss m js n
+    unfolding rowsOf
+    last-is v j e = rw (on-table, numbered, ← r, j) e
 
-      module _ (k : d ≡ false) (e : Bool) (t : e ≡ openEdge w ss m js n) where
-        pub row-8 : e ≡ true → Refused OpenEdge ≡ rowsOf w ss m js n
-        unfolding rowsOf
-        row-8 l = rw (on-table, numbered, ← r, j, ← s, k, ← t, l)
+-- rows 7 and 8
+module _ (w ss : List ℕ) (m : ℕ) (js : List ℕ) (n : ℕ) (d : Bool) (s : d ≡ muddled w) where
+  pub row-7 : d ≡ true → Refused Muddled ≡ lastRows w ss m js n
+  row-7 k = rw (← s, k)
 
-        pub passed : e ≡ false → Passed ≡ rowsOf w ss m js n
-        unfolding rowsOf
-        passed l = rw (on-table, numbered, ← r, j, ← s, k, ← t, l)
+  module _ (k : d ≡ false) (e : Bool) (t : e ≡ openEdge w ss m js n) where
+    pub row-8 : e ≡ true → Refused OpenEdge ≡ lastRows w ss m js n
+    row-8 l = rw (← s, k, ← t, l)
+
+    pub passed : e ≡ false → Passed ≡ lastRows w ss m js n
+    passed l = rw (← s, k, ← t, l)
 
 -- what refuses a job by row 4 or 5 refuses it by rows 4 to 8
 pub first-refused : (w ss : List ℕ) (m : ℕ) (js : List ℕ) (n : ℕ) (x : Refusal) → firstRows w ss m js n ≡ Refused x → Refused x ≡ rowsOf w ss m js n

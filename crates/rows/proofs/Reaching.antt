@@ -110,11 +110,11 @@ module _ {w : List ℕ} {r : ℕ} {hs₀ : List ℕ} {q left : ℕ} {hs : List �
         let t = put-along in
         record { way = toward-on (g .way) a b k o c z n; homes = t .homes; kept = t .kept; here = λ _ l. t .here l }
 
-pub homes-blank : (w hs : List ℕ) → hs ≡ replicate RECORDS UNKNOWN → Homes w hs
-homes-blank w hs e = rw e (record { known = λ r k. absurd (k (blank r)) })
+pub homes-blank : (w hs : List ℕ) (n : ℕ) → hs ≡ replicate n UNKNOWN → Homes w hs
+homes-blank w hs n e = rw e (record { known = λ r k. absurd (k (blank n r)) })
 
 pub none-found : (w hs : List ℕ) → hs ≡ replicate RECORDS UNKNOWN → Found w hs 0
-none-found w hs e = record { homes = homes-blank w hs e; each = λ r h. absurd (omega arith) }
+none-found w hs e = record { homes = homes-blank w hs RECORDS e; each = λ r h. absurd (omega arith) }
 
 module _ {w hs₀ hs : List ℕ} {i : ℕ} (g : Found w hs i) (b : hs₀ ≡ replicate RECORDS UNKNOWN) (s : length hs ≡ length hs₀) where
   pub more-found : {hs′ : List ℕ} → Noted w hs i hs′ → (n : ℕ) → i < n → n ≡ recordsOf w → recordsOf w ≤ RECORDS → Found w hs′ (i + 1)

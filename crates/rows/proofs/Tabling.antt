@@ -10,7 +10,6 @@ use lib.Dec.{ltb}
 use lib.ListN.{length, getD, set, replicate, length-replicate, getD-replicate, List·getD-eq-default}
 use lib.Seq.{set-out, getD-set-same, getD-set-other}
 use borrow.Author.Tests.{ltb-true, ltb-false}
-use Rattle.job.specs.Limits.{RECORDS}
 use Rattle.rows.specs.Tables.{UNKNOWN, entry}
 
 same-in : (t : List ℕ) (r d e : ℕ) → r < length t → getD t r d ≡ getD t r e
@@ -24,12 +23,12 @@ entry-in t r n h e = e ∙ same-in t r 0 UNKNOWN h
 pub entry-out : (t : List ℕ) (r : ℕ) → length t ≤ r → UNKNOWN ≡ entry t r
 entry-out t r h = sym (List·getD-eq-default t UNKNOWN {n = r} h)
 
-pub blank : (r : ℕ) → entry (replicate RECORDS UNKNOWN) r ≡ UNKNOWN
-blank r = by (ltb r RECORDS) refl
+pub blank : (n r : ℕ) → entry (replicate n UNKNOWN) r ≡ UNKNOWN
+blank n r = by (ltb r n) refl
   where
-    by : (b : Bool) → ltb r RECORDS ≡ b → entry (replicate RECORDS UNKNOWN) r ≡ UNKNOWN
-    by true e = getD-replicate {A = ℕ} RECORDS r UNKNOWN UNKNOWN (ltb-true r RECORDS e)
-    by false e = List·getD-eq-default (replicate RECORDS UNKNOWN) UNKNOWN {n = r} (rw (length-replicate {A = ℕ} RECORDS UNKNOWN) (ltb-false r RECORDS e))
+    by : (b : Bool) → ltb r n ≡ b → entry (replicate n UNKNOWN) r ≡ UNKNOWN
+    by true e = getD-replicate {A = ℕ} n r UNKNOWN UNKNOWN (ltb-true r n e)
+    by false e = List·getD-eq-default (replicate n UNKNOWN) UNKNOWN {n = r} (rw (length-replicate {A = ℕ} n UNKNOWN) (ltb-false r n e))
 
 -- what holds of every known number, and of n as the number of r, holds once it is set
 module _ (P : ℕ → ℕ → Type 0) (t : List ℕ) (r n : ℕ) (h : (x : ℕ) → entry t x ≢ UNKNOWN → P x (entry t x)) (p : P r n) where

@@ -5,7 +5,7 @@ use mathlib.Core.Bool.{false, cond}
 use mathlib.Core.List.{List}
 use lib.ListN.{length}
 use Rattle.job.specs.Limits.{POINTS, RECORDS}
-use Rattle.job.specs.declared.refusal.Refusal.the-variants.{OffTheTable, NoSuch}
+use Rattle.job.specs.declared.refusal.Refusal.the-variants.{OffTheTable, NoSuch, Muddled, OpenEdge}
 use Rattle.store.specs.Field.{LENGTH}
 use Rattle.store.specs.Named.{pointsOf, recordsOf}
 use Rattle.audit.specs.declared.Verdict.{Verdict}
@@ -15,6 +15,10 @@ use Rattle.rows.specs.Rows.{looseLink, muddled, noSuchNumber, offTheTabl
 -- rows 4 and 5, which ask nothing of links and rings
 abbrev pub firstRows : List ℕ → List ℕ → ℕ → List ℕ → ℕ → Verdict
 firstRows w ss m js n = cond (offTheTable w) (Refused OffTheTable) (cond (noSuchNumber w ss m js n) (Refused NoSuch) Passed)
+
+-- rows 7 and 8
+abbrev pub lastRows : List ℕ → List ℕ → ℕ → List ℕ → ℕ → Verdict
+lastRows w ss m js n = cond (muddled w) (Refused Muddled) (cond (openEdge w ss m js n) (Refused OpenEdge) Passed)
 
 -- a job that was read: counts within the limits, and the lists as long as they say
 pub record Filled (w ss : List ℕ) (m : ℕ) (js : List ℕ) (n : ℕ) : Type 0 where

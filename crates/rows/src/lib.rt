@@ -14,18 +14,20 @@ use store::Col;
 use store::get;
 use store::read;
 ghost use mathlib.Core.Path.{_≡_};
+ghost use mathlib.Core.Bool.{false};
 ghost use Prim.Native.Nat.{_*_, _≤_};
 ghost use lib.ListN.{length, getD, replicate};
 ghost use Rattle.job.specs.Limits.{RECORDS};
 ghost use Rattle.store.specs.Field.{LENGTH};
 ghost use Rattle.store.specs.Words.{view};
-ghost use Rattle.store.specs.Named.{pointsOf};
+ghost use Rattle.store.specs.Named.{pointsOf, recordsOf};
 ghost use Rattle.store.specs.Sound.{isOpen};
 ghost use Rattle.audit.specs.Tests.{anyBelow};
 ghost use Rattle.audit.specs.Marks.{fails, Counted};
 ghost use Rattle.audit.specs.declared.Verdict.the-variants.{Passed};
 ghost use Rattle.rows.specs.Rows.{unnamed, noSuchNumber, onOpen, muddled, openEdge, rowsOf};
-ghost use Rattle.rows.specs.Found.{firstRows, Filled, Named};
+ghost use Rattle.rows.specs.Owners.{chained};
+ghost use Rattle.rows.specs.Found.{firstRows, lastRows, Filled, Named};
 ghost use Rattle.joins.specs.Resolve.{homeOf};
 ghost use Rattle.rows.specs.Tables.{UNKNOWN, Homes};
 
@@ -152,6 +154,48 @@ pub fn first_rows(w: &[u32], segments: &[u32], m: usize, joins: &[u32], n: usize
     Verdict::Passed
 }
 
+// Rows 7 and 8, once it is known whether row 7 holds.
+fn last_rows(
+    w: &[u32],
+    homes: &[usize],
+    found: bool,
+    segments: &[u32],
+    m: usize,
+    joins: &[u32],
+    n: usize,
+) -> Verdict
+    requires { ⌜ Filled (now w) (now segments) m (now joins) n × (firstRows (now w) (now segments) m (now joins) n ≡ Passed) × Homes (now w) (now homes) × (found ≡ muddled (now w)) ⌝ }
+    ensures { λ r. ⌜ r ≡ lastRows (now (w .entry)) (now (segments .entry)) m (now (joins .entry)) n ⌝ }
+{
+    if found {
+        return Verdict::Refused(Refusal::Muddled);
+    }
+    if open_edge(w, homes, segments, m, joins, n) {
+        return Verdict::Refused(Refusal::OpenEdge);
+    }
+    Verdict::Passed
+}
+
+// Rows 7 and 8 by tables, so that chains of any kind take linear time.
+fn by_table(w: &[u32], segments: &[u32], m: usize, joins: &[u32], n: usize) -> Verdict
+    requires { ⌜ Filled (now w) (now segments) m (now joins) n × (firstRows (now w) (now segments) m (now joins) n ≡ Passed) ⌝ }
+    ensures { λ r. ⌜ r ≡ lastRows (now (w .entry)) (now (segments .entry)) m (now (joins .entry)) n ⌝ }
+{
+    let mut homes = [UNKNOWN; Job::RECORDS];
+    let found = muddled(w, &mut homes);
+    last_rows(w, &homes, found, segments, m, joins, n)
+}
+
+// Rows 7 and 8 without tables: no owner chain circles, and a record with a ring resolves to itself.
+fn plainly(w: &[u32], segments: &[u32], m: usize, joins: &[u32], n: usize) -> Verdict
+    requires { ⌜ Filled (now w) (now segments) m (now joins) n × (firstRows (now w) (now segments) m (now joins) n ≡ Passed) × (anyBelow (recordsOf (now w)) (chained (now w)) ≡ false) ⌝ }
+    ensures { λ r. ⌜ r ≡ lastRows (now (w .entry)) (now (segments .entry)) m (now (joins .entry)) n ⌝ }
+{
+    let homes = [UNKNOWN; 1];
+    let found = visits::any_stray(w, &homes);
+    last_rows(w, &homes, found, segments, m, joins, n)
+}
+
 // Rows 6 to 8, of a job that has passed 4 and 5.
 fn later_rows(w: &[u32], segments: &[u32], m: usize, joins: &[u32], n: usize) -> Verdict
     requires { ⌜ Filled (now w) (now segments) m (now joins) n × (firstRows (now w) (now segments) m (now joins) n ≡ Passed) ⌝ }
@@ -160,14 +204,10 @@ fn later_rows(w: &[u32], segments: &[u32], m: usize, joins: &[u32], n: usize) ->
     if any_point(w, PointTest::Links) {
         return Verdict::Refused(Refusal::Loose);
     }
-    let mut homes = [UNKNOWN; Job::RECORDS];
-    if muddled(w, &mut homes) {
-        return Verdict::Refused(Refusal::Muddled);
+    if owners::any_chained(w) {
+        return by_table(w, segments, m, joins, n);
     }
-    if open_edge(w, &homes, segments, m, joins, n) {
-        return Verdict::Refused(Refusal::OpenEdge);
-    }
-    Verdict::Passed
+    plainly(w, segments, m, joins, n)
 }
 
 // Rows 4 to 8, in order.

@@ -1,4 +1,4 @@
-// Owner chains, before they are known to end: does one circle? Each is followed only as far as nothing is known of it, so that all take linear time.
+// Owner chains, before they are known to end: does one circle? Each is followed only as far as nothing is known of it, so that all take linear time; and not at all where every owner is before its record.
 use crate::tables::UNKNOWN;
 use crate::tables::at;
 use crate::tables::put;
@@ -14,7 +14,7 @@ ghost use Rattle.job.specs.Limits.{RECORDS};
 ghost use Rattle.store.specs.Field.{LENGTH};
 ghost use Rattle.store.specs.Named.{recordsOf};
 ghost use Rattle.audit.specs.Tests.{anyBelow};
-ghost use Rattle.rows.specs.Owners.{circles};
+ghost use Rattle.rows.specs.Owners.{chained, circles};
 ghost use Rattle.rows.specs.Tables.{Long, Lengths, Followed};
 
 // How long the owner chain from record i is, followed up to a record whose length is known; more than there may be records, if it circles.
@@ -70,6 +70,33 @@ pub fn any_circle(w: &[u32]) -> bool
             return true;
         }
         note(w, &mut lengths, i, m);
+        i += 1;
+    }
+    false
+}
+
+// Whether record i has no ring, or an owner that is not before it.
+fn is_chained(w: &[u32], i: usize) -> bool
+    requires { ⌜ LENGTH ≤ length (now w) ⌝ }
+    ensures { λ r. ⌜ r ≡ chained (now (w .entry)) i ⌝ }
+{
+    let f = read(w, Col::First, i);
+    let o = read(w, Col::Owner, i);
+    (f == NONE) | ((o != NONE) & (i <= o))
+}
+
+// Whether there is such a record.
+pub fn any_chained(w: &[u32]) -> bool
+    requires { ⌜ LENGTH ≤ length (now w) ⌝ }
+    ensures { λ r. ⌜ r ≡ anyBelow (recordsOf (now (w .entry))) (chained (now (w .entry))) ⌝ }
+{
+    let n = get(w, Col::Records, 0);
+    let mut i: usize = 0;
+    while i < n {
+        let found = is_chained(w, i);
+        if found {
+            return true;
+        }
         i += 1;
     }
     false
