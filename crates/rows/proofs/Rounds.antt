@@ -1,32 +1,47 @@
 -- How the walks round the rings go: point by point in one word, ring by ring in one word, and word by word.
 use mathlib.Core.Path.{_≡_, refl, sym, ap, _∙_, subst}
-use mathlib.Core.Bool.{Bool, true, false, not, _||_}
+use mathlib.Core.Bool.{Bool, true, false, not, _&&_, _||_}
 use mathlib.Core.Logic.{_≢_, _⊎_, inl, inr}
 use mathlib.Core.List.{List}
 use Prim.Native.Nat.{ℕ, zero, suc, _+_, _-_, _*_, _/_, _%_, _^_, _<_, _≤_}
 use native.Mathlib.Numerals.{sub-one, add-one}
 use native.Mathlib.Omega.{arith}
 use lib.Bits.{bitOr}
+use lib.Dec.{eqb}
 use lib.ListN.{replicate}
-use borrow.Author.Tests.{eq-eqb, ne-eqb, not-true, not-false}
+use borrow.Author.Tests.{eq-eqb, ne-eqb, eqb-true, eqb-false, not-true, not-false}
 use Rattle.rings.specs.Walk.{run}
-use Rattle.job.specs.Limits.{POINTS}
+use Rattle.job.specs.Limits.{POINTS, RECORDS}
 use Rattle.marks.specs.Marks.{BITS, WORDS, withBit, withMark, withBits, marked, allBelow}
 use Rattle.marks.proofs.Marking.{no-bits, bits-more}
 use Rattle.store.specs.Field.{NONE}
 use Rattle.store.specs.Words.{view}
-use Rattle.store.specs.Named.{nextOf, firstOf, pointsOf, recordsOf}
+use Rattle.store.specs.Named.{nextOf, recOf, firstOf, ownerOf, pointsOf, recordsOf}
 use Rattle.store.specs.Sound.{ringAt}
 use Rattle.audit.specs.Tests.{anyBelow}
 use Rattle.audit.proofs.Testing.{none, more, hit}
+use Rattle.joins.specs.Resolve.{getRealOutrec}
 use Rattle.rows.specs.Rings.{anyIn, alone, elsewhere, estranged}
 use Rattle.rows.specs.Marks.{marksOn, marksTo, Begins, Stretching, Stretched, Standing, toGo, Gathers}
 use Rattle.rows.specs.declared.visits.Place.{Place}
 use Rattle.rows.specs.declared.visits.Gathered.{Gathered}
+use Rattle.rows.proofs.Chains.{here}
 use Rattle.rows.proofs.Marking.{unmarked-alone}
 
 clash : {A : Type 0} {b : Bool} → b ≡ true → b ≡ false → A
 clash e f = absurd (let z : _≡_ {A = ℕ} 0 1 = cc in omega arith)
+
+-- a record with a ring resolves to itself, so a point that names it does
+pub own-here : (w : List ℕ) (i k r : ℕ) (b : Bool) → r ≡ recOf w k → b ≡ (eqb r i && not (eqb (firstOf w i) NONE)) → b ≡ true → false ≡ elsewhere w i k
+own-here w i k r b e d h = by (eqb r i) refl (eqb (firstOf w i) NONE) refl (sym d ∙ h)
+  where
+    by : (x : Bool) → eqb r i ≡ x → (y : Bool) → eqb (firstOf w i) NONE ≡ y → (x && not y) ≡ true → false ≡ elsewhere w i k
+    by false f y g c = clash c refl
+    by true f true g c = clash c refl
+    by true f false g c =
+        let a : recOf w k ≡ i = sym e ∙ eqb-true r i f in
+        let z : i ≡ getRealOutrec w i = here (firstOf w) (ownerOf w) i (getRealOutrec w i) RECORDS (firstOf w i) (omega arith) refl (eqb-false (firstOf w i) NONE g) refl in
+        rw (a, eq-eqb (getRealOutrec w i) i (sym z))
 
 -- what is ahead of p: p, and then nothing or the rest
 module _ (q : ℕ → Bool) (n : ℕ → ℕ) (a p : ℕ) where

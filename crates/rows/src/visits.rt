@@ -9,17 +9,27 @@ use store::NONE;
 use store::get;
 use store::read;
 ghost use mathlib.Core.Path.{_≡_};
-ghost use mathlib.Core.Bool.{not, _||_};
+ghost use mathlib.Core.Bool.{not, _&&_, _||_};
 ghost use Prim.Native.Nat.{_≤_};
+ghost use lib.Dec.{eqb};
 ghost use lib.ListN.{length};
 ghost use Rattle.marks.specs.Marks.{marked, allBelow};
-ghost use Rattle.store.specs.Field.{LENGTH};
-ghost use Rattle.store.specs.Named.{pointsOf, recordsOf};
+ghost use Rattle.store.specs.Field.{LENGTH, NONE};
+ghost use Rattle.store.specs.Named.{pointsOf, recordsOf, firstOf};
 ghost use Rattle.audit.specs.Tests.{anyBelow};
 ghost use Rattle.audit.specs.Marks.{Counted};
 ghost use Rattle.rows.specs.Rings.{alone, elsewhere, estranged};
 ghost use Rattle.rows.specs.Marks.{Begins, Stretched, Gathers};
 ghost use Rattle.rows.specs.Tables.{Homes};
+
+// Whether r is record i, and has a ring: then it resolves to itself.
+fn is_own(w: &[u32], i: usize, r: usize) -> bool
+    requires { ⌜ LENGTH ≤ length (now w) ⌝ }
+    ensures { λ b. ⌜ b ≡ (eqb r i && not (eqb (firstOf (now (w .entry)) i) NONE)) ⌝ }
+{
+    let f = read(w, Col::First, i);
+    (r == i) & (f != NONE)
+}
 
 // Whether point k resolves to another record than i.
 fn elsewhere(w: &[u32], homes: &[usize], i: usize, k: usize) -> bool
@@ -27,6 +37,10 @@ fn elsewhere(w: &[u32], homes: &[usize], i: usize, k: usize) -> bool
     ensures { λ r. ⌜ r ≡ elsewhere (now (w .entry)) i k ⌝ }
 {
     let r = read(w, Col::Rec, k);
+    let own = is_own(w, i, r);
+    if own {
+        return false;
+    }
     let h = resolving::find(w, homes, r);
     h != i
 }

@@ -1,5 +1,6 @@
--- `rows::visits::elsewhere` meets its contract: what the point resolves to, compared.
+-- `rows::visits::elsewhere` meets its contract: the record that the point names is the ring's own; or what it resolves to, compared.
 use borrow.Author.Needs.{needs}
+use Rattle.rows.proofs.Rounds.{own-here}
 use Rattle.rows.proofs.visits.elsewhere.Statement.{statement}
 use Rattle.rows.proofs.visits.elsewhere.Tie as tie
 
@@ -9,4 +10,6 @@ elsewhere-spec =
     (tie.spec
     (λ c κs. search needs)
     (λ c κs. search needs)
-    (λ c. rw (c .find .ensures, c .before .read .ensures .0)))
+    (λ c. search (needs, own-here))
+    (λ c κs. search needs)
+    (λ c. rw (c .find .ensures, c .before .before .before .read .ensures .0)))
