@@ -8,13 +8,13 @@ use native.Mathlib.Omega.{arith}
 use lib.Dec.{eqb}
 use lib.Seq.{set-getD, set-set}
 use lib.ListN.{length}
-use borrow.Author.Tests.{eq-eqb, ne-eqb, lt-ltb, le-leb}
+use borrow.Author.Tests.{eq-eqb, ne-eqb, lt-ltb, le-leb, not-true}
 use Rattle.rings.specs.Progress.{Due, removal, triangle, split, done, isDone}
 use Rattle.rings.proofs.Counting.{occ-head}
 use Rattle.rings.proofs.Members.{prev-next}
 use Rattle.geometry.specs.declared.Point.{Point}
 use Rattle.geometry.specs.declared.Edges.{Edges}
-use Rattle.geometry.specs.Plane.{segmentsIntersect}
+use Rattle.geometry.specs.Plane.{isCollinear, removable, segmentsIntersect}
 use Rattle.lone.specs.Act.{Act, moveOn}
 use Rattle.lone.specs.Forest.{ok}
 use Rattle.store.specs.Field.{Field, pt, rc, ct, NEXT, PREV, FIRST, MARK, PRESENT, START, POINTS, RECORDS, LENGTH, size, base}
@@ -37,7 +37,7 @@ use Rattle.steps.specs.declared.glide.WalkEnd.{WalkEnd}
 use Rattle.steps.specs.declared.glide.WalkEnd.the-variants.{At, Past}
 use Rattle.turns.specs.Code.{dueIs}
 use Rattle.turns.specs.Form.{raised, geometryOf}
-use Rattle.turns.specs.Reads.{Steps, Going, Found, Three, Four, EdgesAt}
+use Rattle.turns.specs.Reads.{Steps, Going, Found, Valued, Three, Four, EdgesAt}
 use Rattle.turns.specs.Decide.{removeAt, removalAt, splitAt, decideDue, decideAt}
 use Rattle.steps.specs.Glide.{Glided, still, onward, Glides, DueAt, leaves, placeOf, stillIn, unfinishedAt, GlidesTo}
 use Rattle.turns.proofs.Reading.{low, on-next}
@@ -209,6 +209,11 @@ unfolding decideAt
 at-due i t d e = ap (decideDue (raised .of) (geometryOf t) t i) e
 
 -- ---- the removal loop
+-- a point that is not in line with its neighbours stays
+pub not-in-line : (w : List ℕ) (p x n : ℕ) (line : Bool) (a b c : Point) → Valued w p a → Valued w x b → Valued w n c → line ≡ isCollinear a b c → not line ≡ true → false ≡ removeAt (raised .of) (geometryOf (view w)) (view w) p x n
+unfolding removable
+not-in-line w p x n line a b c A B C e h = rw (← A .is, ← B .is, ← C .is, ← e, not-true line h)
+
 module _ (w : List ℕ) (i p x : ℕ) (A : GlidingAt removal w i p x) where
   pub removal-stops : GlidesTo triangle w i (At x)
   removal-stops = stopped removal w i p x A triangle
@@ -271,9 +276,6 @@ module _ (w : List ℕ) (i : ℕ) (b : Steps w i) where
 
     pub due-split : t ≡ Split → DueAt split w i
     due-split h = record { steps = b; due = sym e ∙ ap dueIs h }
-
-pub due-stays : (d : Due) (w : List ℕ) (i : ℕ) → DueAt d w i → Glides i w w true
-due-stays d w i b = stays w i (b .steps)
 
 -- ---- the words written
 module _ (r : WalkEnd) (x : ℕ) where

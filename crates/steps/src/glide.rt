@@ -10,6 +10,7 @@ use turns::decide::present_of;
 use turns::decide::removable_at;
 use turns::ring::due_at;
 use turns::ring::next_of;
+use turns::ring::point_at;
 use turns::ring::prev_of;
 ghost use mathlib.Core.Path.{_≡_};
 ghost use Prim.Native.Nat.{_<_, _≤_, _^_};
@@ -18,16 +19,33 @@ ghost use Rattle.job.specs.Limits as limit;
 ghost use Rattle.rings.specs.Progress.{removal, triangle, split, done};
 ghost use Rattle.geometry.specs.Plane.{segmentsIntersect};
 ghost use Rattle.store.specs.Field.{pt, NEXT, LENGTH};
-ghost use Rattle.store.specs.Words.{cell};
+ghost use Rattle.store.specs.Words.{cell, view};
 ghost use Rattle.store.specs.Value.{pointOf};
 ghost use Rattle.store.specs.Good.{SoundWords};
+ghost use Rattle.turns.specs.Form.{raised, geometryOf};
 ghost use Rattle.turns.specs.Reads.{Three, Steps};
+ghost use Rattle.turns.specs.Decide.{removeAt};
 ghost use Rattle.steps.specs.Glide.{Glides, DueAt, leaves, placeOf, stillIn, GlidesTo};
 
 // How a loop's walk ended: at a point where more is due than moving on, or past the loop's end, at the point that its last turn moved on to.
 pub enum WalkEnd {
     At(usize),
     Past(usize),
+}
+
+// Whether the point x, between p and n, is dropped; most are not, since they are not in line.
+fn gone_at(w: &[u32], p: usize, x: usize, n: usize) -> bool
+    requires { ⌜ Three (now w) p x n ⌝ }
+    ensures { λ r. ⌜ r ≡ removeAt (raised .of) (geometryOf (view (now (w .entry)))) (view (now (w .entry))) p x n ⌝ }
+{
+    let a = point_at(w, p);
+    let b = point_at(w, x);
+    let c = point_at(w, n);
+    let line = geometry::is_collinear(a, b, c);
+    if !line {
+        return false;
+    }
+    removable_at(w, p, x, n)
 }
 
 // The removal loop, up to a point to drop or past its end.
@@ -41,7 +59,7 @@ fn removal_walk(w: &[u32], i: usize) -> WalkEnd
     let mut left: usize = Job::POINTS;
     while 0 < left {
         let n = next_of(w, x);
-        let gone = removable_at(w, p, x, n);
+        let gone = gone_at(w, p, x, n);
         if gone {
             return WalkEnd::At(x);
         }
@@ -122,16 +140,11 @@ fn still_in(r: WalkEnd) -> bool
     }
 }
 
-// The removal loop's turns at once; not where a loop begins, since a point dropped begins it again.
+// The removal loop's turns at once.
 fn glide_removal(w: &mut [u32], i: usize) -> bool
     requires { ⌜ DueAt removal (now w) i ⌝ }
     ensures { λ r. ⌜ Glides i (now (w .entry)) (now (w .exit)) r ⌝ }
 {
-    let s = get(w, Col::Start, i);
-    let x = get(w, Col::Present, i);
-    if x == s {
-        return true;
-    }
     let r = removal_walk(w, i);
     put_end(w, i, r, 2);
     true
