@@ -1,13 +1,14 @@
 -- A record's field is written: its header, then its path in the part after it.
-use Prim.Native.Nat.{ℕ, _+_, _-_, _*_, _≤_}
+use Prim.Native.Nat.{ℕ, _+_, _-_, _*_, _/_, _^_, _≤_, _<_}
 use mathlib.Core.Path.{_≡_, refl, sym, ap, _∙_, subst}
 use mathlib.Core.Logic.{_≢_}
 use mathlib.Core.Bool.{Bool, true, false, cond, not, _&&_, Bool·beq}
-use mathlib.Core.List.{List, [], _∷_, _++_, append-nil}
+use mathlib.Core.List.{List, [], _∷_, _++_, append-nil, append-assoc}
 use mathlib.Core.Option.{Option, none, some}
 use native.Mathlib.Omega.{arith}
 use lib.Dec.{eqb, leb}
-use lib.ListN.{length, set, take, drop, length-append, length-drop, length-set}
+use lib.ListN.{length, set, take, drop, length-append, length-drop, length-set, take-append-drop}
+use lib.Seq.{take-all, length-take-le, drop-append-seam}
 use borrow.Rule.Slice.PartMut.{putMid}
 use Rattle.numbers.specs.Written.{putLe}
 use Rattle.numbers.proofs.Written.{length-put}
@@ -22,11 +23,11 @@ use Rattle.store.specs.Sound.{ringless, isOpen}
 use Rattle.store.specs.Value.{preserveCollinear, reverseSolution}
 use Rattle.paths.specs.Path.{pointsAt, pathBy, pathAt, pathIf, listed, sizeOf}
 use Rattle.paths.specs.Tray.{lowBytes, pathBytes, pathField, tagOf, fields, over}
-use Rattle.paths.specs.Walking.{startFrom, Round, Room, laid, pathRound}
+use Rattle.paths.specs.Walking.{startFrom, Round, Room, Laid, laid, pathRound}
 use Rattle.paths.specs.Count.{fieldSize}
 use Rattle.paths.specs.Filling.{pathPoints, fieldAt, layOver, PointsFit, FieldFits}
 use Rattle.paths.proofs.Directions.{Ringed, ringed, path-of}
-use Rattle.paths.proofs.Laying.{length-pathBytes, put-over, set-over}
+use Rattle.paths.proofs.Laying.{length-pathBytes, length-over, put-over, set-over}
 use Rattle.paths.proofs.Counts.{field-length, size-fits}
 use Rattle.paths.proofs.Parts.{part-is, part-over}
 
@@ -49,8 +50,8 @@ module _ (w : List ℕ) (rev : Bool) (i : ℕ) (t : List ℕ) (p : PointsFit w r
         room = omega (arith, p .room, ap length (points-is a g));
       }
 
-  pub points-laid : (a : ℕ) (u : List ℕ) → a ≡ startFrom (view w) rev f → u ≡ over (pathBytes (pathRound (view w) rev a)) t → u ≡ over (pathBytes (pathPoints (view w) rev i)) t
-  points-laid a u g h = h ∙ ap (λ (l : List Point). over (pathBytes l) t) (points-is a g)
+  pub points-laid : (a r : ℕ) (u : List ℕ) → a ≡ startFrom (view w) rev f → laid r u ≡ layOver (pathBytes (pathRound (view w) rev a)) t → laid r u ≡ layOver (pathBytes (pathPoints (view w) rev i)) t
+  points-laid a r u g h = h ∙ ap (λ (l : List Point). layOver (pathBytes l) t) (points-is a g)
 
 -- ---- a path that is there
 
@@ -117,6 +118,16 @@ header-length t u tag v e = ap length e ∙ length-put 2 1 v (set t 0 tag) ∙ l
 header-over : (t : List ℕ) (tag v : ℕ) → 3 ≤ length t → putLe 2 1 v (set t 0 tag) ≡ over ((tag ∷ []) ++ lowBytes 2 v) t
 header-over t tag v h = ap (λ (l : List ℕ). putLe 2 1 v l) (set-over [] t tag (omega arith)) ∙ put-over 2 v (tag ∷ []) t (omega arith)
 
+-- bytes laid over the first of those that were laid
+over-front : (h f z t : List ℕ) → length h ≡ length f → over h (over (f ++ z) t) ≡ over (h ++ z) t
+over-front h f z t e =
+    let n : length (f ++ z) ≡ length (h ++ z) = omega (arith, length-append f z, length-append h z) in
+    ap (λ (k : ℕ). h ++ drop k ((f ++ z) ++ drop (length (f ++ z)) t)) e
+    ∙ ap (λ (l : List ℕ). h ++ drop (length f) l) (append-assoc f z (drop (length (f ++ z)) t))
+    ∙ ap (λ (l : List ℕ). h ++ l) (drop-append-seam f (z ++ drop (length (f ++ z)) t))
+    ∙ ap (λ (k : ℕ). h ++ (z ++ drop k t)) n
+    ∙ sym (append-assoc h z (drop (length (h ++ z)) t))
+
 pub no-field : (s : Store) (o : Bool) (i k : ℕ) (t : List ℕ) → k ≡ sizeOf (pathIf s o i) → k ≡ 0 → laid 0 t ≡ layOver (fieldAt s o i) t
 unfolding fieldAt
 no-field s o i k t e f =
@@ -168,3 +179,49 @@ module _ (w : List ℕ) (rev o : Bool) (i : ℕ) (t : List ℕ) (p : FieldFits w
         omega (arith, length-append ((tagOf o ∷ []) ++ lowBytes 2 (8 * k)) z, length-pathBytes (pathPoints (view w) rev i), is-there .size)
         in
         rw (is-there .field-is, n, part-over ((tagOf o ∷ []) ++ lowBytes 2 (8 * k)) t u 3 refl laid-head header-room z ys h)
+
+  -- the points first, and then the header
+  pub part-fit : PointsFit w rev i (take (length t - 3) (drop 3 t))
+  part-fit =
+      record {
+        of = p .asked .of;
+        ringed = is-there .ringed;
+        room = omega (arith, field-room, is-there .size, ap length (take-all (length t - 3) (drop 3 t) (omega (arith, length-drop 3 t))), length-drop 3 t);
+      }
+
+  pub part-size : (n : ℕ) (ys s : List ℕ) → laid n ys ≡ layOver (pathBytes (pathPoints (view w) rev i)) s → n ≡ 8 * k
+  part-size n ys s h = omega (arith, ap (λ (z : Laid). z .at) h, length-pathBytes (pathPoints (view w) rev i), is-there .size)
+
+  front : t ≡ over (take 3 t) t
+  front = sym (take-append-drop 3 t) ∙ ap (λ (n : ℕ). take 3 t ++ drop n t) (sym (length-take-le 3 t header-room))
+
+  module _ (n : ℕ) (ys : List ℕ) (h : laid n ys ≡ layOver (pathBytes (pathPoints (view w) rev i)) (take (length t - 3) (drop 3 t))) where
+    three : length (take 3 t) ≡ 3
+    three = length-take-le 3 t header-room
+
+    sized : n ≡ 8 * k
+    sized = part-size n ys (take (length t - 3) (drop 3 t)) h
+
+    behind : putMid 3 (length t - 3) t ys ≡ over (take 3 t ++ pathBytes (pathPoints (view w) rev i)) t
+    behind = part-over (take 3 t) t t 3 (sym three) front (omega (arith, three, header-room)) (pathBytes (pathPoints (view w) rev i)) ys (ap (λ (x : Laid). x .tray) h)
+
+    same-size : length (over (take 3 t ++ pathBytes (pathPoints (view w) rev i)) t) ≡ length t
+    same-size =
+        length-over (take 3 t ++ pathBytes (pathPoints (view w) rev i)) t
+        (omega (arith, length-append (take 3 t) (pathBytes (pathPoints (view w) rev i)), three, length-pathBytes (pathPoints (view w) rev i), is-there .size, field-room))
+
+    pub head-room : (3 ≤ length (putMid 3 (length t - 3) t ys)) × (n / 8 ≤ 2048)
+    head-room = (omega (arith, ap length behind, same-size, header-room), omega (arith, sized, field-sum))
+
+    pub sum-fits : 3 + n < 2 ^ 64
+    sum-fits = omega (arith, sized, field-sum)
+
+    pub head-after : (u : List ℕ) (tag : ℕ) → tag ≡ tagOf o → u ≡ putLe 2 1 (8 * (n / 8)) (set (putMid 3 (length t - 3) t ys) 0 tag) → laid (3 + n) u ≡ layOver (fieldAt (view w) o i) t
+    head-after u tag f g =
+        let z = pathBytes (pathPoints (view w) rev i) in
+        let H = (tagOf o ∷ []) ++ lowBytes 2 (8 * k) in
+        let v : 8 * (n / 8) ≡ 8 * k = omega (arith, sized) in
+        let b : u ≡ over H (over (take 3 t ++ z) t) = g ∙ rw (v, behind, f) (header-over (over (take 3 t ++ z) t) (tagOf o) (8 * k) (omega (arith, same-size, header-room))) in
+        let c : u ≡ over (H ++ z) t = b ∙ over-front H (take 3 t) z t (sym three) in
+        let j : 3 + n ≡ length (H ++ z) = omega (arith, sized, length-append H z, length-pathBytes (pathPoints (view w) rev i), is-there .size) in
+        rw (is-there .field-is, j, c)

@@ -1,11 +1,13 @@
 -- Laws of the path that goes round a ring: its points are counted on one walk.
-use Prim.Native.Nat.{ℕ, _+_, _≤_}
-use mathlib.Core.Path.{_≡_, refl, ap, _∙_}
+use Prim.Native.Nat.{ℕ, _+_, _≤_, _<_}
+use mathlib.Core.Path.{_≡_, refl, sym, ap, _∙_}
 use mathlib.Core.Logic.{_≢_}
 use mathlib.Core.Bool.{Bool, true, false, cond, _&&_}
 use mathlib.Core.List.{List, [], _∷_, _++_}
 use native.Mathlib.Omega.{arith}
+use lib.Dec.{leb}
 use lib.ListN.{length, length-append}
+use borrow.Author.Tests.{le-leb, lt-leb}
 use lib.IntN.{ℤ}
 use Rattle.exact.specs.Equal.{eqZ}
 use Rattle.exact.proofs.Size.{eqZ-true}
@@ -105,6 +107,15 @@ module _ (w : List ℕ) (rev : Bool) (a : ℕ) where
 
   pub counting-ends : (b n q : ℕ) → Going w rev a q (Counting w b n (length (pathRound (view w) rev a))) → q ≡ a → n ≡ length (pathRound (view w) rev a)
   counting-ends b n q g e = omega (arith, going-ends w rev a q (Counting w b n (length (pathRound (view w) rev a))) g e .sum)
+
+  -- four are counted, or the walk ends with fewer
+  pub four-counted : (b n q d : ℕ) → Going w rev a q (Counting w b n (length (pathRound (view w) rev a))) → q ≢ a → d ≡ more (view w) b q → 3 < n + d → true ≡ leb 4 (length (pathRound (view w) rev a))
+  four-counted b n q d g h e l =
+      let c = counting-on b n q d (linkOf (view w) rev q) g h e refl in
+      sym (le-leb 4 (length (pathRound (view w) rev a)) (omega (arith, c .says .sum)))
+
+  pub few-counted : (b n q : ℕ) → Going w rev a q (Counting w b n (length (pathRound (view w) rev a))) → q ≡ a → n ≤ 3 → false ≡ leb 4 (length (pathRound (view w) rev a))
+  few-counted b n q g e l = sym (lt-leb 4 (length (pathRound (view w) rev a)) (omega (arith, counting-ends b n q g e)))
 
 -- ---- one point
 

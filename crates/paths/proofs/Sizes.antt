@@ -2,13 +2,13 @@
 use Prim.Native.Nat.{ℕ, suc, _≤_, _<_}
 use mathlib.Core.Path.{_≡_, refl, sym, ap, _∙_, subst}
 use mathlib.Core.Logic.{_≢_}
-use mathlib.Core.Bool.{Bool, true, false, cond, not, _&&_}
+use mathlib.Core.Bool.{Bool, true, false, cond, not, _&&_, Bool·beq}
 use mathlib.Core.List.{List, [], _∷_, map}
 use mathlib.Core.Option.{Option, none, some}
 use native.Mathlib.Omega.{arith}
 use lib.Dec.{eqb, leb}
 use lib.ListN.{length, length-map, length-reverse}
-use borrow.Author.Tests.{eq-eqb, ne-eqb, le-leb, lt-leb, leb-true}
+use borrow.Author.Tests.{eq-eqb, ne-eqb, le-leb, lt-leb, leb-true, not-false}
 use Rattle.rings.specs.Circle.{turn, lastOf}
 use Rattle.rings.specs.Count.{occ}
 use Rattle.rings.specs.Whole.{Whole}
@@ -24,13 +24,13 @@ use Rattle.lone.specs.Plane.{plane}
 use Rattle.lone.specs.Path.{inOrder, dropEquals, withoutEquals, isSmallRing, buildPath64FromOutpt}
 use Rattle.store.specs.Field.{pt, rc, NEXT, PREV, FIRST}
 use Rattle.store.specs.Words.{Store, view}
-use Rattle.store.specs.Sound.{pts, ringAt}
+use Rattle.store.specs.Sound.{pts, ringAt, isOpen}
 use Rattle.store.specs.Good.{PointIn}
-use Rattle.store.specs.Value.{preserveCollinear}
+use Rattle.store.specs.Value.{preserveCollinear, reverseSolution}
 use Rattle.paths.specs.declared.PathEnd.{PathEnd}
 use Rattle.paths.specs.declared.PathEnd.the-variants.{Short, Small, Points}
-use Rattle.paths.specs.Path.{pointAt, pointsAt, pathBy, sizeOf, smallBy, endBy, pathEnd}
-use Rattle.paths.specs.Walking.{startFrom, roundFrom, Readable, Round, Known, ThreeOrMore, Sized, pathRound}
+use Rattle.paths.specs.Path.{pointAt, pointsAt, pathBy, pathAt, pathIf, sizeOf, smallBy, endBy, pathEnd}
+use Rattle.paths.specs.Walking.{startFrom, roundFrom, Readable, Round, Known, Asked, ThreeOrMore, Sized, pathRound}
 use Rattle.paths.proofs.Walks.{othersOf, walk-is, round-here}
 use Rattle.paths.proofs.Directions.{Ringed, ringed, path-of}
 
@@ -276,6 +276,40 @@ module _ (w : List ℕ) (rev o : Bool) (i : ℕ) (k : Known w i) (f : ℕ) (e : 
           pub all-end : u ≡ false → 2 ≤ n → Points n ≡ pathEnd (view w) rev o i
           unfolding pathEnd
           all-end y z = ap Points h ∙ sym (ap (endBy (smallBy (view w) rev o i)) (path-there y z))
+
+      -- a path of four points or more is there
+      module _ (four : 4 ≤ length (pathRound (view w) rev a)) where
+        pub long-path : pathBy (view w) rev o i ≡ some (pathRound (view w) rev a)
+        long-path =
+            path-there (length (pathRound (view w) rev a)) refl (leb (length (roundFrom (view w) false f)) (cond o 1 2)) refl (long o)
+            (not o && eqb (length (pathRound (view w) rev a)) 3 && isSmallRing (plane (preserveCollinear (view w))) (map (pointAt (view w)) (roundFrom (view w) false a))) refl
+            (not-small o (isSmallRing (plane (preserveCollinear (view w))) (map (pointAt (view w)) (roundFrom (view w) false a)))) (omega (arith, four))
+          where
+            many : 4 ≤ length (roundFrom (view w) false f)
+            many = omega (arith, four, length-first, ap length path-is-of, path-le (plane (preserveCollinear (view w))) (inOrder rev (pointsAt (view w) i)), length-inOrder rev (pointsAt (view w) i))
+
+            long : (t : Bool) → leb (length (roundFrom (view w) false f)) (cond t 1 2) ≡ false
+            long true = lt-leb (length (roundFrom (view w) false f)) 1 (omega (arith, many))
+            long false = lt-leb (length (roundFrom (view w) false f)) 2 (omega (arith, many))
+
+            not-small : (t x : Bool) → (not t && eqb (length (pathRound (view w) rev a)) 3 && x) ≡ false
+            not-small true x = refl
+            not-small false x = rw (ne-eqb (length (pathRound (view w) rev a)) 3 (λ z. omega (arith, four, z)))
+
+pub not-long : (n : ℕ) → false ≡ true → n ≢ 0
+not-long n e = absurd (let z : _≡_ {A = ℕ} 0 1 = cc in omega arith)
+
+pub long-some : (w : List ℕ) (rev opened : Bool) (i : ℕ) → Asked w rev i → (o : Bool) → o ≡ isOpen (view w) i → (t : Bool) → t ≡ Bool·beq o opened → not t ≡ false → (f : ℕ) → f ≡ view w (rc FIRST) i → f ≢ 65535
+    → (a : ℕ) → a ≡ startFrom (view w) rev f → (r : Bool) → r ≡ leb 4 (length (pathRound (view w) rev a)) → r ≡ true → sizeOf (pathIf (view w) opened i) ≢ 0
+unfolding pathIf pathAt
+long-some w rev opened i q o eo t et h f ef d a ea r er y z =
+    let s = view w in
+    let l : 4 ≤ length (pathRound s rev a) = leb-true 4 (length (pathRound s rev a)) (sym er ∙ y) in
+    let b : Bool·beq (isOpen s i) opened ≡ true = ap (λ (x : Bool). Bool·beq x opened) (sym eo) ∙ sym et ∙ not-false t h in
+    let e : cond (Bool·beq (isOpen s i) opened) (pathBy s (reverseSolution s) (isOpen s i) i) none ≡ some (pathRound s rev a) =
+    rw (b, ← q .direction) (long-path w rev (isOpen s i) i (q .of) f ef d a ea l)
+    in
+    omega (arith, l, ap sizeOf e, z)
 
 -- ---- how many points, by how building ends
 

@@ -17,6 +17,7 @@ use Rattle.store.specs.Good.{PointIn}
 use Rattle.paths.specs.Path.{pointAt}
 use Rattle.paths.specs.Tray.{lowBytes, i32Bytes, pointBytes, pathBytes, over}
 use Rattle.paths.specs.Walking.{linkOf, Readable, Round, Going, afterPoint, pathRound, more, putPoint, Laid, laid, putMore, Laying, Room}
+use Rattle.paths.specs.Filling.{layOver}
 use Rattle.paths.proofs.Coordinates.{coordinate-bits}
 use Rattle.paths.proofs.Walks.{othersOf, round-here, going-begins, going-here, going-on, going-ends}
 use Rattle.paths.proofs.Rounds.{adds, after-more, path-is}
@@ -151,7 +152,7 @@ module _ (w : List ℕ) (rev : Bool) (a b at : ℕ) (t₀ t : List ℕ) (q : ℕ
       let m = n .says in
       omega (arith, laying-length, at-put s b q at t, m .here, ap length (m .all), length-append (m .done) (afterPoint s q (n .todo)), m .room)
 
-  pub laying-ends : (u : List ℕ) → q ≡ a → Room w rev a u → t₀ ≡ putPoint (view w) a 0 u → t ≡ over (pathBytes (pathRound (view w) rev a)) u
+  pub laying-ends : (u : List ℕ) → q ≡ a → Room w rev a u → t₀ ≡ putPoint (view w) a 0 u → laid at t ≡ layOver (pathBytes (pathRound (view w) rev a)) u
   laying-ends u e r f =
       let s = view w in
       let y = going-ends w rev a q (Laying w b at t₀ t (pathRound s rev a)) g e in
@@ -159,4 +160,6 @@ module _ (w : List ℕ) (rev : Bool) (a b at : ℕ) (t₀ t : List ℕ) (q : ℕ
       let m : length (pathRound s rev a) ≡ suc (length (afterPoint s a (othersOf (linkOf s rev) a))) = ap length p in
       let h : t₀ ≡ over (pointBytes (pointAt s a)) u = f ∙ point-over s a [] u (round-here w rev a (r .round) .here) (omega (arith, r .room)) in
       let d : y .done ≡ pathRound s rev a = sym (append-nil (y .done)) ∙ y .all in
-      y .bytes ∙ rw (d, p, h) (over-again (pointBytes (pointAt s a)) (pathBytes (afterPoint s a (othersOf (linkOf s rev) a))) u)
+      let n : at ≡ length (pathBytes (pathRound s rev a)) = omega (arith, y .here, ap length d, length-pathBytes (pathRound s rev a)) in
+      let v : t ≡ over (pathBytes (pathRound s rev a)) u = y .bytes ∙ rw (d, p, h) (over-again (pointBytes (pointAt s a)) (pathBytes (afterPoint s a (othersOf (linkOf s rev) a))) u) in
+      rw (n, v)

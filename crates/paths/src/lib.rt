@@ -1,6 +1,7 @@
 // One record's path, how many bytes all paths take, and the tray's fields.
 mod round;
 
+use crate::round::has_four;
 use crate::round::point_at;
 use crate::round::round_size;
 use crate::round::write_round;
@@ -9,8 +10,9 @@ use job::refusal::Refusal;
 use store::Col;
 use store::NONE;
 ghost use mathlib.Core.Path.{_≡_};
+ghost use mathlib.Core.Logic.{_≢_};
 ghost use Prim.Native.Nat.{_+_, _*_, _<_, _≤_};
-ghost use mathlib.Core.Bool.{false, cond, not, _&&_, Bool·beq};
+ghost use mathlib.Core.Bool.{true, false, cond, not, _&&_, Bool·beq};
 ghost use mathlib.Core.List.{map};
 ghost use lib.Dec.{eqb, leb, ltb};
 ghost use lib.ListN.{length, set, replicate};
@@ -25,7 +27,7 @@ ghost use Rattle.store.specs.Good.{SoundWords};
 ghost use Rattle.store.specs.Value.{preserveCollinear, reverseSolution};
 ghost use Rattle.paths.specs.Path.{pointAt, pathBy, pathEnd, pathIf, pathsBelow, sizeOf, closedPaths, openPaths};
 ghost use Rattle.paths.specs.Count.{pathCount, fieldSize, needOf};
-ghost use Rattle.paths.specs.Tray.{pathBytes, tagOf, fieldsOf, padded, over};
+ghost use Rattle.paths.specs.Tray.{pathBytes, tagOf, fieldsOf, padded};
 ghost use Rattle.paths.specs.Tray as trays;
 ghost use Rattle.paths.specs.Filling.{pathPoints, fieldAt, fieldsBelow, layOver, PointsFit, FieldFits, FieldsFit, AllFit};
 ghost use Rattle.paths.specs.declared.Written.the-variants.{Paths};
@@ -285,18 +287,47 @@ fn put_header(t: &mut [u8], tag: u8, k: usize)
     numbers::write_u16(t, 1, (8 * k) as u32);
 }
 
-// The points of record i's path, laid over the beginning of t.
-fn write_points(w: &[u32], rev: bool, i: usize, t: &mut [u8])
+// The points of record i's path, laid over the beginning of t; answers how many bytes.
+fn write_points(w: &[u32], rev: bool, i: usize, t: &mut [u8]) -> usize
     requires { ⌜ PointsFit (now w) rev i (now t) ⌝ }
-    ensures { λ _. ⌜ now (t .exit) ≡ over (pathBytes (pathPoints (view (now (w .entry))) rev i)) (now (t .entry)) ⌝ }
+    ensures { λ r. ⌜ laid r (now (t .exit)) ≡ layOver (pathBytes (pathPoints (view (now (w .entry))) rev i)) (now (t .entry)) ⌝ }
 {
     let f = store::get(w, Col::First, i);
     let start = start_from(w, rev, f);
-    write_round(w, rev, start, t);
+    write_round(w, rev, start, t)
 }
 
-// The field of record i's path, if it has one and is open or closed as asked; answers how long it is.
-fn write_path(w: &[u32], rev: bool, opened: bool, i: usize, t: &mut [u8]) -> usize
+// Whether record i is open or closed as asked, and its first points show that it has a path.
+fn is_long(w: &[u32], rev: bool, opened: bool, i: usize) -> bool
+    requires { ⌜ Asked (now w) rev i ⌝ }
+    ensures { λ r. ⌜ (r ≡ true → sizeOf (pathIf (view (now (w .entry))) opened i) ≢ 0) ⌝ }
+{
+    let o = is_open(w, i);
+    let fits = same(o, opened);
+    if !fits {
+        return false;
+    }
+    let f = store::get(w, Col::First, i);
+    if f == NONE {
+        return false;
+    }
+    let start = start_from(w, rev, f);
+    has_four(w, rev, start)
+}
+
+// The field of a path that is there: its points on one walk, and then its length.
+fn write_long(w: &[u32], rev: bool, opened: bool, i: usize, t: &mut [u8]) -> usize
+    requires { ⌜ FieldFits (now w) rev opened i (now t) × (sizeOf (pathIf (view (now w)) opened i) ≢ 0) ⌝ }
+    ensures { λ r. ⌜ laid r (now (t .exit)) ≡ layOver (fieldAt (view (now (w .entry))) opened i) (now (t .entry)) ⌝ }
+{
+    let n = write_points(w, rev, i, &mut t[3..]);
+    let tag = tag_of(opened);
+    put_header(t, tag, n / 8);
+    3 + n
+}
+
+// The field of record i's path, its points counted first, if it has one and is open or closed as asked; answers how long it is.
+fn write_counted(w: &[u32], rev: bool, opened: bool, i: usize, t: &mut [u8]) -> usize
     requires { ⌜ FieldFits (now w) rev opened i (now t) ⌝ }
     ensures { λ r. ⌜ laid r (now (t .exit)) ≡ layOver (fieldAt (view (now (w .entry))) opened i) (now (t .entry)) ⌝ }
 {
@@ -308,6 +339,18 @@ fn write_path(w: &[u32], rev: bool, opened: bool, i: usize, t: &mut [u8]) -> usi
     put_header(t, tag, k);
     write_points(w, rev, i, &mut t[3..]);
     3 + 8 * k
+}
+
+// The same, and counted only where the first points do not show that there is a path.
+fn write_path(w: &[u32], rev: bool, opened: bool, i: usize, t: &mut [u8]) -> usize
+    requires { ⌜ FieldFits (now w) rev opened i (now t) ⌝ }
+    ensures { λ r. ⌜ laid r (now (t .exit)) ≡ layOver (fieldAt (view (now (w .entry))) opened i) (now (t .entry)) ⌝ }
+{
+    let long = is_long(w, rev, opened, i);
+    if long {
+        return write_long(w, rev, opened, i, t);
+    }
+    write_counted(w, rev, opened, i, t)
 }
 
 // The fields of all records that are open or closed as asked; answers what they come to.

@@ -5,12 +5,14 @@ use store::Col;
 use store::points::point;
 ghost use mathlib.Core.Path.{_≡_};
 ghost use Prim.Native.Nat.{_+_, _*_, _<_, _≤_};
+ghost use lib.Dec.{leb};
 ghost use lib.ListN.{length};
 ghost use Rattle.job.specs.Limits as limit;
 ghost use Rattle.store.specs.Field.{LENGTH};
 ghost use Rattle.store.specs.Words.{view};
 ghost use Rattle.paths.specs.Path.{pointAt};
-ghost use Rattle.paths.specs.Tray.{pathBytes, over};
+ghost use Rattle.paths.specs.Tray.{pathBytes};
+ghost use Rattle.paths.specs.Filling.{layOver};
 ghost use Rattle.paths.specs.Walking.{linkOf, Readable, Round, Room, pathRound, more, putPoint, laid, putMore};
 
 // The point of number k, by value.
@@ -87,10 +89,30 @@ fn put_more(w: &[u32], b: usize, q: usize, t: &mut [u8], at: usize) -> usize
     at + 8
 }
 
-// The path that goes round from a, laid over the beginning of t.
-pub fn write_round(w: &[u32], rev: bool, a: usize, t: &mut [u8])
+// Whether the path that goes round from a has four points or more.
+pub fn has_four(w: &[u32], rev: bool, a: usize) -> bool
+    requires { ⌜ Round (now w) rev a ⌝ }
+    ensures { λ r. ⌜ r ≡ leb 4 (length (pathRound (view (now (w .entry))) rev a)) ⌝ }
+{
+    let mut n: usize = 1;
+    let mut b = a;
+    let mut q = link(w, rev, a);
+    while q != a {
+        let d = adds(w, b, q);
+        n += d;
+        if 3 < n {
+            return true;
+        }
+        b = q;
+        q = link(w, rev, q);
+    }
+    false
+}
+
+// The path that goes round from a, laid over the beginning of t; answers how many bytes.
+pub fn write_round(w: &[u32], rev: bool, a: usize, t: &mut [u8]) -> usize
     requires { ⌜ Room (now w) rev a (now t) ⌝ }
-    ensures { λ _. ⌜ now (t .exit) ≡ over (pathBytes (pathRound (view (now (w .entry))) rev a)) (now (t .entry)) ⌝ }
+    ensures { λ r. ⌜ laid r (now (t .exit)) ≡ layOver (pathBytes (pathRound (view (now (w .entry))) rev a)) (now (t .entry)) ⌝ }
 {
     put_point(w, a, t, 0);
     let mut at: usize = 8;
@@ -101,4 +123,5 @@ pub fn write_round(w: &[u32], rev: bool, a: usize, t: &mut [u8])
         b = q;
         q = link(w, rev, q);
     }
+    at
 }

@@ -1,8 +1,5 @@
--- `paths::write_path` meets its contract.
+-- `paths::write_path` meets its contract: the one way or the other.
 use borrow.Author.Needs.{needs}
-use Prim.Native.Nat.{_*_}
-use native.Mathlib.Omega.{arith}
-use Rattle.paths.proofs.Fields.{no-field, header-room, header-length, field-sum, points-fit, field-laid}
 use Rattle.paths.proofs.write_path.Statement.{statement}
 use Rattle.paths.proofs.write_path.Tie as tie
 
@@ -11,14 +8,9 @@ write-path-spec =
     tie.close
     (tie.spec
     (λ c κs. search needs)
-    (λ c. no-field _ _ _ _ _ (c .before .size-if .ensures) (c .if1 .taken))
+    (λ c κs. (search needs, c .before .before .is-long .ensures (c .before .if1 .taken)))
+    (λ c. search needs)
+    (λ c. search needs)
     (λ c κs. search needs)
-    (λ c κs. (header-room _ _ _ _ _ (c .before .before .before .before .before .before .pre) _ (c .before .before .before .size-if .ensures) (c .before .before .if1 .left), field-sum _ _ _ _ _ (c .before .before .before .before .before .before .pre) _ (c .before .before .before .size-if .ensures) (c .before .before .if1 .left)))
-    (λ c. let h = header-room _ _ _ _ _ (c .before .before .before .before .before .before .before .before .before .pre) _ (c .before .before .before .before .before .before .size-if .ensures) (c .before .before .before .before .before .if1 .left) in let l = header-length (c .before .before .before .before .before .before .before .before .before .args .t .now) _ (c .before .before .before .before .tag-of .result) (8 * c .before .before .before .before .before .before .size-if .result) (c .before .before .put-header .ensures) in omega arith)
-    (λ c. let h = header-room _ _ _ _ _ (c .before .before .before .before .before .before .before .before .before .pre) _ (c .before .before .before .before .before .before .size-if .ensures) (c .before .before .before .before .before .if1 .left) in let l = header-length (c .before .before .before .before .before .before .before .before .before .args .t .now) _ (c .before .before .before .before .tag-of .result) (8 * c .before .before .before .before .before .before .size-if .result) (c .before .before .put-header .ensures) in omega arith)
     (λ c. search needs)
-    (λ c κs. points-fit _ _ _ _ _ (c .before .before .before .before .before .before .before .before .before .before .pre) _ (c .before .before .before .before .before .before .before .size-if .ensures) (c .before .before .before .before .before .before .if1 .left) _ _ (c .before .before .before .before .before .tag-of .ensures) (c .before .before .before .put-header .ensures))
-    (λ c. let h = field-sum _ _ _ _ _ (c .before .before .before .before .before .before .before .before .before .before .before .before .before .pre) _ (c .before .before .before .before .before .before .before .before .before .before .size-if .ensures) (c .before .before .before .before .before .before .before .before .before .if1 .left) in record { fits = omega arith })
-    (λ c. let h = field-sum _ _ _ _ _ (c .before .before .before .before .before .before .before .before .before .before .before .before .before .pre) _ (c .before .before .before .before .before .before .before .before .before .before .size-if .ensures) (c .before .before .before .before .before .before .before .before .before .if1 .left) in record { fits = omega arith })
-    (λ c. search needs)
-    (λ c. field-laid _ _ _ _ _ (c .before .before .before .before .before .before .before .before .before .before .before .before .before .pre) _ (c .before .before .before .before .before .before .before .before .before .before .size-if .ensures) (c .before .before .before .before .before .before .before .before .before .if1 .left) _ _ (c .before .before .before .before .before .before .before .before .tag-of .ensures) (c .before .before .before .before .before .before .put-header .ensures) _ (c .before .before .write-points .ensures)))
+    (λ c. search needs))

@@ -13,4 +13,4 @@ write-points-spec =
     (λ c κs. let h = round-here _ _ _ (points-first _ _ _ _ (c .before .before .before .pre) _ (c .get .ensures .0)) in search needs)
     (λ c κs. points-room _ _ _ _ (c .before .before .before .before .before .pre) _ (c .before .before .get .ensures .0) _ (c .before .start-from .ensures))
     (λ c. search needs)
-    (λ c. points-laid _ _ _ _ (c .before .before .before .before .before .before .before .before .pre) _ (c .before .before .before .before .before .get .ensures .0) _ _ (c .before .before .before .before .start-from .ensures) (c .before .before .write-round .ensures)))
+    (λ c. points-laid _ _ _ _ (c .before .before .before .before .before .before .before .before .pre) _ (c .before .before .before .before .before .get .ensures .0) _ _ _ (c .before .before .before .before .start-from .ensures) (c .before .before .write-round .ensures)))
