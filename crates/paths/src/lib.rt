@@ -1,22 +1,20 @@
 // One record's path, how many bytes all paths take, and the tray's fields.
+mod field;
 mod round;
 
-use crate::round::has_four;
+use crate::field::write_path;
 use crate::round::point_at;
 use crate::round::round_size;
-use crate::round::write_round;
 use job::Job;
 use job::refusal::Refusal;
 use store::Col;
 use store::NONE;
 ghost use mathlib.Core.Path.{_≡_};
-ghost use mathlib.Core.Logic.{_≢_};
 ghost use Prim.Native.Nat.{_+_, _*_, _<_, _≤_};
-ghost use mathlib.Core.Bool.{true, false, cond, not, _&&_, Bool·beq};
+ghost use mathlib.Core.Bool.{false, cond, not, _&&_, Bool·beq};
 ghost use mathlib.Core.List.{map};
 ghost use lib.Dec.{eqb, leb, ltb};
-ghost use lib.ListN.{length, set, replicate};
-ghost use Rattle.numbers.specs.Written.{putLe};
+ghost use lib.ListN.{length, replicate};
 ghost use Rattle.job.specs.Limits as limit;
 ghost use Rattle.lone.specs.Plane.{plane};
 ghost use Rattle.lone.specs.Path.{isSmallRing};
@@ -27,9 +25,9 @@ ghost use Rattle.store.specs.Good.{SoundWords};
 ghost use Rattle.store.specs.Value.{preserveCollinear, reverseSolution};
 ghost use Rattle.paths.specs.Path.{pointAt, pathBy, pathEnd, pathIf, pathsBelow, sizeOf, closedPaths, openPaths};
 ghost use Rattle.paths.specs.Count.{pathCount, fieldSize, needOf};
-ghost use Rattle.paths.specs.Tray.{pathBytes, tagOf, fieldsOf, padded};
+ghost use Rattle.paths.specs.Tray.{tagOf, fieldsOf, padded};
 ghost use Rattle.paths.specs.Tray as trays;
-ghost use Rattle.paths.specs.Filling.{pathPoints, fieldAt, fieldsBelow, layOver, PointsFit, FieldFits, FieldsFit, AllFit};
+ghost use Rattle.paths.specs.Filling.{fieldsBelow, layOver, FieldsFit, AllFit};
 ghost use Rattle.paths.specs.declared.Written.the-variants.{Paths};
 ghost use Rattle.paths.specs.Wrote.{wrote, buildPaths64};
 ghost use Rattle.paths.specs.Walking.{startFrom, roundFrom, Known, Directed, Asked, ThreeOrMore, Sized, Round, laid};
@@ -276,81 +274,6 @@ pub fn tag_of(opened: bool) -> u8
         return 7;
     }
     6
-}
-
-// The tag and the length of a field for k points.
-fn put_header(t: &mut [u8], tag: u8, k: usize)
-    requires { ⌜ (3 ≤ length (now t)) × (k ≤ limit.POINTS) ⌝ }
-    ensures { λ _. ⌜ now (t .exit) ≡ putLe 2 1 (8 * k) (set (now (t .entry)) 0 tag) ⌝ }
-{
-    t[0] = tag;
-    numbers::write_u16(t, 1, (8 * k) as u32);
-}
-
-// The points of record i's path, laid over the beginning of t; answers how many bytes.
-fn write_points(w: &[u32], rev: bool, i: usize, t: &mut [u8]) -> usize
-    requires { ⌜ PointsFit (now w) rev i (now t) ⌝ }
-    ensures { λ r. ⌜ laid r (now (t .exit)) ≡ layOver (pathBytes (pathPoints (view (now (w .entry))) rev i)) (now (t .entry)) ⌝ }
-{
-    let f = store::get(w, Col::First, i);
-    let start = start_from(w, rev, f);
-    write_round(w, rev, start, t)
-}
-
-// Whether record i is open or closed as asked, and its first points show that it has a path.
-fn is_long(w: &[u32], rev: bool, opened: bool, i: usize) -> bool
-    requires { ⌜ Asked (now w) rev i ⌝ }
-    ensures { λ r. ⌜ (r ≡ true → sizeOf (pathIf (view (now (w .entry))) opened i) ≢ 0) ⌝ }
-{
-    let o = is_open(w, i);
-    let fits = same(o, opened);
-    if !fits {
-        return false;
-    }
-    let f = store::get(w, Col::First, i);
-    if f == NONE {
-        return false;
-    }
-    let start = start_from(w, rev, f);
-    has_four(w, rev, start)
-}
-
-// The field of a path that is there: its points on one walk, and then its length.
-fn write_long(w: &[u32], rev: bool, opened: bool, i: usize, t: &mut [u8]) -> usize
-    requires { ⌜ FieldFits (now w) rev opened i (now t) × (sizeOf (pathIf (view (now w)) opened i) ≢ 0) ⌝ }
-    ensures { λ r. ⌜ laid r (now (t .exit)) ≡ layOver (fieldAt (view (now (w .entry))) opened i) (now (t .entry)) ⌝ }
-{
-    let n = write_points(w, rev, i, &mut t[3..]);
-    let tag = tag_of(opened);
-    put_header(t, tag, n / 8);
-    3 + n
-}
-
-// The field of record i's path, its points counted first, if it has one and is open or closed as asked; answers how long it is.
-fn write_counted(w: &[u32], rev: bool, opened: bool, i: usize, t: &mut [u8]) -> usize
-    requires { ⌜ FieldFits (now w) rev opened i (now t) ⌝ }
-    ensures { λ r. ⌜ laid r (now (t .exit)) ≡ layOver (fieldAt (view (now (w .entry))) opened i) (now (t .entry)) ⌝ }
-{
-    let k = size_if(w, rev, opened, i);
-    if k == 0 {
-        return 0;
-    }
-    let tag = tag_of(opened);
-    put_header(t, tag, k);
-    write_points(w, rev, i, &mut t[3..]);
-    3 + 8 * k
-}
-
-// The same, and counted only where the first points do not show that there is a path.
-fn write_path(w: &[u32], rev: bool, opened: bool, i: usize, t: &mut [u8]) -> usize
-    requires { ⌜ FieldFits (now w) rev opened i (now t) ⌝ }
-    ensures { λ r. ⌜ laid r (now (t .exit)) ≡ layOver (fieldAt (view (now (w .entry))) opened i) (now (t .entry)) ⌝ }
-{
-    let long = is_long(w, rev, opened, i);
-    if long {
-        return write_long(w, rev, opened, i, t);
-    }
-    write_counted(w, rev, opened, i, t)
 }
 
 // The fields of all records that are open or closed as asked; answers what they come to.

@@ -2,8 +2,8 @@
 use borrow.Author.Needs.{needs}
 use Prim.Native.Nat.{_*_}
 use Rattle.paths.proofs.Fields.{header-length}
-use Rattle.paths.proofs.put_header.Statement.{statement}
-use Rattle.paths.proofs.put_header.Tie as tie
+use Rattle.paths.proofs.field.put_header.Statement.{statement}
+use Rattle.paths.proofs.field.put_header.Tie as tie
 
 pub put-header-spec : {M : Type 1} → statement M
 put-header-spec =

@@ -3,8 +3,8 @@ use mathlib.Core.Path.{refl}
 use borrow.Author.Needs.{needs}
 use native.Mathlib.Omega.{arith}
 use Rattle.paths.proofs.Fields.{header-room, part-fit, head-room, sum-fits, head-after}
-use Rattle.paths.proofs.write_long.Statement.{statement}
-use Rattle.paths.proofs.write_long.Tie as tie
+use Rattle.paths.proofs.field.write_long.Statement.{statement}
+use Rattle.paths.proofs.field.write_long.Tie as tie
 
 pub write-long-spec : {M : Type 1} → statement M
 write-long-spec =

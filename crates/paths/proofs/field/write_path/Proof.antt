@@ -1,7 +1,7 @@
 -- `paths::write_path` meets its contract: the one way or the other.
 use borrow.Author.Needs.{needs}
-use Rattle.paths.proofs.write_path.Statement.{statement}
-use Rattle.paths.proofs.write_path.Tie as tie
+use Rattle.paths.proofs.field.write_path.Statement.{statement}
+use Rattle.paths.proofs.field.write_path.Tie as tie
 
 pub write-path-spec : {M : Type 1} → statement M
 write-path-spec =

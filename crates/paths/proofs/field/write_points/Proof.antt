@@ -2,8 +2,8 @@
 use borrow.Author.Needs.{needs}
 use Rattle.paths.proofs.Walks.{round-here}
 use Rattle.paths.proofs.Fields.{points-first, points-room, points-laid}
-use Rattle.paths.proofs.write_points.Statement.{statement}
-use Rattle.paths.proofs.write_points.Tie as tie
+use Rattle.paths.proofs.field.write_points.Statement.{statement}
+use Rattle.paths.proofs.field.write_points.Tie as tie
 
 pub write-points-spec : {M : Type 1} → statement M
 write-points-spec =

@@ -3,8 +3,8 @@ use mathlib.Core.Bool.{true}
 use borrow.Author.Needs.{needs}
 use Rattle.paths.proofs.Walks.{round-here}
 use Rattle.paths.proofs.Sizes.{first-round, along-round, not-long, long-some}
-use Rattle.paths.proofs.is_long.Statement.{statement}
-use Rattle.paths.proofs.is_long.Tie as tie
+use Rattle.paths.proofs.field.is_long.Statement.{statement}
+use Rattle.paths.proofs.field.is_long.Tie as tie
 
 pub is-long-spec : {M : Type 1} → statement M
 is-long-spec =

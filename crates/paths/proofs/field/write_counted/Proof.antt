@@ -5,8 +5,8 @@ use Prim.Native.Nat.{_*_}
 use native.Mathlib.Omega.{arith}
 use Rattle.paths.specs.Walking.{Laid}
 use Rattle.paths.proofs.Fields.{no-field, header-room, header-length, field-sum, points-fit, field-laid}
-use Rattle.paths.proofs.write_counted.Statement.{statement}
-use Rattle.paths.proofs.write_counted.Tie as tie
+use Rattle.paths.proofs.field.write_counted.Statement.{statement}
+use Rattle.paths.proofs.field.write_counted.Tie as tie
 
 pub write-counted-spec : {M : Type 1} → statement M
 write-counted-spec =
