@@ -1,9 +1,10 @@
 -- The floats of an edge pair hold whole numbers: its differences, its cross products, and the tests on them.
 use mathlib.Core.Path.{_≡_, refl, sym, ap, _∙_}
-use mathlib.Core.Bool.{Bool, true, false, _&&_}
+use mathlib.Core.Bool.{Bool, true, false, not}
 use Prim.Native.Nat.{ℕ, _^_}
 use native.Mathlib.Nat.{le-trans}
 use lib.Dec.{leb→le}
+use borrow.Author.Tests.{not-true, not-false}
 use lib.IntN.{ℤ, pos, _-ℤ_}
 use lib.Ieee.{Float, binary64, sub, eq}
 use Rattle.exact.specs.Num.{Within, Num}
@@ -88,18 +89,20 @@ module _ {e : Edges} {cp : Float} (p : Paired e) (q : cp ≡ divisorF (e .pair))
   unfolding segmentsIntersect
   parallel-of t = rw (sym parallel-is ∙ t)
 
-  -- and of others
-  pub intersect-of :
-      {r s : Bool} {t u : Float} → eq cp zeroF ≡ false →
-      t ≡ alongF (e .a .x) (e .a .y) (e .c .x) (e .c .y) (e .pair .dx2) (e .pair .dy2) → r ≡ strictlyWithinF t cp →
-      u ≡ alongF (e .a .x) (e .a .y) (e .c .x) (e .c .y) (e .pair .dx1) (e .pair .dy1) → s ≡ strictlyWithinF u cp → (r && s) ≡ segmentsIntersect (e .a) (e .b) (e .c) (e .d)
-  unfolding segmentsIntersect
-  intersect-of f g h i j =
-      let A = p .a-in in
-      let B = p .b-in in
-      let C = p .c-in in
-      let D = p .d-in in
-      rw (h, j, g, i, p .pair-is, cp-is, sym parallel-is ∙ f, within-float (num-first A B C D) (num-divisor A B C D), within-float (num-second A B C D) (num-divisor A B C D))
+  -- and of others, by the first edge's fraction and, where that is within, the second's
+  module _ {t : Float} {r : Bool} (f : eq cp zeroF ≡ false) (g : t ≡ alongF (e .a .x) (e .a .y) (e .c .x) (e .c .y) (e .pair .dx2) (e .pair .dy2)) (h : r ≡ strictlyWithinF t cp) where
+    first-is : strictlyWithin (alongFirst (e .a) (e .b) (e .c) (e .d)) (divisor (e .a) (e .b) (e .c) (e .d)) ≡ r
+    first-is = rw (h, g, p .pair-is, cp-is, within-float (num-first (p .a-in) (p .b-in) (p .c-in) (p .d-in)) (num-divisor (p .a-in) (p .b-in) (p .c-in) (p .d-in)))
+
+    pub apart-of : not r ≡ true → false ≡ segmentsIntersect (e .a) (e .b) (e .c) (e .d)
+    unfolding segmentsIntersect
+    apart-of n = rw (sym parallel-is ∙ f, first-is ∙ not-true r n)
+
+    pub intersect-of :
+        {u : Float} {s : Bool} → not r ≡ false →
+        u ≡ alongF (e .a .x) (e .a .y) (e .c .x) (e .c .y) (e .pair .dx1) (e .pair .dy1) → s ≡ strictlyWithinF u cp → s ≡ segmentsIntersect (e .a) (e .b) (e .c) (e .d)
+    unfolding segmentsIntersect
+    intersect-of n i j = rw (sym parallel-is ∙ f, first-is ∙ not-false r n, j, i, p .pair-is, cp-is, within-float (num-second (p .a-in) (p .b-in) (p .c-in) (p .d-in)) (num-divisor (p .a-in) (p .b-in) (p .c-in) (p .d-in)))
 
 -- ---- the answer of `edges_of`
 pub paired-of : {a b c d : Point} {e : Edges} → InTable a → InTable b → InTable c → InTable d → e ≡ edgesOf a b c d → Paired e

@@ -202,8 +202,11 @@ pub fn segments_intersect(e: Edges) -> bool
     if cp == 0.0 {
         return false;
     }
-    strictly_within(along(e.a, e.c, e.pair.dx2, e.pair.dy2), cp)
-        & strictly_within(along(e.a, e.c, e.pair.dx1, e.pair.dy1), cp)
+    let first = strictly_within(along(e.a, e.c, e.pair.dx2, e.pair.dy2), cp);
+    if !first {
+        return false;
+    }
+    strictly_within(along(e.a, e.c, e.pair.dx1, e.pair.dy1), cp)
 }
 
 // num / det, rounded once; 0 is plus, also where num is -0.

@@ -1,6 +1,6 @@
 -- `geometry::segments_intersect` meets its contract.
 use borrow.Author.Needs.{needs}
-use Rattle.geometry.proofs.Differences.{parallel-of, intersect-of}
+use Rattle.geometry.proofs.Differences.{parallel-of, apart-of, intersect-of}
 use Rattle.geometry.proofs.segments_intersect.Statement.{statement}
 use Rattle.geometry.proofs.segments_intersect.Tie as tie
 
@@ -12,6 +12,7 @@ segments-intersect-spec =
     (λ c. search (parallel-of))
     (λ c κs. search needs)
     (λ c κs. search needs)
+    (λ c. search apart-of)
     (λ c κs. search needs)
     (λ c κs. search needs)
-    (λ c. search (intersect-of)))
+    (λ c. search intersect-of))
