@@ -8,16 +8,16 @@ use native.Mathlib.Omega.{arith}
 use lib.Dec.{eqb}
 use lib.Seq.{set-getD, set-set}
 use lib.ListN.{length}
-use borrow.Author.Tests.{eq-eqb, ne-eqb, lt-ltb, le-leb, not-true}
-use Rattle.rings.specs.Progress.{Due, removal, triangle, split, done, isDone}
+use borrow.Author.Tests.{eq-eqb, ne-eqb, lt-ltb, not-true}
+use Rattle.rings.specs.Progress.{Due, removal, triangle, split, done, isDone, whileRemoving}
 use Rattle.rings.proofs.Counting.{occ-head}
 use Rattle.rings.proofs.Members.{prev-next}
 use Rattle.geometry.specs.declared.Point.{Point}
 use Rattle.geometry.specs.declared.Edges.{Edges}
 use Rattle.geometry.specs.Plane.{isCollinear, removable, segmentsIntersect}
-use Rattle.lone.specs.Act.{Act, moveOn}
+use Rattle.lone.specs.Act.{Act, dropPoint, discard, moveOn}
 use Rattle.lone.specs.Forest.{ok}
-use Rattle.store.specs.Field.{Field, pt, rc, ct, NEXT, PREV, FIRST, MARK, PRESENT, START, POINTS, RECORDS, LENGTH, size, base}
+use Rattle.store.specs.Field.{Field, pt, rc, NEXT, PREV, FIRST, MARK, PRESENT, START, LENGTH, size, base}
 use Rattle.store.specs.Words.{Store, put, cell, view}
 use Rattle.store.specs.Stores.{upd}
 use Rattle.store.specs.Sound.{recs, Closed, markOf, dueOf, dueAt}
@@ -27,22 +27,25 @@ use Rattle.store.proofs.Storing.{view-put, length-put}
 use Rattle.walks.specs.Ring.{OnRing}
 use Rattle.walks.proofs.Visiting as walks
 use Rattle.acts.specs.Apply.{afterW}
-use Rattle.acts.specs.Step.{outcome, fits, live, stepW}
+use Rattle.acts.specs.Step.{outcome, live, stepW}
 use Rattle.acts.specs.Run.{stepWords}
 use Rattle.acts.proofs.Positions.{due-mark, mark-due}
 use Rattle.acts.proofs.Stepping.{due-is, stepW-sound}
 use Rattle.turns.specs.declared.Due as declared
 use Rattle.turns.specs.declared.Due.the-variants.{Removal, Split}
+use Rattle.steps.specs.declared.coming.Coming.{Coming}
+use Rattle.steps.specs.declared.coming.Coming.the-variants.{Nothing, Step, Drop}
 use Rattle.steps.specs.declared.glide.WalkEnd.{WalkEnd}
-use Rattle.steps.specs.declared.glide.WalkEnd.the-variants.{At, Past}
+use Rattle.steps.specs.declared.glide.WalkEnd.the-variants.{At, Gone, Past}
 use Rattle.turns.specs.Code.{dueIs}
 use Rattle.turns.specs.Form.{raised, geometryOf}
 use Rattle.turns.specs.Reads.{Steps, Going, Found, Valued, Three, Four, EdgesAt}
-use Rattle.turns.specs.Decide.{removeAt, removalAt, splitAt, decideDue, decideAt}
-use Rattle.steps.specs.Glide.{Glided, still, onward, Glides, DueAt, leaves, placeOf, stillIn, unfinishedAt, GlidesTo}
+use Rattle.turns.specs.Decide.{removeAt, validWithout, removalAt, splitAt, decideDue, decideAt}
+use Rattle.steps.specs.Expects.{Expects, comingIf}
+use Rattle.steps.specs.Glide.{Glided, still, onward, Glides, DueAt, leaves, placeOf, comingBy, GlidesTo}
 use Rattle.turns.proofs.Reading.{low, on-next}
 use Rattle.turns.proofs.Ready.{laws, going, decided}
-use Rattle.steps.proofs.Steps.{went}
+use Rattle.steps.proofs.Steps.{roomy, went}
 
 -- ---- one word written
 
@@ -57,6 +60,11 @@ put-again f w i a b = set-set w (base f + i) a b
 -- the point before the next is the point itself
 ring-back : (w : List ℕ) (x : ℕ) → OnRing w x → cell (pt PREV) w (cell (pt NEXT) w x) ≡ x
 ring-back w x o = let s = walks.split w x o in prev-next (view w (pt NEXT)) (view w (pt PREV)) _ _ (s .ring) x (occ-head x (s .others))
+
+-- what comes next is expected
+expected : (w : List ℕ) (i : ℕ) (b : Bool) → b ≡ live (view w) i → Expects (comingIf b) w i
+expected w i true e = e
+expected w i false e = e
 
 -- a closed ring is live unless it is done
 live-at : (s : Store) (i : ℕ) → Closed s i → not (isDone (dueAt s i)) ≡ live s i
@@ -105,12 +113,9 @@ module _ (w : List ℕ) (i : ℕ) (B : Steps w i) where
         let at-x : view v (pt NEXT) (view v (rc PRESENT) i) ≡ n = ap (λ (s : Store). s (pt NEXT) (s (rc PRESENT) i)) (look x) ∙ ap (λ (b : Bool). cell (pt NEXT) w (cond b x (cell (rc PRESENT) w i))) (eq-eqb i i refl) in
         ap (λ (k : ℕ). put (rc MARK) (put (rc PRESENT) v i k) i (markOf e)) at-x ∙ ap (λ (u : List ℕ). put (rc MARK) u i (markOf e)) (put-again (rc PRESENT) w i x n)
 
-    roomy : true ≡ fits {P = Point} (view (put (rc PRESENT) w i x)) (moveOn e)
-    roomy = rw (le-leb (view (put (rc PRESENT) w i x) (ct POINTS) 0 + 0) 2048 (omega (arith, o .few-points)), le-leb (view (put (rc PRESENT) w i x) (ct RECORDS) 0 + 0) 512 (omega (arith, o .few-records)))
-
     module _ (q : moveOn e ≡ decideAt (raised .of) (geometryOf (view (put (rc PRESENT) w i x))) (view (put (rc PRESENT) w i x)) i) where
       turned : outcome ok (put (rc MARK) (put (rc PRESENT) w i (cell (pt NEXT) w x)) i (markOf e)) ≡ stepWords (geometryOf (view (put (rc PRESENT) w i x))) raised (put (rc PRESENT) w i x) i
-      turned = went (put (rc PRESENT) w i x) i (steps-at x o) (moveOn e) (decided (put (rc PRESENT) w i x) i (steps-at x o) (moveOn e) q) true roomy (put (rc MARK) (put (rc PRESENT) w i (cell (pt NEXT) w x)) i (markOf e)) refl (sym written)
+      turned = went (put (rc PRESENT) w i x) i (steps-at x o) (moveOn e) (decided (put (rc PRESENT) w i x) i (steps-at x o) (moveOn e) q) true (roomy (view (put (rc PRESENT) w i x)) o (moveOn e) refl refl) (put (rc MARK) (put (rc PRESENT) w i (cell (pt NEXT) w x)) i (markOf e)) refl (sym written)
 
       sound-on : Sound (view (put (rc MARK) (put (rc PRESENT) w i (cell (pt NEXT) w x)) i (markOf e)))
       unfolding stepWords
@@ -160,13 +165,13 @@ module _ (d : Due) (w : List ℕ) (i p x : ℕ) (A : GlidingAt d w i p x) where
   stopped e =
       let s = steps-at w i (A .here) x (A .sound) in
       record {
-        glides = record { glided = A .glided; sound = record { long = s .long; sound = s .sound }; is = sym (ap not (s .unfinished)) ∙ live-at (view (put (rc PRESENT) w i x)) i (s .closed) };
+        glides = record { glided = A .glided; sound = record { long = s .long; sound = s .sound }; expects = sym (ap not (s .unfinished)) ∙ live-at (view (put (rc PRESENT) w i x)) i (s .closed) };
         low = low w x (A .x-on);
       }
 
   -- the decision at x, by the step due
-  decides : (s : Store → Act Point) → ((t : Store) → dueAt t i ≡ d → decideAt (raised .of) (geometryOf t) t i ≡ s t) → (e : Due) → moveOn e ≡ s (upd (view w) (rc PRESENT) i x) → moveOn e ≡ decideAt (raised .of) (geometryOf (view (put (rc PRESENT) w i x))) (view (put (rc PRESENT) w i x)) i
-  decides s f e q =
+  decides : (s : Store → Act Point) → ((t : Store) → dueAt t i ≡ d → decideAt (raised .of) (geometryOf t) t i ≡ s t) → (a : Act Point) → a ≡ s (upd (view w) (rc PRESENT) i x) → a ≡ decideAt (raised .of) (geometryOf (view (put (rc PRESENT) w i x))) (view (put (rc PRESENT) w i x)) i
+  decides s f a q =
       let l = look w i (A .here) x in
       let m : dueAt (view (put (rc PRESENT) w i x)) i ≡ d = ap (λ (t : Store). dueAt t i) l ∙ ap dueOf (A .mark) ∙ due-mark d in
       q ∙ ap s (sym l) ∙ sym (f (view (put (rc PRESENT) w i x)) m)
@@ -199,7 +204,7 @@ module _ (d : Due) (w : List ℕ) (i p x : ℕ) (A : GlidingAt d w i p x) where
           glides = record {
             glided = onward (put (rc PRESENT) w i x) v (A .glided) (turned w i (A .here) x (A .sound) e q);
             sound = record { long = rw (length-put (rc MARK) (put (rc PRESENT) w i k) i (markOf e)) (long-at w i (A .here) k); sound = sound-on w i (A .here) x (A .sound) e q };
-            is = live-past w i (A .here) k e;
+            expects = expected v i (not (isDone e)) (live-past w i (A .here) k e);
           };
           low = low w k (on-next w x (A .x-on));
         })
@@ -218,13 +223,38 @@ module _ (w : List ℕ) (i p x : ℕ) (A : GlidingAt removal w i p x) where
   pub removal-stops : GlidesTo triangle w i (At x)
   removal-stops = stopped removal w i p x A triangle
 
+  module _ (n : ℕ) (N : Found w (cell (pt NEXT) w x) n) (g : Bool) (eg : g ≡ removeAt (raised .of) (geometryOf (view w)) (view w) p x n) (h : g ≡ true) where
+    by-drop : cond (validWithout (raised .of) (geometryOf (upd (view w) (rc PRESENT) i x)) (upd (view w) (rc PRESENT) i x) x) dropPoint (discard whileRemoving) ≡ removalAt (raised .of) (geometryOf (upd (view w) (rc PRESENT) i x)) (upd (view w) (rc PRESENT) i x) i
+    unfolding removalAt
+    by-drop = rw (eq-eqb i i refl) (rw (← N .is, ← A .p-is) (rw (sym eg ∙ h)))
+
+    -- stopped at x, which is dropped
+    pub removal-drops : GlidesTo triangle w i (Gone x)
+    removal-drops =
+        let v : List ℕ = put (rc PRESENT) w i x in
+        let s = steps-at w i (A .here) x (A .sound) in
+        let l = look w i (A .here) x in
+        let at-x : view v (rc PRESENT) i ≡ x = ap (λ (s : Store). s (rc PRESENT) i) l ∙ ap (λ (b : Bool). cond b x (cell (rc PRESENT) w i)) (eq-eqb i i refl) in
+        record {
+          glides = record {
+            glided = A .glided;
+            sound = record { long = s .long; sound = s .sound };
+            expects = record {
+              steps = s;
+              on = subst (OnRing v) at-x (going v i s .present-on);
+              drops = ap (λ (s : Store). cond (validWithout (raised .of) (geometryOf s) s x) dropPoint (discard whileRemoving)) l ∙ decides removal w i p x A (λ t. removalAt (raised .of) (geometryOf t) t i) (λ t e. at-due i t removal e) _ by-drop;
+            };
+          };
+          low = low w x (A .x-on);
+        }
+
   module _ (n : ℕ) (N : Found w (cell (pt NEXT) w x) n) (g : Bool) (eg : g ≡ removeAt (raised .of) (geometryOf (view w)) (view w) p x n) (h : g ≡ false) (s : ℕ) (es : s ≡ cell (rc START) w i) where
     by-start : moveOn (cond (eqb n (cell (rc START) w i)) triangle removal) ≡ removalAt (raised .of) (geometryOf (upd (view w) (rc PRESENT) i x)) (upd (view w) (rc PRESENT) i x) i
     unfolding removalAt
     by-start = rw (eq-eqb i i refl) (rw (← N .is, ← A .p-is) (rw (sym eg ∙ h)))
 
     removal-is : (b : Bool) → eqb n (cell (rc START) w i) ≡ b → moveOn (cond b triangle removal) ≡ decideAt (raised .of) (geometryOf (view (put (rc PRESENT) w i x))) (view (put (rc PRESENT) w i x)) i
-    removal-is b e = decides removal w i p x A (λ t. removalAt (raised .of) (geometryOf t) t i) (λ t e. at-due i t removal e) (cond b triangle removal) (ap (λ (b : Bool). moveOn (cond b triangle removal)) (sym e) ∙ by-start)
+    removal-is b e = decides removal w i p x A (λ t. removalAt (raised .of) (geometryOf t) t i) (λ t e. at-due i t removal e) (moveOn (cond b triangle removal)) (ap (λ (b : Bool). moveOn (cond b triangle removal)) (sym e) ∙ by-start)
 
     pub removal-on : n ≢ s → GlidingAt removal w i x n
     removal-on q = along removal w i p x A n N (removal-is false (ne-eqb n (cell (rc START) w i) (λ z. q (z ∙ sym es))))
@@ -250,7 +280,7 @@ module _ (w : List ℕ) (i p x : ℕ) (A : GlidingAt split w i p x) where
     by-ends = rw (eq-eqb i i refl) (rw (← Y .is, ← A .p-is) (rw (sym et ∙ h)))
 
     split-is : (a b : Bool) → eqb y (cell (rc FIRST) w i) ≡ a → eqb y (cell (rc START) w i) ≡ b → moveOn (cond (a || b) done split) ≡ decideAt (raised .of) (geometryOf (view (put (rc PRESENT) w i x))) (view (put (rc PRESENT) w i x)) i
-    split-is a b ea eb = decides split w i p x A (λ t. splitAt (raised .of) (geometryOf t) t i) (λ t e. at-due i t split e) (cond (a || b) done split) (rw (← ea, ← eb) by-ends)
+    split-is a b ea eb = decides split w i p x A (λ t. splitAt (raised .of) (geometryOf t) t i) (λ t e. at-due i t split e) (moveOn (cond (a || b) done split)) (rw (← ea, ← eb) by-ends)
 
     pub split-first : y ≡ f → GlidesTo done w i (Past y)
     split-first q = ended split w i p x A y Y done (split-is true (eqb y (cell (rc START) w i)) (eq-eqb y (cell (rc FIRST) w i) (q ∙ ef)) refl)
@@ -267,8 +297,8 @@ module _ (w : List ℕ) (i p x : ℕ) (A : GlidingAt split w i p x) where
 
 -- ---- by the step due
 module _ (w : List ℕ) (i : ℕ) (b : Steps w i) where
-  pub stays : Glides i w w true
-  stays = record { glided = still; sound = record { long = b .long; sound = b .sound }; is = sym (ap not (b .unfinished)) ∙ live-at (view w) i (b .closed) }
+  pub stays : Glides i w w Step
+  stays = record { glided = still; sound = record { long = b .long; sound = b .sound }; expects = sym (ap not (b .unfinished)) ∙ live-at (view w) i (b .closed) }
 
   module _ (t : declared.Due) (e : dueIs t ≡ dueAt (view w) i) where
     pub due-removal : t ≡ Removal → DueAt removal w i
@@ -282,6 +312,9 @@ module _ (r : WalkEnd) (x : ℕ) where
   pub at-low : r ≡ At x → placeOf r < 2048 → x < 2 ^ 32
   at-low e h = omega (arith, ap placeOf e)
 
+  pub gone-low : r ≡ Gone x → placeOf r < 2048 → x < 2 ^ 32
+  gone-low e h = omega (arith, ap placeOf e)
+
   pub past-low : r ≡ Past x → placeOf r < 2048 → x < 2 ^ 32
   past-low e h = omega (arith, ap placeOf e)
 
@@ -289,23 +322,18 @@ module _ (r : WalkEnd) (x : ℕ) where
     pub leaves-at : r ≡ At x → w₁ ≡ leaves m w i r
     leaves-at e = rw (e, e₁)
 
+    pub leaves-gone : r ≡ Gone x → w₁ ≡ leaves m w i r
+    leaves-gone e = rw (e, e₁)
+
     pub leaves-past : (w₂ : List ℕ) → r ≡ Past x → w₂ ≡ put (rc MARK) w₁ i m → w₂ ≡ leaves m w i r
     leaves-past w₂ e e₂ = rw (e, e₂, e₁)
 
-module _ (w w′ : List ℕ) (i : ℕ) (r : WalkEnd) where
-  pub removed : GlidesTo triangle w i r → w′ ≡ leaves 2 w i r → Glides i w w′ true
-  removed W e = subst (λ (v : List ℕ). Glides i w v true) (sym e) (subst (Glides i w (leaves 2 w i r)) (on r) (W .glides))
-    where
-      on : (r : WalkEnd) → unfinishedAt triangle r ≡ true
-      on (At x) = refl
-      on (Past x) = refl
+pub gone-comes : (c : Coming) (r : WalkEnd) (x : ℕ) → r ≡ Gone x → Drop x ≡ comingBy c r
+gone-comes c r x e = rw e
 
-  pub split-up : (b : Bool) → GlidesTo done w i r → w′ ≡ leaves 4 w i r → b ≡ stillIn r → Glides i w w′ b
-  split-up b W e f = subst (λ (v : List ℕ). Glides i w v b) (sym e) (subst (Glides i w (leaves 4 w i r)) (on r ∙ sym f) (W .glides))
-    where
-      on : (r : WalkEnd) → unfinishedAt done r ≡ stillIn r
-      on (At x) = refl
-      on (Past x) = refl
+-- the walk's end written, and what comes next
+pub walked : (e : Due) (w w′ : List ℕ) (i : ℕ) (r : WalkEnd) (c : Coming) → GlidesTo e w i r → w′ ≡ leaves (markOf e) w i r → c ≡ comingBy (comingIf (not (isDone e))) r → Glides i w w′ c
+walked e w w′ i r c W q k = rw (q, k) (W .glides)
 
-pub not-going : (w : List ℕ) (i : ℕ) (b : Bool) → SoundWords w → b ≡ live (view w) i → b ≡ false → Glides i w w false
-not-going w i b s e h = record { glided = still; sound = s; is = sym h ∙ e }
+pub not-going : (w : List ℕ) (i : ℕ) (b : Bool) → SoundWords w → b ≡ live (view w) i → b ≡ false → Glides i w w Nothing
+not-going w i b s e h = record { glided = still; sound = s; expects = sym h ∙ e }

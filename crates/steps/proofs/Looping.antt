@@ -27,6 +27,7 @@ use Rattle.acts.proofs.Stepping.{length-step}
 use Rattle.acts.proofs.Finishing.{settings-kept, finishes-step, words-fall, words-bound, finishes-record, settings-record, length-record}
 use Rattle.turns.specs.Form.{raised, geometryOf}
 use Rattle.turns.proofs.Ready.{laws}
+use Rattle.steps.specs.declared.coming.Coming.{Coming}
 use Rattle.steps.specs.Code.{isFull}
 use Rattle.steps.specs.Glide.{Glided, still, onward, Glides}
 
@@ -111,7 +112,7 @@ glide-falls : (w₀ : List ℕ) (i : ℕ) (w u : List ℕ) → Running w₀ i w 
 glide-falls w₀ i w u R still = omega arith
 glide-falls w₀ i w u R (onward t v g e) = omega (arith, glide-falls w₀ i w t R g, fallen w₀ i t (glide-running w₀ i w t R g) v ok e false refl refl)
 
-module _ (w₀ : List ℕ) (i : ℕ) (w : List ℕ) (R : Running w₀ i w) (u : List ℕ) (l : Bool) (g : Glides i w u l) (w′ : List ℕ) (a : Answer) (e : outcome a w′ ≡ stepWords (geometryOf (view u)) raised u i) (b : Bool) (eb : b ≡ not (isOk a)) where
+module _ (w₀ : List ℕ) (i : ℕ) (w : List ℕ) (R : Running w₀ i w) (u : List ℕ) (l : Coming) (g : Glides i w u l) (w′ : List ℕ) (a : Answer) (e : outcome a w′ ≡ stepWords (geometryOf (view u)) raised u i) (b : Bool) (eb : b ≡ not (isOk a)) where
   there : Running w₀ i u
   there = glide-running w₀ i w u R (g .glided)
 

@@ -6,7 +6,7 @@ use mathlib.Core.Bool.{Bool, true, false, not, _&&_}
 use mathlib.Core.List.{List}
 use native.Mathlib.Omega.{arith}
 use lib.Dec.{eqb, ltb, leb}
-use borrow.Author.Tests.{eq-eqb, ne-eqb, lt-ltb, le-ltb, leb-true}
+use borrow.Author.Tests.{eq-eqb, ne-eqb, lt-ltb, le-ltb, le-leb, leb-true}
 use Rattle.rings.specs.Progress.{Due, isDone}
 use Rattle.geometry.specs.declared.Point.{Point}
 use Rattle.lone.specs.Act.{Act, cut, takesPoints}
@@ -14,7 +14,7 @@ use Rattle.lone.specs.Forest.{ok, full, outOfTurn}
 use Rattle.store.specs.Field.{rc, ct, FLAGS, FIRST, MARK, POINTS, RECORDS}
 use Rattle.store.specs.Words.{Store, view, cell}
 use Rattle.store.specs.Sound.{pts, recs, dueOf, dueAt}
-use Rattle.store.specs.Good.{SoundWords}
+use Rattle.store.specs.Good.{Sound, SoundWords}
 use Rattle.store.specs.Value.{preserveCollinear}
 use Rattle.acts.specs.Apply.{takesRecord, afterW}
 use Rattle.acts.specs.Step.{outcome, fits, live, actAt, answerS, stepW}
@@ -56,6 +56,10 @@ pub room-is : (w : List ℕ) (p r a b : ℕ) (act : Act Point) → p ≡ cell (c
 room-is w p r a b act ep er ea eb = rw (ep, er, ea, eb)
 
 -- ---- a step that has room applies
+
+-- an act that takes no place has room
+pub roomy : (s : Store) → Sound s → (act : Act Point) → takesPoints act ≡ 0 → takesRecord act ≡ 0 → true ≡ fits s act
+roomy s o act p r = rw (p, r) (rw (le-leb (pts s + 0) 2048 (omega (arith, o .few-points)), le-leb (recs s + 0) 512 (omega (arith, o .few-records))))
 
 new-in : (s : Store) (i : ℕ) (act : Act Point) → Ready raised s i act → NewIn act
 new-in s i act (to-discard y) = tt

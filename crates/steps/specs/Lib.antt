@@ -1,5 +1,6 @@
 -- What the code of a step is about: its answers by the names of the definitions, and what its functions require.
 pub mod Code
+pub mod Expects
 pub mod Glide
 pub mod Applies
 pub mod Live

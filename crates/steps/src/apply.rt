@@ -90,7 +90,7 @@ fn reason_number(y: Discard) -> usize
 }
 
 // The record is emptied, the ring is done, and the rule that said so is kept.
-fn discard_ring(w: &mut [u32], i: usize, y: Discard)
+pub fn discard_ring(w: &mut [u32], i: usize, y: Discard)
     requires { ⌜ Reach (now w) i ⌝ }
     ensures { λ _. ⌜ now (w .exit) ≡ onWords (now (w .entry)) (discardWrites i (discardIs y)) ⌝ }
 {
@@ -114,7 +114,7 @@ fn fix_first(w: &mut [u32], i: usize, x: usize, p: usize)
 }
 
 // The present point goes out.
-fn drop_point(w: &mut [u32], i: usize)
+pub fn drop_point(w: &mut [u32], i: usize)
     requires { ⌜ Reach (now w) i ⌝ }
     ensures { λ _. ⌜ now (w .exit) ≡ onWords (now (w .entry)) (dropWrites (view (now (w .entry))) i) ⌝ }
 {

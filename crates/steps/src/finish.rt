@@ -1,8 +1,8 @@
 // Finishing: one record, or all in rising order, stepped until done; it ends where a step is full.
 use crate::Answer;
 use crate::RingsEnd;
+use crate::coming::step_coming;
 use crate::glide::glide;
-use crate::step::step_if;
 use job::Job;
 use store::Col;
 use store::get;
@@ -42,8 +42,8 @@ pub fn finish_record(w: &mut [u32], i: usize) -> Answer
     ensures { λ r. ⌜ outcome (answerIs r) (now (w .exit)) ≡ finishRecord (geometryOf (view (now (w .entry)))) raised (now (w .entry)) i ⌝ }
 {
     loop {
-        let live = glide(w, i);
-        let a = step_if(w, i, live);
+        let c = glide(w, i);
+        let a = step_coming(w, i, c);
         let refused = is_refused(a);
         if refused {
             return a;

@@ -1,4 +1,5 @@
 // Turns of the removal and of the split loop that only move on, many at once: a loop walks by reading, and the present place is written once. As many steps leave the same words.
+use crate::coming::Coming;
 use crate::step::is_live;
 use job::Job;
 use store::Col;
@@ -25,11 +26,12 @@ ghost use Rattle.store.specs.Good.{SoundWords};
 ghost use Rattle.turns.specs.Form.{raised, geometryOf};
 ghost use Rattle.turns.specs.Reads.{Three, Steps};
 ghost use Rattle.turns.specs.Decide.{removeAt};
-ghost use Rattle.steps.specs.Glide.{Glides, DueAt, leaves, placeOf, stillIn, GlidesTo};
+ghost use Rattle.steps.specs.Glide.{Glides, DueAt, leaves, placeOf, comingBy, GlidesTo};
 
-// How a loop's walk ended: at a point where more is due than moving on, or past the loop's end, at the point that its last turn moved on to.
+// How a loop's walk ended: at a point where a step is to be decided, at one that the removal loop drops, or past the loop's end, at the point that its last turn moved on to.
 pub enum WalkEnd {
     At(usize),
+    Gone(usize),
     Past(usize),
 }
 
@@ -61,7 +63,7 @@ fn removal_walk(w: &[u32], i: usize) -> WalkEnd
         let n = next_of(w, x);
         let gone = gone_at(w, p, x, n);
         if gone {
-            return WalkEnd::At(x);
+            return WalkEnd::Gone(x);
         }
         if n == s {
             return WalkEnd::Past(n);
@@ -122,6 +124,10 @@ fn put_end(w: &mut [u32], i: usize, r: WalkEnd, m: usize)
             set(w, Col::Present, i, x);
             return;
         }
+        WalkEnd::Gone(x) => {
+            set(w, Col::Present, i, x);
+            return;
+        }
         WalkEnd::Past(x) => {
             set(w, Col::Present, i, x);
             set(w, Col::Mark, i, m);
@@ -130,63 +136,64 @@ fn put_end(w: &mut [u32], i: usize, r: WalkEnd, m: usize)
     }
 }
 
-// Whether a walk is still in its loop.
-fn still_in(r: WalkEnd) -> bool
-    ensures { λ b. ⌜ b ≡ stillIn r ⌝ }
+// What comes next after a walk; past the loop's end, what is handed in.
+fn coming_by(past: Coming, r: WalkEnd) -> Coming
+    ensures { λ c. ⌜ c ≡ comingBy past r ⌝ }
 {
     match r {
-        WalkEnd::At(_) => true,
-        WalkEnd::Past(_) => false,
+        WalkEnd::At(_) => Coming::Step,
+        WalkEnd::Gone(x) => Coming::Drop(x),
+        WalkEnd::Past(_) => past,
     }
 }
 
 // The removal loop's turns at once.
-fn glide_removal(w: &mut [u32], i: usize) -> bool
+fn glide_removal(w: &mut [u32], i: usize) -> Coming
     requires { ⌜ DueAt removal (now w) i ⌝ }
     ensures { λ r. ⌜ Glides i (now (w .entry)) (now (w .exit)) r ⌝ }
 {
     let r = removal_walk(w, i);
     put_end(w, i, r, 2);
-    true
+    coming_by(Coming::Step, r)
 }
 
 // The split loop's turns at once.
-fn glide_split(w: &mut [u32], i: usize) -> bool
+fn glide_split(w: &mut [u32], i: usize) -> Coming
     requires { ⌜ DueAt split (now w) i ⌝ }
     ensures { λ r. ⌜ Glides i (now (w .entry)) (now (w .exit)) r ⌝ }
 {
     let r = split_walk(w, i);
     put_end(w, i, r, 4);
-    still_in(r)
+    coming_by(Coming::Nothing, r)
 }
 
 // The same for an unfinished ring in either loop; any other stays.
-fn glide_ring(w: &mut [u32], i: usize) -> bool
+fn glide_ring(w: &mut [u32], i: usize) -> Coming
     requires { ⌜ Steps (now w) i ⌝ }
     ensures { λ r. ⌜ Glides i (now (w .entry)) (now (w .exit)) r ⌝ }
 {
     let d = due_at(w, i);
     match d {
         Due::Validity => {
-            return true;
+            return Coming::Step;
         }
         Due::Removal => {
             return glide_removal(w, i);
         }
         Due::Triangle => {
-            return true;
+            return Coming::Step;
         }
         Due::Split => {
             return glide_split(w, i);
         }
         Due::Done => {
-            return true;
+            return Coming::Step;
         }
     }
 }
 
-// Steps on record i that only move on, none or many. Answers whether it is an unfinished closed ring then.
-pub fn glide(w: &mut [u32], i: usize) -> bool
+// Steps on record i that only move on, none or many. Answers what comes next then.
+pub fn glide(w: &mut [u32], i: usize) -> Coming
     requires { ⌜ SoundWords (now w) ⌝ }
     ensures { λ r. ⌜ Glides i (now (w .entry)) (now (w .exit)) r ⌝ }
 {
@@ -194,5 +201,5 @@ pub fn glide(w: &mut [u32], i: usize) -> bool
     if live {
         return glide_ring(w, i);
     }
-    false
+    Coming::Nothing
 }

@@ -14,6 +14,7 @@ pub enum RingsEnd {
 }
 
 pub mod apply;
+pub mod coming;
 pub mod finish;
 pub mod glide;
 pub mod step;

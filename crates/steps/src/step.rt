@@ -133,22 +133,14 @@ pub fn any_live(w: &[u32]) -> bool
     false
 }
 
-// A step on a record number, once it is known whether it is an unfinished closed ring.
-pub fn step_if(w: &mut [u32], i: usize, unfinished: bool) -> Answer
-    requires { ⌜ SoundWords (now w) × (unfinished ≡ live (view (now w)) i) ⌝ }
-    ensures { λ r. ⌜ outcome (answerIs r) (now (w .exit)) ≡ stepWords (geometryOf (view (now (w .entry)))) raised (now (w .entry)) i ⌝ }
-{
-    if unfinished {
-        return step_ring(w, i);
-    }
-    Answer::OutOfTurn
-}
-
 // A step on any record number.
 pub fn step_record(w: &mut [u32], i: usize) -> Answer
     requires { ⌜ SoundWords (now w) ⌝ }
     ensures { λ r. ⌜ outcome (answerIs r) (now (w .exit)) ≡ stepWords (geometryOf (view (now (w .entry)))) raised (now (w .entry)) i ⌝ }
 {
     let live = is_live(w, i);
-    step_if(w, i, live)
+    if live {
+        return step_ring(w, i);
+    }
+    Answer::OutOfTurn
 }

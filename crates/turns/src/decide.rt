@@ -98,7 +98,7 @@ fn small_at(w: &[u32], a: usize, b: usize, c: usize) -> bool
 }
 
 // Whether the ring without x is valid.
-fn valid_without(w: &[u32], x: usize) -> bool
+pub fn valid_without(w: &[u32], x: usize) -> bool
     requires { ⌜ OnRing (now w) x ⌝ }
     ensures { λ r. ⌜ r ≡ validWithout (raised .of) (geometryOf (view (now (w .entry)))) (view (now (w .entry))) x ⌝ }
 {

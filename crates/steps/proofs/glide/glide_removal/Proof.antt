@@ -1,6 +1,6 @@
 -- `glide_removal` meets its contract.
 use borrow.Author.Needs.{needs}
-use Rattle.steps.proofs.Gliding.{due-going, removed}
+use Rattle.steps.proofs.Gliding.{due-going, walked}
 use Rattle.steps.proofs.glide.glide_removal.Statement.{statement}
 use Rattle.steps.proofs.glide.glide_removal.Tie as tie
 
@@ -10,5 +10,6 @@ glide-removal-spec =
     (tie.spec
     (λ c κs. search needs)
     (λ c κs. search (due-going, needs))
+    (λ c κs. search needs)
     (λ c. search needs)
-    (λ c. search removed))
+    (λ c. search walked))

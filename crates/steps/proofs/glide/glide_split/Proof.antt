@@ -1,6 +1,6 @@
 -- `glide_split` meets its contract.
 use borrow.Author.Needs.{needs}
-use Rattle.steps.proofs.Gliding.{due-going, split-up}
+use Rattle.steps.proofs.Gliding.{due-going, walked}
 use Rattle.steps.proofs.glide.glide_split.Statement.{statement}
 use Rattle.steps.proofs.glide.glide_split.Tie as tie
 
@@ -12,4 +12,4 @@ glide-split-spec =
     (λ c κs. search (due-going, needs))
     (λ c κs. search needs)
     (λ c. search needs)
-    (λ c. search split-up))
+    (λ c. search walked))

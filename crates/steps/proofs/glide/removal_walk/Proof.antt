@@ -1,7 +1,7 @@
 -- `removal_walk` meets its contract: each turn is a step that moves on.
 use borrow.Author.Needs.{needs}
 use Rattle.rings.specs.Progress.{removal}
-use Rattle.steps.proofs.Gliding.{GlidingAt, due-going, begun, x-on, about, removal-stops, removal-ends, removal-on}
+use Rattle.steps.proofs.Gliding.{GlidingAt, due-going, begun, x-on, about, removal-stops, removal-drops, removal-ends, removal-on}
 use Rattle.steps.proofs.glide.removal_walk.Statement.{statement}
 use Rattle.steps.proofs.glide.removal_walk.Tie as tie
 
@@ -23,7 +23,7 @@ removal-walk-spec =
     (λ c. search begun)
     (λ c κs. search (x-on, needs))
     (λ c κs. search (about, needs))
-    (λ c. search removal-stops)
+    (λ c. search removal-drops)
     (λ c. search removal-ends)
     (λ c. search needs)
     (λ c. search needs)
