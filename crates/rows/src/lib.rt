@@ -4,7 +4,7 @@ mod resolving;
 mod tables;
 mod visits;
 
-use crate::tables::UNKNOWN;
+use crate::tables::BLANK;
 use audit::PointTest;
 use audit::RecordTest;
 use audit::Verdict;
@@ -84,7 +84,7 @@ fn no_such_number(w: &[u32], segments: &[u32], m: usize, joins: &[u32], n: usize
 }
 
 // Whether the point is on an open ring: its ring's record is the one it resolves to.
-fn on_open(w: &[u32], homes: &[usize], k: usize) -> bool
+fn on_open(w: &[u32], homes: &[u32], k: usize) -> bool
     requires { ⌜ (LENGTH ≤ length (now w)) × Homes (now w) (now homes) ⌝ }
     ensures { λ r. ⌜ r ≡ isOpen (view (now (w .entry))) (homeOf (now (w .entry)) k) ⌝ }
 {
@@ -95,7 +95,7 @@ fn on_open(w: &[u32], homes: &[usize], k: usize) -> bool
 }
 
 // Whether one of the first n points of a list is on an open ring.
-fn any_open(w: &[u32], homes: &[usize], list: &[u32], n: usize) -> bool
+fn any_open(w: &[u32], homes: &[u32], list: &[u32], n: usize) -> bool
     requires { ⌜ Named (now w) (now list) n × Homes (now w) (now homes) ⌝ }
     ensures { λ r. ⌜ r ≡ anyBelow n (λ i. onOpen (now (w .entry)) (getD (now (list .entry)) i 0)) ⌝ }
 {
@@ -112,7 +112,7 @@ fn any_open(w: &[u32], homes: &[usize], list: &[u32], n: usize) -> bool
 }
 
 // Row 7, and the table of homes.
-fn muddled(w: &[u32], homes: &mut [usize]) -> bool
+fn muddled(w: &[u32], homes: &mut [u32]) -> bool
     requires { ⌜ Counted (now w) × (now homes ≡ replicate RECORDS UNKNOWN) ⌝ }
     ensures { λ r. ⌜ (r ≡ muddled (now (w .entry))) × Homes (now (w .entry)) (now (homes .exit)) ⌝ }
 {
@@ -124,14 +124,7 @@ fn muddled(w: &[u32], homes: &mut [usize]) -> bool
 }
 
 // Row 8.
-fn open_edge(
-    w: &[u32],
-    homes: &[usize],
-    segments: &[u32],
-    m: usize,
-    joins: &[u32],
-    n: usize,
-) -> bool
+fn open_edge(w: &[u32], homes: &[u32], segments: &[u32], m: usize, joins: &[u32], n: usize) -> bool
     requires { ⌜ Named (now w) (now segments) m × Named (now w) (now joins) (2 * n) × Homes (now w) (now homes) ⌝ }
     ensures { λ r. ⌜ r ≡ openEdge (now (w .entry)) (now (segments .entry)) m (now (joins .entry)) n ⌝ }
 {
@@ -157,7 +150,7 @@ pub fn first_rows(w: &[u32], segments: &[u32], m: usize, joins: &[u32], n: usize
 // Rows 7 and 8, once it is known whether row 7 holds.
 fn last_rows(
     w: &[u32],
-    homes: &[usize],
+    homes: &[u32],
     found: bool,
     segments: &[u32],
     m: usize,
@@ -181,7 +174,7 @@ fn by_table(w: &[u32], segments: &[u32], m: usize, joins: &[u32], n: usize) -> V
     requires { ⌜ Filled (now w) (now segments) m (now joins) n × (firstRows (now w) (now segments) m (now joins) n ≡ Passed) ⌝ }
     ensures { λ r. ⌜ r ≡ lastRows (now (w .entry)) (now (segments .entry)) m (now (joins .entry)) n ⌝ }
 {
-    let mut homes = [UNKNOWN; Job::RECORDS];
+    let mut homes = [BLANK; Job::RECORDS];
     let found = muddled(w, &mut homes);
     last_rows(w, &homes, found, segments, m, joins, n)
 }
@@ -191,7 +184,7 @@ fn plainly(w: &[u32], segments: &[u32], m: usize, joins: &[u32], n: usize) -> Ve
     requires { ⌜ Filled (now w) (now segments) m (now joins) n × (firstRows (now w) (now segments) m (now joins) n ≡ Passed) × (anyBelow (recordsOf (now w)) (chained (now w)) ≡ false) ⌝ }
     ensures { λ r. ⌜ r ≡ lastRows (now (w .entry)) (now (segments .entry)) m (now (joins .entry)) n ⌝ }
 {
-    let homes = [UNKNOWN; 1];
+    let homes = [BLANK; 1];
     let found = visits::any_stray(w, &homes);
     last_rows(w, &homes, found, segments, m, joins, n)
 }

@@ -1,4 +1,5 @@
 // Owner chains, before they are known to end: does one circle? Each is followed only as far as nothing is known of it, so that all take linear time; and not at all where every owner is before its record.
+use crate::tables::BLANK;
 use crate::tables::UNKNOWN;
 use crate::tables::at;
 use crate::tables::put;
@@ -18,7 +19,7 @@ ghost use Rattle.rows.specs.Owners.{chained, circles};
 ghost use Rattle.rows.specs.Tables.{Long, Lengths, Followed};
 
 // How long the owner chain from record i is, followed up to a record whose length is known; more than there may be records, if it circles.
-fn follow(w: &[u32], lengths: &[usize], i: usize) -> usize
+fn follow(w: &[u32], lengths: &[u32], i: usize) -> usize
     requires { ⌜ (LENGTH ≤ length (now w)) × Lengths (now w) (now lengths) ⌝ }
     ensures { λ n. ⌜ Followed (now (w .entry)) i n ⌝ }
 {
@@ -39,7 +40,7 @@ fn follow(w: &[u32], lengths: &[usize], i: usize) -> usize
 }
 
 // Writes down the lengths along the chain from record i, whose own is n, up to a record whose length is known.
-fn note(w: &[u32], lengths: &mut [usize], i: usize, n: usize)
+fn note(w: &[u32], lengths: &mut [u32], i: usize, n: usize)
     requires { ⌜ (LENGTH ≤ length (now w)) × Lengths (now w) (now lengths) × Long (now w) i n × (n ≤ RECORDS) ⌝ }
     ensures { λ _. ⌜ Lengths (now (w .entry)) (now (lengths .exit)) ⌝ }
 {
@@ -62,7 +63,7 @@ pub fn any_circle(w: &[u32]) -> bool
     ensures { λ r. ⌜ r ≡ anyBelow (recordsOf (now (w .entry))) (circles (now (w .entry))) ⌝ }
 {
     let n = get(w, Col::Records, 0);
-    let mut lengths = [UNKNOWN; Job::RECORDS];
+    let mut lengths = [BLANK; Job::RECORDS];
     let mut i: usize = 0;
     while i < n {
         let m = follow(w, &lengths, i);

@@ -9,7 +9,7 @@ use store::get;
 use store::read;
 ghost use mathlib.Core.Path.{_≡_};
 ghost use mathlib.Core.Bool.{false};
-ghost use Prim.Native.Nat.{_≤_};
+ghost use Prim.Native.Nat.{_<_, _≤_, _^_};
 ghost use lib.ListN.{length, replicate};
 ghost use Rattle.job.specs.Limits.{RECORDS};
 ghost use Rattle.store.specs.Field.{LENGTH};
@@ -20,9 +20,9 @@ ghost use Rattle.joins.specs.Resolve.{getRealOutrec};
 ghost use Rattle.rows.specs.Tables.{UNKNOWN, Homes, Noted, Found};
 
 // The first with points among r and its owners, or none; followed up to a record that is known.
-fn reach(w: &[u32], homes: &[usize], r: usize) -> usize
-    requires { ⌜ (LENGTH ≤ length (now w)) × Homes (now w) (now homes) × (circles (now w) r ≡ false) ⌝ }
-    ensures { λ q. ⌜ q ≡ getRealOutrec (now (w .entry)) r ⌝ }
+fn reach(w: &[u32], homes: &[u32], r: usize) -> usize
+    requires { ⌜ (LENGTH ≤ length (now w)) × Homes (now w) (now homes) × (circles (now w) r ≡ false) × (r < 2 ^ 32) ⌝ }
+    ensures { λ q. ⌜ (q ≡ getRealOutrec (now (w .entry)) r) × (q < 2 ^ 32) ⌝ }
 {
     let mut q = r;
     let mut left: usize = Job::RECORDS;
@@ -45,8 +45,8 @@ fn reach(w: &[u32], homes: &[usize], r: usize) -> usize
 }
 
 // Writes down h, what record r resolves to, along its chain, up to a record that is known or has points.
-fn note(w: &[u32], homes: &mut [usize], r: usize, h: usize)
-    requires { ⌜ (LENGTH ≤ length (now w)) × Homes (now w) (now homes) × (circles (now w) r ≡ false) × (h ≡ getRealOutrec (now w) r) ⌝ }
+fn note(w: &[u32], homes: &mut [u32], r: usize, h: usize)
+    requires { ⌜ (LENGTH ≤ length (now w)) × Homes (now w) (now homes) × (circles (now w) r ≡ false) × (h ≡ getRealOutrec (now w) r) × (h < 2 ^ 32) ⌝ }
     ensures { λ _. ⌜ Noted (now (w .entry)) (now (homes .entry)) r (now (homes .exit)) ⌝ }
 {
     let mut q = r;
@@ -70,7 +70,7 @@ fn note(w: &[u32], homes: &mut [usize], r: usize, h: usize)
 }
 
 // The table of a job whose owner chains end.
-pub fn find_all(w: &[u32], homes: &mut [usize])
+pub fn find_all(w: &[u32], homes: &mut [u32])
     requires { ⌜ (LENGTH ≤ length (now w)) × (recordsOf (now w) ≤ RECORDS) × (now homes ≡ replicate RECORDS UNKNOWN) × (anyBelow (recordsOf (now w)) (circles (now w)) ≡ false) ⌝ }
     ensures { λ _. ⌜ Found (now (w .entry)) (now (homes .exit)) (recordsOf (now (w .entry))) ⌝ }
 {
@@ -105,7 +105,7 @@ fn walk(w: &[u32], r: usize) -> usize
 }
 
 // The same by the table; only a number that names no record is not in it.
-pub fn find(w: &[u32], homes: &[usize], r: usize) -> usize
+pub fn find(w: &[u32], homes: &[u32], r: usize) -> usize
     requires { ⌜ (LENGTH ≤ length (now w)) × Homes (now w) (now homes) ⌝ }
     ensures { λ q. ⌜ q ≡ getRealOutrec (now (w .entry)) r ⌝ }
 {

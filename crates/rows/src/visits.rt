@@ -32,7 +32,7 @@ fn is_own(w: &[u32], i: usize, r: usize) -> bool
 }
 
 // Whether point k resolves to another record than i.
-fn elsewhere(w: &[u32], homes: &[usize], i: usize, k: usize) -> bool
+fn elsewhere(w: &[u32], homes: &[u32], i: usize, k: usize) -> bool
     requires { ⌜ (LENGTH ≤ length (now w)) × Homes (now w) (now homes) ⌝ }
     ensures { λ r. ⌜ r ≡ elsewhere (now (w .entry)) i k ⌝ }
 {
@@ -86,7 +86,7 @@ struct Stretch {
 }
 
 // The stretch of a ring in the word, from the place c on.
-fn walk_word(w: &[u32], homes: &[usize], c: Place, word: usize) -> Stretch
+fn walk_word(w: &[u32], homes: &[u32], c: Place, word: usize) -> Stretch
     requires { ⌜ (LENGTH ≤ length (now w)) × Homes (now w) (now homes) ⌝ }
     ensures { λ r. ⌜ Stretched (now (w .entry)) (c .ring) (c .first) (c .point) (c .left) word (r .found) (r .back) (r .bits) (r .point) (r .left) ⌝ }
 {
@@ -144,7 +144,7 @@ pub struct Gathered {
 }
 
 // The bits of the points that lie in the word of the next one, ring after ring: up to a point in another word, one that resolves elsewhere, or the last of the n rings' end.
-fn gather(w: &[u32], homes: &[usize], n: usize, from: Place) -> Gathered
+fn gather(w: &[u32], homes: &[u32], n: usize, from: Place) -> Gathered
     requires { ⌜ (LENGTH ≤ length (now w)) × Homes (now w) (now homes) × (n ≡ recordsOf (now w)) ⌝ }
     ensures { λ r. ⌜ Gathers (now (w .entry)) from r ⌝ }
 {
@@ -197,7 +197,7 @@ pub fn any_bare(w: &[u32], marks: Marks) -> bool
 }
 
 // Whether a point resolves to another record than its ring's, or has no mark after the walks round all rings. The marks are handed on once for the points gathered in a word.
-pub fn any_stray(w: &[u32], homes: &[usize]) -> bool
+pub fn any_stray(w: &[u32], homes: &[u32]) -> bool
     requires { ⌜ Counted (now w) × Homes (now w) (now homes) ⌝ }
     ensures { λ r. ⌜ r ≡ (anyBelow (recordsOf (now (w .entry))) (estranged (now (w .entry))) || anyBelow (pointsOf (now (w .entry))) (alone (now (w .entry)))) ⌝ }
 {

@@ -1,4 +1,5 @@
 -- `rows::tables::at` meets its contract: of a number past the table nothing is known.
+use native.Mathlib.Omega.{arith}
 use borrow.Author.Needs.{needs}
 use Rattle.rows.proofs.Tabling.{entry-in, entry-out}
 use Rattle.rows.proofs.tables.at.Statement.{statement}
@@ -10,5 +11,6 @@ at-spec =
     (tie.spec
     (λ c. search needs)
     (λ c. search needs)
-    (λ c. search (needs, entry-in))
+    (λ c. omega (arith, c .shared-slice-known .given (c .before .before .args .r)))
+    (λ c. search (needs, entry-in, c .shared-slice-known .given (c .before .before .args .r)))
     (λ c. search (needs, entry-out)))

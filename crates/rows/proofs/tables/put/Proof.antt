@@ -13,4 +13,5 @@ put-spec =
     (λ c. search needs)
     (λ c. search needs)
     (λ c. search needs)
+    (λ c. search needs)
     (λ c. sym (set-out (c .before .args .t .now) (c .before .args .r) (c .before .args .n) (search needs))))
