@@ -2,35 +2,34 @@
 use mathlib.Core.Path.{_≡_, refl, sym, _∙_}
 use mathlib.Core.Bool.{Bool, true, false, cond, _||_}
 use mathlib.Core.List.{List}
-use Prim.Native.Nat.{ℕ, _*_, _≤_}
+use Prim.Native.Nat.{ℕ, _*_, _<_, _≤_}
 use native.Mathlib.Omega.{arith}
 use Rattle.job.specs.declared.refusal.Refusal.{Refusal}
 use Rattle.job.specs.declared.refusal.Refusal.the-variants.{OffTheTable, NoSuch, Loose, Muddled, OpenEdge}
 use Rattle.job.specs.Limits.{RECORDS}
 use Rattle.store.specs.Named.{pointsOf, recordsOf}
-use Rattle.audit.specs.Tests.{anyBelow, noSuch, noSuchOf}
+use Rattle.audit.specs.Tests.{anyBelow, offTable, noSuch, noSuchOf, loose}
 use Rattle.audit.specs.declared.Verdict.{Verdict}
 use Rattle.audit.specs.declared.Verdict.the-variants.{Passed, Refused}
+use Rattle.audit.proofs.Saying.{none-of, all-none}
 use Rattle.rows.specs.Owners.{chained, circles}
 use Rattle.rows.specs.Rings.{alone, estranged}
 use Rattle.rows.specs.Rows.{offTheTable, unnamed, noSuchNumber, looseLink, muddled, openEdge, rowsOf}
-use Rattle.rows.specs.Found.{firstRows, lastRows, Filled, Named}
+use Rattle.rows.specs.Found.{firstRows, lastRows, faultyPoint, noSuchBeside, Filled, Named}
 use Rattle.rows.proofs.Chains.{none-chained}
 use Rattle.rows.proofs.Homes.{or-left, or-right}
+
+-- a loop that finds none
+pub none-found : (n : ℕ) (q : ℕ → Bool) (r : Bool) → r ≡ anyBelow n q → r ≡ false → anyBelow n q ≡ false
+none-found n q r a h = sym a ∙ h
 
 -- row 7
 module _ (w : List ℕ) (r : Bool) (a : r ≡ anyBelow (recordsOf w) (circles w)) where
   pub circle-found : r ≡ true → true ≡ muddled w
   circle-found h = rw (← a, h)
 
-  pub none-circles : r ≡ false → anyBelow (recordsOf w) (circles w) ≡ false
-  none-circles h = sym a ∙ h
-
   pub stray-found : (b : Bool) → r ≡ false → b ≡ (anyBelow (recordsOf w) (estranged w) || anyBelow (pointsOf w) (alone w)) → b ≡ muddled w
   stray-found b h d = rw (← a, h) d
-
-pub is-plain : (w : List ℕ) (r : Bool) → r ≡ anyBelow (recordsOf w) (chained w) → r ≡ false → anyBelow (recordsOf w) (chained w) ≡ false
-is-plain w r a h = sym a ∙ h
 
 pub plain-found : (w : List ℕ) (b : Bool) → recordsOf w ≤ RECORDS → anyBelow (recordsOf w) (chained w) ≡ false → b ≡ (anyBelow (recordsOf w) (estranged w) || anyBelow (pointsOf w) (alone w)) → b ≡ muddled w
 plain-found w b l h d = rw (none-chained w l h) d
@@ -92,9 +91,33 @@ first-refused w ss m js n x e =
     by false true v e = sym e
     by false false v e = absurd (let z : _≡_ {A = ℕ} 0 1 = cc in omega arith)
 
+-- rows 4 to 6, of a job with no point that fails what they ask of it
+module _ (w ss : List ℕ) (m : ℕ) (js : List ℕ) (n : ℕ) (h : anyBelow (pointsOf w) (faultyPoint w) ≡ false) where
+  fine : (k : ℕ) → k < pointsOf w → (offTable w k ≡ false) × (noSuch w k ≡ false) × (loose w k ≡ false)
+  fine k l =
+      let f = none-of (pointsOf w) (faultyPoint w) h k l in
+      let g = or-right (offTable w k) (noSuch w k || loose w k) f in
+      (or-left (offTable w k) (noSuch w k || loose w k) f, or-left (noSuch w k) (loose w k) g, or-right (noSuch w k) (loose w k) g)
+
+  no-4 : offTheTable w ≡ false
+  no-4 = all-none (pointsOf w) (offTable w) (λ k l. fine k l .0)
+
+  module _ (b : Bool) (q : b ≡ noSuchBeside w ss m js n) where
+    is-5 : b ≡ noSuchNumber w ss m js n
+    is-5 = rw (all-none (pointsOf w) (noSuch w) (λ k l. fine k l .1)) q
+
+    pub beside-refused : b ≡ true → Refused NoSuch ≡ rowsOf w ss m js n
+    beside-refused i = first-refused w ss m js n NoSuch (sym (row-5 w ss m js n false (sym no-4) refl b is-5 i))
+
+    pub beside-passed : b ≡ false → firstRows w ss m js n ≡ Passed
+    beside-passed i = sym (first-passed w ss m js n false (sym no-4) refl b is-5 i)
+
+    pub no-6 : (v : Verdict) → b ≡ false → v ≡ lastRows w ss m js n → v ≡ rowsOf w ss m js n
+    no-6 v i e = last-is w ss m js n (beside-passed i) false (sym (all-none (pointsOf w) (loose w) (λ k l. fine k l .2))) v refl e
+
 -- after rows 4, 5 and 7 the lists name points, each on one ring
 pub both-named : {w ss : List ℕ} {m : ℕ} {js : List ℕ} {n : ℕ} → Filled w ss m js n → firstRows w ss m js n ≡ Passed → (d : Bool) → d ≡ muddled w → d ≡ false → Named w ss m × Named w js (2 * n)
 both-named {w} {ss} {m} {js} {n} g f d s k =
-    let x = or-right (anyBelow (pointsOf w) (noSuch w)) (anyBelow (recordsOf w) (noSuchOf w) || (unnamed w ss m || unnamed w js (2 * n))) (numbered w ss m js n f) in
+    let x = or-right (anyBelow (pointsOf w) (noSuch w)) (noSuchBeside w ss m js n) (numbered w ss m js n f) in
     let y = or-right (anyBelow (recordsOf w) (noSuchOf w)) (unnamed w ss m || unnamed w js (2 * n)) x in
     (record { long = g .long; clear = sym s ∙ k; fits = g .segments; named = or-left (unnamed w ss m) (unnamed w js (2 * n)) y }, record { long = g .long; clear = sym s ∙ k; fits = g .joins; named = or-right (unnamed w ss m) (unnamed w js (2 * n)) y })

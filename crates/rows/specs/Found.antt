@@ -1,13 +1,14 @@
 -- What rows 4 to 8 have found out of a job that passes them.
 use Prim.Native.Nat.{ℕ, _*_, _≤_}
 use mathlib.Core.Path.{_≡_}
-use mathlib.Core.Bool.{false, cond}
+use mathlib.Core.Bool.{Bool, false, cond, _||_}
 use mathlib.Core.List.{List}
 use lib.ListN.{length}
 use Rattle.job.specs.Limits.{POINTS, RECORDS}
 use Rattle.job.specs.declared.refusal.Refusal.the-variants.{OffTheTable, NoSuch, Muddled, OpenEdge}
 use Rattle.store.specs.Field.{LENGTH}
 use Rattle.store.specs.Named.{pointsOf, recordsOf}
+use Rattle.audit.specs.Tests.{anyBelow, offTable, noSuch, noSuchOf, loose}
 use Rattle.audit.specs.declared.Verdict.{Verdict}
 use Rattle.audit.specs.declared.Verdict.the-variants.{Passed, Refused}
 use Rattle.rows.specs.Rows.{looseLink, muddled, noSuchNumber, offTheTable, openEdge, unnamed}
@@ -15,6 +16,14 @@ use Rattle.rows.specs.Rows.{looseLink, muddled, noSuchNumber, offTheTabl
 -- rows 4 and 5, which ask nothing of links and rings
 abbrev pub firstRows : List ℕ → List ℕ → ℕ → List ℕ → ℕ → Verdict
 firstRows w ss m js n = cond (offTheTable w) (Refused OffTheTable) (cond (noSuchNumber w ss m js n) (Refused NoSuch) Passed)
+
+-- point k fails what row 4, 5 or 6 asks of it
+abbrev pub faultyPoint : List ℕ → ℕ → Bool
+faultyPoint w k = offTable w k || (noSuch w k || loose w k)
+
+-- row 5 of all but points
+abbrev pub noSuchBeside : List ℕ → List ℕ → ℕ → List ℕ → ℕ → Bool
+noSuchBeside w ss m js n = anyBelow (recordsOf w) (λ i. noSuchOf w i) || (unnamed w ss m || unnamed w js (2 * n))
 
 -- rows 7 and 8
 abbrev pub lastRows : List ℕ → List ℕ → ℕ → List ℕ → ℕ → Verdict

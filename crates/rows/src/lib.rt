@@ -1,5 +1,6 @@
 // Rows 4 to 8 of document 01's table, each over the whole job as it was read.
 mod owners;
+mod points;
 mod resolving;
 mod tables;
 mod visits;
@@ -27,7 +28,7 @@ ghost use Rattle.audit.specs.Marks.{fails, Counted};
 ghost use Rattle.audit.specs.declared.Verdict.the-variants.{Passed};
 ghost use Rattle.rows.specs.Rows.{unnamed, noSuchNumber, onOpen, muddled, openEdge, rowsOf};
 ghost use Rattle.rows.specs.Owners.{chained};
-ghost use Rattle.rows.specs.Found.{firstRows, lastRows, Filled, Named};
+ghost use Rattle.rows.specs.Found.{firstRows, lastRows, faultyPoint, noSuchBeside, Filled, Named};
 ghost use Rattle.joins.specs.Resolve.{homeOf};
 ghost use Rattle.rows.specs.Tables.{UNKNOWN, Homes};
 
@@ -71,16 +72,25 @@ fn any_unnamed(w: &[u32], list: &[u32], n: usize) -> bool
     false
 }
 
+// Row 5 of all but points: records, segments, joins.
+fn no_such_beside(w: &[u32], segments: &[u32], m: usize, joins: &[u32], n: usize) -> bool
+    requires { ⌜ Filled (now w) (now segments) m (now joins) n ⌝ }
+    ensures { λ r. ⌜ r ≡ noSuchBeside (now (w .entry)) (now (segments .entry)) m (now (joins .entry)) n ⌝ }
+{
+    let a = audit::any_record(w, RecordTest::Named);
+    let b = any_unnamed(w, segments, m);
+    let c = any_unnamed(w, joins, 2 * n);
+    a | (b | c)
+}
+
 // Row 5.
 fn no_such_number(w: &[u32], segments: &[u32], m: usize, joins: &[u32], n: usize) -> bool
     requires { ⌜ Filled (now w) (now segments) m (now joins) n ⌝ }
     ensures { λ r. ⌜ r ≡ noSuchNumber (now (w .entry)) (now (segments .entry)) m (now (joins .entry)) n ⌝ }
 {
     let a = any_point(w, PointTest::Numbers);
-    let b = audit::any_record(w, RecordTest::Named);
-    let c = any_unnamed(w, segments, m);
-    let d = any_unnamed(w, joins, 2 * n);
-    a | (b | (c | d))
+    let b = no_such_beside(w, segments, m, joins, n);
+    a | b
 }
 
 // Whether the point is on an open ring: its ring's record is the one it resolves to.
@@ -189,6 +199,17 @@ fn plainly(w: &[u32], segments: &[u32], m: usize, joins: &[u32], n: usize) -> Ve
     last_rows(w, &homes, found, segments, m, joins, n)
 }
 
+// Rows 7 and 8, with tables only where a chain may need them.
+fn ring_rows(w: &[u32], segments: &[u32], m: usize, joins: &[u32], n: usize) -> Verdict
+    requires { ⌜ Filled (now w) (now segments) m (now joins) n × (firstRows (now w) (now segments) m (now joins) n ≡ Passed) ⌝ }
+    ensures { λ r. ⌜ r ≡ lastRows (now (w .entry)) (now (segments .entry)) m (now (joins .entry)) n ⌝ }
+{
+    if owners::any_chained(w) {
+        return by_table(w, segments, m, joins, n);
+    }
+    plainly(w, segments, m, joins, n)
+}
+
 // Rows 6 to 8, of a job that has passed 4 and 5.
 fn later_rows(w: &[u32], segments: &[u32], m: usize, joins: &[u32], n: usize) -> Verdict
     requires { ⌜ Filled (now w) (now segments) m (now joins) n × (firstRows (now w) (now segments) m (now joins) n ≡ Passed) ⌝ }
@@ -197,14 +218,11 @@ fn later_rows(w: &[u32], segments: &[u32], m: usize, joins: &[u32], n: usize) ->
     if any_point(w, PointTest::Links) {
         return Verdict::Refused(Refusal::Loose);
     }
-    if owners::any_chained(w) {
-        return by_table(w, segments, m, joins, n);
-    }
-    plainly(w, segments, m, joins, n)
+    ring_rows(w, segments, m, joins, n)
 }
 
-// Rows 4 to 8, in order.
-pub fn rows(w: &[u32], segments: &[u32], m: usize, joins: &[u32], n: usize) -> Verdict
+// Rows 4 to 8, one after the other.
+fn in_order(w: &[u32], segments: &[u32], m: usize, joins: &[u32], n: usize) -> Verdict
     requires { ⌜ Filled (now w) (now segments) m (now joins) n ⌝ }
     ensures { λ r. ⌜ r ≡ rowsOf (now (w .entry)) (now (segments .entry)) m (now (joins .entry)) n ⌝ }
 {
@@ -213,4 +231,26 @@ pub fn rows(w: &[u32], segments: &[u32], m: usize, joins: &[u32], n: usize) -> V
         Verdict::Passed => later_rows(w, segments, m, joins, n),
         Verdict::Refused(x) => Verdict::Refused(x),
     }
+}
+
+// What is left of rows 4 to 8, of a job with no point that fails what rows 4 to 6 ask of it.
+fn rest_of_rows(w: &[u32], segments: &[u32], m: usize, joins: &[u32], n: usize) -> Verdict
+    requires { ⌜ Filled (now w) (now segments) m (now joins) n × (anyBelow (pointsOf (now w)) (faultyPoint (now w)) ≡ false) ⌝ }
+    ensures { λ r. ⌜ r ≡ rowsOf (now (w .entry)) (now (segments .entry)) m (now (joins .entry)) n ⌝ }
+{
+    if no_such_beside(w, segments, m, joins, n) {
+        return Verdict::Refused(Refusal::NoSuch);
+    }
+    ring_rows(w, segments, m, joins, n)
+}
+
+// Rows 4 to 8: rows 4 to 6 in one pass over the points, and in their order only where a point fails one.
+pub fn rows(w: &[u32], segments: &[u32], m: usize, joins: &[u32], n: usize) -> Verdict
+    requires { ⌜ Filled (now w) (now segments) m (now joins) n ⌝ }
+    ensures { λ r. ⌜ r ≡ rowsOf (now (w .entry)) (now (segments .entry)) m (now (joins .entry)) n ⌝ }
+{
+    if points::any_faulty(w) {
+        return in_order(w, segments, m, joins, n);
+    }
+    rest_of_rows(w, segments, m, joins, n)
 }

@@ -1,6 +1,6 @@
--- `rows::later_rows` meets its contract: row 6, and the last rows one way or the other.
+-- `rows::later_rows` meets its contract: row 6, and the last rows.
 use borrow.Author.Needs.{needs}
-use Rattle.rows.proofs.Judging.{row-6, last-is, is-plain}
+use Rattle.rows.proofs.Judging.{row-6, last-is}
 use Rattle.rows.proofs.later_rows.Statement.{statement}
 use Rattle.rows.proofs.later_rows.Tie as tie
 
@@ -11,7 +11,4 @@ later-rows-spec =
     (λ c κs. search needs)
     (λ c. search (needs, row-6))
     (λ c κs. search needs)
-    (λ c κs. search needs)
-    (λ c. search (needs, last-is))
-    (λ c κs. (search needs, search needs, search (needs, is-plain)))
     (λ c. search (needs, last-is)))

@@ -1,6 +1,6 @@
 -- `rows::muddled` meets its contract: chains, then points.
 use borrow.Author.Needs.{needs}
-use Rattle.rows.proofs.Judging.{circle-found, none-circles, stray-found}
+use Rattle.rows.proofs.Judging.{circle-found, none-found, stray-found}
 use Rattle.rows.proofs.Reaching.{homes-blank}
 use Rattle.rows.proofs.muddled.Statement.{statement}
 use Rattle.rows.proofs.muddled.Tie as tie
@@ -11,7 +11,7 @@ muddled-spec =
     (tie.spec
     (λ c κs. search needs)
     (λ c. (search (needs, circle-found), search (needs, homes-blank)))
-    (λ c κs. search (needs, none-circles))
+    (λ c κs. search (needs, none-found))
     (λ c κs. search needs)
     (λ c. search needs)
     (λ c. (search (needs, stray-found), search needs)))

@@ -1,4 +1,4 @@
--- `rows::no_such_number` meets its contract: points, records, segments, joins.
+-- `rows::no_such_number` meets its contract: points, and the rest.
 use borrow.Author.Needs.{needs}
 use Rattle.rows.proofs.no_such_number.Statement.{statement}
 use Rattle.rows.proofs.no_such_number.Tie as tie
@@ -9,7 +9,4 @@ no-such-number-spec =
     (tie.spec
     (λ c κs. search needs)
     (λ c κs. search needs)
-    (λ c κs. search needs)
-    (λ c. search needs)
-    (λ c κs. search needs)
-    (λ c. rw (c .before .before .before .any-point .ensures, c .before .before .any-record .ensures, c .before .any-unnamed .ensures, c .any-unnamed2 .ensures)))
+    (λ c. rw (c .before .any-point .ensures, c .no-such-beside .ensures)))

@@ -1,7 +1,6 @@
--- `rows::rows` meets its contract: the first verdict's two cases.
-use mathlib.Core.Path.{sym, _∙_}
+-- `rows::rows` meets its contract: no point fails, or one does.
 use borrow.Author.Needs.{needs}
-use Rattle.rows.proofs.Judging.{first-refused}
+use Rattle.rows.proofs.Judging.{none-found}
 use Rattle.rows.proofs.rows.Statement.{statement}
 use Rattle.rows.proofs.rows.Tie as tie
 
@@ -10,10 +9,7 @@ rows-spec =
     tie.close
     (tie.spec
     (λ c κs. search needs)
+    (λ c κs. search needs)
     (λ c. search needs)
-    (λ c κs. (c .before .before .before .before .before .before .pre, sym (c .before .before .first-rows .ensures) ∙ c .enum-told .given .1))
-    (λ c. search needs)
-    (λ c. search needs)
-    (λ c.
-    let e = sym (c .before .before .before .first-rows .ensures) ∙ c .before .v .given .1 in
-    search first-refused))
+    (λ c κs. (search needs, search (needs, none-found)))
+    (λ c. search needs))
