@@ -1,4 +1,5 @@
--- Laws of opening: rings at their start, what a stage gives the next, a joins list with more places, the stages put together, what holds after an accepted opening.
+-- Laws of opening: words of zeros, rings at their start, what a stage gives the next, a joins list with more places, the stages put together, what holds after an accepted opening.
+pub mod Blanking
 pub mod Starting
 pub mod Passing
 pub mod Growing

@@ -1,4 +1,5 @@
--- Definitions of opening: rings at their start, the stages, what holds afterwards.
+-- Definitions of opening: what clearing asks of words, rings at their start, the stages, what holds afterwards.
+pub mod Blank
 pub mod Start
 pub mod Open
 pub mod After

@@ -1,14 +1,60 @@
-// A work space of zeros.
+// A work space of zeros. What a small job left is nearly all zeros, and to read a zero costs less than to write one: a block is written only where another word is in it.
 ghost use mathlib.Core.Path.{_≡_};
-ghost use lib.ListN.{length, replicate};
+ghost use mathlib.Core.List.{_++_};
+ghost use Prim.Native.Nat.{_+_, _≤_};
+ghost use lib.ListN.{length, drop, replicate};
+ghost use Rattle.opening.specs.Blank.{BLOCK, ZeroTo, IsBlank};
+
+// How many words are looked at together.
+const BLOCK: usize = 128;
+
+// Whether the block at `at` has only zeros, as all words before it.
+fn is_blank(t: &[u32], at: usize) -> bool
+    requires { ⌜ (at + BLOCK ≤ length (now t)) × ZeroTo at (now t) ⌝ }
+    ensures { λ r. ⌜ IsBlank at (now (t .entry)) r ⌝ }
+{
+    let mut found = false;
+    let mut k: usize = 0;
+    while k < BLOCK {
+        found = found | (t[at + k] != 0);
+        k += 1;
+    }
+    !found
+}
+
+// ZeroTo from `at` up to `to`, after zeros.
+fn write_zeros(t: &mut [u32], at: usize, to: usize)
+    requires { ⌜ (at ≤ to) × (to ≤ length (now t)) × ZeroTo at (now t) ⌝ }
+    ensures { λ _. ⌜ now (t .exit) ≡ replicate to 0 ++ drop to (now (t .entry)) ⌝ }
+{
+    let mut k = at;
+    while k < to {
+        t[k] = 0;
+        k += 1;
+    }
+}
+
+// ZeroTo in the block at `at`, after zeros.
+fn clear_block(t: &mut [u32], at: usize)
+    requires { ⌜ (at + BLOCK ≤ length (now t)) × ZeroTo at (now t) ⌝ }
+    ensures { λ _. ⌜ now (t .exit) ≡ replicate (at + BLOCK) 0 ++ drop (at + BLOCK) (now (t .entry)) ⌝ }
+{
+    let blank = is_blank(t, at);
+    if blank {
+        return;
+    }
+    write_zeros(t, at, at + BLOCK);
+}
 
 // Every word is zero.
 pub fn clear(work: &mut [u32])
     ensures { λ _. ⌜ now (work .exit) ≡ replicate (length (now (work .entry))) 0 ⌝ }
 {
-    let mut i = 0;
-    while i < work.len() {
-        work[i] = 0;
-        i += 1;
+    let mut i: usize = 0;
+    while BLOCK <= work.len() - i {
+        clear_block(work, i);
+        i += BLOCK;
     }
+    let n = work.len();
+    write_zeros(work, i, n);
 }

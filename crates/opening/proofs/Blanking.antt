@@ -1,0 +1,102 @@
+-- Zeros in front of a list: one more, and what is behind them; how far the loops are that look for them and that write them.
+use Prim.Native.Nat.{ℕ, _+_, _-_, _≤_, _<_}
+use mathlib.Core.Path.{_≡_, refl, ap, _∙_, sym, subst}
+use mathlib.Core.Bool.{Bool, true, false, not, _||_}
+use mathlib.Core.List.{List, _++_, append-nil}
+use native.Mathlib.Omega.{arith}
+use lib.Dec.{eqb}
+use lib.ListN.{length, getD, set, drop, replicate, length-replicate, length-set}
+use lib.Seq.{set-getD, drop-append-add, drop-drop, drop-length, drop-at}
+use borrow.Author.Fill.{fill-more}
+use borrow.Author.Tests.{eqb-true, not-true}
+use Rattle.opening.specs.Blank.{BLOCK, ZeroTo, IsBlank}
+
+-- ---- zeros in front
+
+zero-more : (t : List ℕ) (k : ℕ) → k < length t → getD t k 0 ≡ 0 → ZeroTo k t → ZeroTo (k + 1) t
+zero-more t k h e z = record { is = sym (set-getD t k 0) ∙ ap (set t k) e ∙ ap (λ (l : List ℕ). set l k 0) (z .is) ∙ fill-more k 0 t h }
+
+-- words with n zeros in front, and then those of u
+module _ (n : ℕ) (t u : List ℕ) (e : t ≡ replicate n 0 ++ drop n u) where
+  behind : (m : ℕ) → drop (n + m) t ≡ drop (n + m) u
+  behind m =
+      ap (drop (n + m)) e ∙ ap (λ (k : ℕ). drop (k + m) (replicate n 0 ++ drop n u)) (sym (length-replicate {A = ℕ} n 0))
+      ∙ drop-append-add (replicate n 0) (drop n u) m ∙ drop-drop m n u
+
+  zeros-of : ZeroTo n t
+  zeros-of = record { is = e ∙ ap (λ (l : List ℕ). replicate n 0 ++ l) (sym (ap (drop n) e ∙ drop-at (replicate n 0) (drop n u) n (length-replicate {A = ℕ} n 0))) }
+
+-- ---- a block is looked through
+
+pub record Looking (t : List ℕ) (a : ℕ) (found : Bool) (k : ℕ) : Type 0 where
+  pub room : a + BLOCK ≤ length t
+  pub far : k ≤ BLOCK
+  pub zeros : found ≡ false → ZeroTo (a + k) t
+
+pub look-begun : (t : List ℕ) (a : ℕ) → a + BLOCK ≤ length t → ZeroTo a t → Looking t a false 0
+look-begun t a h z = let n : a ≡ a + 0 = omega arith in record { room = h; far = omega arith; zeros = λ e. subst (λ (m : ℕ). ZeroTo m t) n z }
+
+module _ (t : List ℕ) (a : ℕ) (found : Bool) (k : ℕ) (L : Looking t a found k) where
+  pub look-room : k < BLOCK → a + k < length t
+  look-room h = omega (arith, L .room)
+
+  pub look-on : (x : ℕ) → k < BLOCK → x ≡ getD t (a + k) 0 → Looking t a (found || not (eqb x 0)) (k + 1)
+  look-on x h e = record { room = L .room; far = omega arith; zeros = λ f. by found (eqb x 0) refl refl f }
+    where
+      by : (b c : Bool) → found ≡ b → eqb x 0 ≡ c → (b || not c) ≡ false → ZeroTo (a + (k + 1)) t
+      by false true p q f = let n : a + k + 1 ≡ a + (k + 1) = omega arith in subst (λ (m : ℕ). ZeroTo m t) n (zero-more t (a + k) (omega (arith, L .room)) (sym e ∙ eqb-true x 0 q) (L .zeros p))
+      by false false p q f = let y : _≡_ {A = ℕ} 0 1 = cc in absurd (omega arith)
+      by true c p q f = let y : _≡_ {A = ℕ} 0 1 = cc in absurd (omega arith)
+
+  pub looked : BLOCK ≤ k → IsBlank a t (not found)
+  looked h = let e : k ≡ BLOCK = omega (arith, L .far) in record { blank = λ f. subst (λ (n : ℕ). ZeroTo (a + n) t) e (L .zeros (not-true found f)) }
+
+-- ---- zeros are written
+
+pub record Zeroing (t₀ : List ℕ) (to : ℕ) (t : List ℕ) (k : ℕ) : Type 0 where
+  pub far : k ≤ to
+  pub end : to ≤ length t₀
+  pub size : length t ≡ length t₀
+  pub is : t ≡ replicate k 0 ++ drop k t₀
+
+pub write-begun : (t : List ℕ) (a to : ℕ) → a ≤ to → to ≤ length t → ZeroTo a t → Zeroing t to t a
+write-begun t a to l h z = record { far = l; end = h; size = refl; is = z .is }
+
+module _ (t₀ : List ℕ) (to : ℕ) (t : List ℕ) (k : ℕ) (W : Zeroing t₀ to t k) where
+  pub write-room : k < to → k < length t
+  write-room h = omega (arith, W .end, W .size)
+
+  pub write-on : k < to → Zeroing t₀ to (set t k 0) (k + 1)
+  write-on h = record { far = omega arith; end = W .end; size = length-set t k 0 ∙ W .size; is = ap (λ (l : List ℕ). set l k 0) (W .is) ∙ fill-more k 0 t₀ (omega (arith, W .end)) }
+
+  pub written : to ≤ k → t ≡ replicate to 0 ++ drop to t₀
+  written h = let e : k ≡ to = omega (arith, W .far) in subst (λ (n : ℕ). t ≡ replicate n 0 ++ drop n t₀) e (W .is)
+
+-- ---- block after block
+
+pub block-written : (t : List ℕ) (a : ℕ) (r : Bool) → IsBlank a t r → r ≡ true → t ≡ replicate (a + BLOCK) 0 ++ drop (a + BLOCK) t
+block-written t a r L e = L .blank e .is
+
+pub record Clearing (w₀ w : List ℕ) (i : ℕ) : Type 0 where
+  pub far : i ≤ length w₀
+  pub size : length w ≡ length w₀
+  pub is : w ≡ replicate i 0 ++ drop i w₀
+
+pub clear-begun : (w : List ℕ) → Clearing w w 0
+clear-begun w = record { far = omega arith; size = refl; is = refl }
+
+module _ (w₀ w : List ℕ) (i : ℕ) (C : Clearing w₀ w i) where
+  pub clear-zeros : ZeroTo i w
+  clear-zeros = zeros-of i w w₀ (C .is)
+
+  pub clear-room : BLOCK ≤ length w - i → i + BLOCK ≤ length w
+  clear-room h = omega (arith, C .size, C .far)
+
+  pub clear-far : i ≤ length w
+  clear-far = omega (arith, C .size, C .far)
+
+  pub clear-on : (w′ : List ℕ) → BLOCK ≤ length w - i → length w′ ≡ length w → w′ ≡ replicate (i + BLOCK) 0 ++ drop (i + BLOCK) w → Clearing w₀ w′ (i + BLOCK)
+  clear-on w′ h l e = record { far = omega (arith, C .size, C .far); size = l ∙ C .size; is = e ∙ ap (λ (t : List ℕ). replicate (i + BLOCK) 0 ++ t) (behind i w w₀ (C .is) BLOCK) }
+
+  pub all-clear : (w′ : List ℕ) → w′ ≡ replicate (length w) 0 ++ drop (length w) w → w′ ≡ replicate (length w₀) 0
+  all-clear w′ e = e ∙ ap (λ (t : List ℕ). replicate (length w) 0 ++ t) (drop-length w) ∙ append-nil {A = ℕ} (replicate (length w) 0) ∙ ap (λ (n : ℕ). replicate n 0) (C .size)
