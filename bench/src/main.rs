@@ -71,11 +71,13 @@ fn row(name: &str, bytes: &[u8]) {
     println!("| {name} | {:.1} | {:.1} | {:.2} | {:.1} | {:.2} |", t[0], t[1], t[0] / t[1], t[2], t[0] / t[2]);
 }
 
-/// Every ring of a job stepped to done, each step a call that tests the whole work space first.
+/// Every ring of a job stepped to done, each step a call that tests the whole work space first: the shortest of five rounds,
+/// of two hundred for a small job, whose ten steps take less than a microsecond.
 fn steps(name: &str, bytes: &[u8]) {
     let mut lent = Lent::new();
     let (mut taken, mut best) = (0, f64::MAX);
-    for _ in 0..5 {
+    let rounds = if bytes.len() < 1_500 { 200 } else { 5 };
+    for _ in 0..rounds {
         assert_eq!(outline::open(bytes, &mut lent.work), Ok(()), "{name} is refused");
         let began = Instant::now();
         taken = 0;
