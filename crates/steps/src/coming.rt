@@ -1,4 +1,4 @@
-// The step that comes next, as a walk leaves it, and that step: what the walk has tested is not tested again.
+// The step that comes next, as a walk leaves it, and that step: a point that the walk found to be dropped is not tested again.
 use crate::Answer;
 use crate::apply::discard_ring;
 use crate::apply::drop_point;
