@@ -13,19 +13,18 @@ use Rattle.store.specs.Field.{ct, SETTINGS, LENGTH}
 use Rattle.store.specs.Words.{Store, view}
 use Rattle.store.specs.Good.{Sound}
 use Rattle.store.specs.Value.{preserveCollinear}
-use Rattle.audit.specs.declared.Verdict.{Verdict}
 use Rattle.audit.specs.declared.Verdict.the-variants as verdict
-use Rattle.audit.specs.Tests.{testsOf}
-use Rattle.audit.proofs.Agreeing.{passed-sound, sound-passed}
+use Rattle.audit.specs.Handed.{handedOf}
+use Rattle.audit.proofs.Handing.{handed-sound, sound-handed}
 use Rattle.acts.specs.Step.{answerS, stepW}
 use Rattle.acts.specs.Run.{stepS}
 use Rattle.acts.specs.InStep.{InStep}
 use Rattle.acts.proofs.Stepping.{length-step, view-step, answer-is, step-is}
 use Rattle.turns.specs.Form.{raised, geometryOf}
 use Rattle.turns.proofs.Ready.{laws}
-use Rattle.finishing.specs.Step.{Left, left, steppedAs, stepBy, stepOf}
+use Rattle.finishing.specs.Step.{Left, left, steppedAs, stepOf}
 use Rattle.finishing.specs.Run.{runOf}
-use Rattle.finishing.proofs.Entering.{long-step}
+use Rattle.finishing.proofs.Entering.{handed-step}
 use Rattle.order.proofs.Settings.{step-settings}
 use Rattle.altered.specs.OwnForest.{Settled}
 use Rattle.altered.specs.Altered.{HoldsForest, StepIs, Altered}
@@ -34,7 +33,7 @@ use Rattle.altered.proofs.Starts.{elsewhere, settled-step}
 
 module _ (w : List ℕ) (l : LENGTH ≤ length w) (o : Sound (view w)) (i : ℕ) where
   step-of : stepOf w i ≡ left (steppedAs (answerS (geometryOf (view w)) raised (view w) i)) (stepW (geometryOf (view w)) raised w i)
-  step-of = long-step w i l ∙ ap (λ (v : Verdict). stepBy v w i) (sound-passed w o)
+  step-of = handed-step w i verdict.Passed (sound-handed w (record { long = l; sound = o }))
 
   view-of : view (stepOf w i .words) ≡ stepS (geometryOf (view w)) raised (view w) i
   view-of = ap (λ (x : Left). view (x .words)) step-of ∙ view-step (geometryOf (view w)) raised (laws (preserveCollinear (view w))) w i l o
@@ -82,9 +81,10 @@ module _ (b : Bool) where
   answered : (w : List ℕ) (F : Forest (Ring Point) (List Point)) → Going w F → (i : ℕ) → stepOf w i .answer ≡ steppedAs (answer (loneRing b) 2048 512 F i)
   answered w F g i = subst (λ (k : Bool). stepOf w i .answer ≡ steppedAs (answer (loneRing k) 2048 512 F i)) (g .setting) (one-step w (g .long) (g .holds .sound) i F (g .holds) .answers)
 
-pub altered : (w : List ℕ) → LENGTH ≤ length w → testsOf w ≡ verdict.Passed → Altered w
-altered w l e =
-    let o : Sound (view w) = passed-sound w e in
+pub altered : (w : List ℕ) → handedOf w ≡ verdict.Passed → Altered w
+altered w e =
+    let l : LENGTH ≤ length w = handed-sound w e .long in
+    let o : Sound (view w) = handed-sound w e .sound in
     record {
       has-one = own-forest (raised .of) (view w) o;
       one-step = λ F r i. one-step w l o i F r;

@@ -1,3 +1,4 @@
--- The tests of a handed work space, and the marks that the code keeps for them.
+-- The tests of a handed work space, the marks that the code keeps for them, and what a call finds out first.
 pub mod Tests
 pub mod Marks
+pub mod Handed

@@ -16,6 +16,7 @@ use crate::walks::mark_all;
 use job::Job;
 use job::refusal::Refusal;
 use store::Col;
+use store::LENGTH;
 use store::get;
 ghost use mathlib.Core.Path.{_≡_};
 ghost use mathlib.Core.Bool.{_||_};
@@ -25,6 +26,7 @@ ghost use Rattle.store.specs.Field.{LENGTH};
 ghost use Rattle.store.specs.Named.{recordsOf};
 ghost use Rattle.audit.specs.Tests.{anyBelow, noSuchOf, lostTaker, misplaced, untold, crowded, anyRecord, testsOf};
 ghost use Rattle.audit.specs.declared.PointTest.the-variants.{Numbers};
+ghost use Rattle.audit.specs.Handed.{handedOf};
 ghost use Rattle.audit.specs.Marks.{Counted, Clear, Looked, fails, failsOf, anyMarked, linksOf, passesOf};
 
 // As many points as a small array has marks for: zeros for all that a job may have would cost a small one more than its tests.
@@ -228,4 +230,14 @@ pub fn tests_of(w: &[u32]) -> Verdict
         return Verdict::Passed;
     }
     in_order(w)
+}
+
+// What every call on an opened work space asks first: its length, then its tests.
+pub fn handed(w: &[u32]) -> Verdict
+    ensures { λ r. ⌜ r ≡ handedOf (now (w .entry)) ⌝ }
+{
+    if w.len() < LENGTH {
+        return Verdict::Refused(Refusal::Full);
+    }
+    tests_of(w)
 }

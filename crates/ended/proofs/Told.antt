@@ -215,7 +215,7 @@ module _ (bytes : List ℕ) (n : ℕ) (w : List ℕ) (f : openOf bytes n ≡ end
   pub tells : Tells bytes n w t is j
   tells l d =
       record {
-        call = call-tells (runOf w is) j (follows w o is .rep .long) (after-list w o is .tests-pass) l d;
+        call = call-tells (runOf w is) j (after-list w o is .tests-pass) l d;
         told = told l;
         only = only l;
         opened = of-open l;

@@ -1,4 +1,4 @@
--- Which rows the calls can give: opening those up to 10, the tests of a handed work space those up to 7; and with a tray of `TRAY` bytes neither writing
+-- Which rows the calls can give: opening those up to 10, the tests of a handed work space those up to 7, and 10 where it is too short; and with a tray of `TRAY` bytes neither writing
 -- out nor finishing in one call ever gives 11.
 use Prim.Native.Nat.{ℕ, zero, suc, _≤_}
 use mathlib.Core.Path.{_≡_, refl, ap, sym, subst}
@@ -24,7 +24,8 @@ use Rattle.audit.specs.declared.Verdict.{Verdict}
 use Rattle.audit.specs.declared.Verdict.the-variants as verdict
 use Rattle.audit.specs.Tests.{anyReached, anyRecord, offTable, noSuch, noSuchOf, lostTaker, loose, shared, misplaced, untold, testsOf}
 use Rattle.audit.specs.Tests as tests
-use Rattle.audit.proofs.Agreeing.{passed-sound}
+use Rattle.audit.specs.Handed.{handedOf}
+use Rattle.audit.proofs.Handing.{handed-sound}
 use Rattle.reading.specs.declared.fill.Outcome.the-variants as outcome
 use Rattle.reading.specs.Fill as fill
 use Rattle.reading.specs.Fill.{placed, taken, turnOf, follow, run, fillOf}
@@ -193,6 +194,16 @@ tests-rows w =
     go false false false false true = omega arith
     go false false false false false = tt
 
+-- and its length row 10
+pub handed-rows : (w : List ℕ) → JudgedTo 10 (handedOf w)
+unfolding handedOf
+handed-rows w = go (ltb (length w) LENGTH) (testsOf w) (tests-rows w)
+  where
+    go : (b : Bool) (v : Verdict) → JudgedTo 7 v → JudgedTo 10 (cond b (verdict.Refused Full) v)
+    go true v h = omega arith
+    go false (verdict.Refused x) h = omega (arith, h)
+    go false verdict.Passed h = tt
+
 -- ---- never 11
 
 abbrev NotSmall : Written → Type 0
@@ -205,16 +216,15 @@ module _ (t : List ℕ) (long : TRAY ≤ length t) where
 
   pub write-not-small : (w : List ℕ) → writeOf w t .answer ≢ written.Refused SmallTray
   unfolding writeOf
-  write-not-small w e = subst NotSmall e (go (ltb (length w) LENGTH) (testsOf w) refl (tests-rows w)) refl
+  write-not-small w e = subst NotSmall e (go (handedOf w) refl (handed-rows w)) refl
     where
       passed : (l : Bool) → Sound (view w) → NotSmall (cond l (wrote (written.Refused OutOfTurn) t) (buildPaths64 (view w) t) .answer)
       passed true s = λ z. omega (arith, z)
       passed false s = written-not-small w s
 
-      go : (b : Bool) (v : Verdict) → testsOf w ≡ v → JudgedTo 7 v → NotSmall (cond b (wrote (written.Refused Full) t) (writeBy v w t) .answer)
-      go true v h k = λ z. omega (arith, z)
-      go false (verdict.Refused r) h k = λ z. omega (arith, z, k)
-      go false verdict.Passed h k = passed (anyLive (view w)) (passed-sound w h)
+      go : (v : Verdict) → handedOf w ≡ v → JudgedTo 10 v → NotSmall (writeBy v w t .answer)
+      go (verdict.Refused r) h k = λ z. omega (arith, z, k)
+      go verdict.Passed h k = passed (anyLive (view w)) (handed-sound w h .sound)
 
   after-writing : (w : List ℕ) (r : Written) (u : List ℕ) → NotSmall r → NotSmall (afterWriting w r u .answer)
   after-writing w (written.Paths c o) u h = tt

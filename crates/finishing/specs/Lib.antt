@@ -1,5 +1,4 @@
 -- The entry points' definitions: what each call answers and leaves, on every input; lists of steps; finishing the rings.
-pub mod Tested
 pub mod Step
 pub mod Write
 pub mod Run

@@ -2,7 +2,7 @@
 pub mod finish;
 
 use audit::Verdict;
-use audit::tests_of;
+use audit::handed;
 use job::refusal::Refusal;
 use opening::open::Opened;
 use paths::Written;
@@ -10,18 +10,16 @@ use paths::build_paths64;
 use steps::Answer;
 use steps::step::any_live;
 use steps::step::step_record;
-use store::LENGTH;
 ghost use mathlib.Core.Path.{_≡_};
 ghost use lib.ListN.{length};
 ghost use Prim.Native.Nat.{_+_, _<_};
-ghost use Rattle.store.specs.Field.{LENGTH};
+ghost use Rattle.store.specs.Good.{SoundWords};
 ghost use Rattle.audit.specs.declared.Verdict.the-variants.{Passed};
 ghost use Rattle.steps.specs.Code.{answerIs};
 ghost use Rattle.paths.specs.Wrote.{wrote};
 ghost use Rattle.opening.specs.Open.{end, openOf};
 ghost use Rattle.finishing.specs.Step.{left, steppedAs, stepBy, stepOf};
 ghost use Rattle.finishing.specs.Write.{writeBy, writeOf};
-ghost use Rattle.finishing.specs.Tested.{Tested};
 
 // What a step answers: carried out, or a refusal.
 pub enum Stepped {
@@ -52,7 +50,7 @@ fn answered(a: Answer) -> Stepped
 
 // A step on a work space that passed the tests.
 fn step_tested(work: &mut [u32], i: usize) -> Stepped
-    requires { ⌜ Tested (now work) ⌝ }
+    requires { ⌜ SoundWords (now work) ⌝ }
     ensures { λ r. ⌜ left r (now (work .exit)) ≡ stepBy Passed (now (work .entry)) i ⌝ }
 {
     let a = step_record(work, i);
@@ -63,10 +61,7 @@ fn step_tested(work: &mut [u32], i: usize) -> Stepped
 pub fn step(work: &mut [u32], number: u32) -> Stepped
     ensures { λ r. ⌜ left r (now (work .exit)) ≡ stepOf (now (work .entry)) number ⌝ }
 {
-    if work.len() < LENGTH {
-        return Stepped::Refused(Refusal::Full);
-    }
-    let verdict = tests_of(work);
+    let verdict = handed(work);
     match verdict {
         Verdict::Passed => {
             return step_tested(work, number as usize);
@@ -81,7 +76,7 @@ pub fn step(work: &mut [u32], number: u32) -> Stepped
 
 // Writing out a work space that passed the tests.
 fn write_tested(work: &[u32], tray: &mut [u8]) -> Written
-    requires { ⌜ Tested (now work) ⌝ }
+    requires { ⌜ SoundWords (now work) ⌝ }
     ensures { λ r. ⌜ wrote r (now (tray .exit)) ≡ writeBy Passed (now (work .entry)) (now (tray .entry)) ⌝ }
 {
     let going = any_live(work);
@@ -95,10 +90,7 @@ fn write_tested(work: &[u32], tray: &mut [u8]) -> Written
 pub fn write_out(work: &[u32], tray: &mut [u8]) -> Written
     ensures { λ r. ⌜ wrote r (now (tray .exit)) ≡ writeOf (now (work .entry)) (now (tray .entry)) ⌝ }
 {
-    if work.len() < LENGTH {
-        return Written::Refused(Refusal::Full);
-    }
-    let verdict = tests_of(work);
+    let verdict = handed(work);
     match verdict {
         Verdict::Passed => {
             return write_tested(work, tray);

@@ -10,7 +10,7 @@ use Rattle.job.specs.declared.refusal.Refusal.{Refusal}
 use Rattle.job.specs.declared.refusal.Refusal.the-variants.{Full}
 use Rattle.store.specs.Words.{view}
 use Rattle.store.specs.Sound.{recs}
-use Rattle.audit.specs.Tests.{testsOf}
+use Rattle.audit.specs.Handed.{handedOf}
 use Rattle.steps.specs.Live.{anyLive}
 use Rattle.paths.specs.declared.Written.{Written}
 use Rattle.paths.specs.declared.Written.the-variants.{Paths, Refused}
@@ -25,7 +25,6 @@ use Rattle.finishing.specs.InOneCall.{Finished, finished, refused, afterWriting
 use Rattle.order.specs.Demand3.{RingsFit, RingsNeverEnd}
 use Rattle.order.specs.Jobs.{ByRising}
 use Rattle.order.proofs.Jobs.{of-job}
-use Rattle.job_listing.proofs.Listing.{may-ask}
 use Rattle.ended.proofs.Opened.{stages}
 use Rattle.ended.proofs.Told.{tells}
 use Rattle.ended.proofs.Telling.{call-tells}
@@ -35,7 +34,7 @@ use Rattle.job_reasons.specs.InFact.{left, InFact}
 
 -- asked for one of its records, such a work space tells it
 pub call-told : (w : List ℕ) (i : ℕ) → TellableAt w i → reasonOf w i ≡ Because (reasonAt (view w) i)
-call-told w i h = call-tells w i (h .work .tested .long) (h .work .tested .passed) (h .known) (h .work .done)
+call-told w i h = call-tells w i (h .work .tested) (h .known) (h .work .done)
 
 apart : {A : Type 0} (c o : ℕ) (x : Refusal) → Paths c o ≡ Refused x → A
 apart c o x e = let z : _≡_ {A = ℕ} 0 1 = cc in absurd (omega arith)
@@ -79,11 +78,7 @@ module _ (bytes : List ℕ) (n : ℕ) (t w′ t′ : List ℕ) (c o : ℕ) (e : 
   pub tellable : Tellable w′
   tellable =
       record {
-        tested =
-            record {
-              long = may-ask bytes n t w′ t′ (Paths c o) e c o refl;
-              passed = ap testsOf words-are ∙ of-job bytes n (accepted .from) (accepted .opens) .holds .after-every-list (accepted .rising .steps) .tests-pass;
-            };
+        tested = ap handedOf words-are ∙ of-job bytes n (accepted .from) (accepted .opens) .holds .after-every-list (accepted .rising .steps) .tests-pass;
         done = ap (λ (v : List ℕ). anyLive (view v)) words-are ∙ done;
       }
 

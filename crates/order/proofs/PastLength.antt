@@ -7,6 +7,7 @@ use mathlib.Core.List.{List, _++_}
 use native.Mathlib.Omega.{arith}
 use lib.Dec.{eqb, ltb}
 use lib.ListN.{length, length-append}
+use borrow.Author.Tests.{le-ltb}
 use Rattle.job.specs.Limits as limit
 use Rattle.job.specs.declared.refusal.Refusal.the-variants.{OutOfTurn, Crowded, OffTheTable, NoSuch, Loose, Muddled}
 use Rattle.store.specs.Field.{pt, rc, ct, X, Y, NEXT, PREV, REC, OWNER, FIRST, MARK, PRESENT, REASON, TAKER, POINTS, RECORDS, LENGTH}
@@ -17,7 +18,8 @@ use Rattle.store.specs.Words.{Store, view}
 use Rattle.audit.specs.declared.Verdict.{Verdict}
 use Rattle.audit.specs.declared.Verdict.the-variants as verdict
 use Rattle.audit.specs.Tests.{isIn, anyBelow, reach, reachedBy, namesNothing, testsOf}
-use Rattle.audit.proofs.Agreeing.{passed-sound}
+use Rattle.audit.specs.Handed.{handedOf}
+use Rattle.audit.proofs.Handing.{handed-sound}
 use Rattle.acts.proofs.Beyond.{view-more, step-more}
 use Rattle.acts.specs.Step.{answerS, stepW}
 use Rattle.paths.specs.declared.Written.the-variants as written
@@ -28,7 +30,7 @@ use Rattle.finishing.specs.declared.Stepped.the-variants.{Refused}
 use Rattle.finishing.specs.Step.{Left, left, steppedAs, stepBy, stepOf}
 use Rattle.steps.specs.Live.{anyLive}
 use Rattle.finishing.specs.Write.{writeBy, writeOf}
-use Rattle.finishing.proofs.Entering.{long-step, long-write}
+use Rattle.finishing.proofs.Entering.{handed-step, handed-write}
 use Rattle.order.specs.PastLength.{PastLength}
 use Rattle.order.proofs.Zeros.{open-zeros}
 use Rattle.order.proofs.Leaving.{finish-zeros}
@@ -73,28 +75,27 @@ module _ (v m : List ℕ) (n : length v ≡ LENGTH) where
   longer : LENGTH ≤ length (v ++ m)
   longer = omega (arith, length-append v m)
 
-  same-tests : testsOf (v ++ m) ≡ testsOf v
-  same-tests = tests-same (v ++ m) v (view-more m v long)
+  same-handed : handedOf (v ++ m) ≡ handedOf v
+  unfolding handedOf
+  same-handed = rw (le-ltb (length (v ++ m)) LENGTH longer, le-ltb (length v) LENGTH long) (tests-same (v ++ m) v (view-more m v long))
 
   steps : (i : ℕ) → stepOf (v ++ m) i ≡ left (stepOf v i .answer) (stepOf v i .words ++ m)
   steps i =
-      long-step (v ++ m) i longer
-      ∙ ap (λ (t : Verdict). stepBy t (v ++ m) i) same-tests
-      ∙ by (testsOf v) refl
-      ∙ ap (λ (l : Left). left (l .answer) (l .words ++ m)) (sym (long-step v i long))
+      handed-step (v ++ m) i (handedOf v) same-handed
+      ∙ by (handedOf v) refl
+      ∙ ap (λ (l : Left). left (l .answer) (l .words ++ m)) (sym (handed-step v i (handedOf v) refl))
     where
-      by : (t : Verdict) → testsOf v ≡ t → stepBy t (v ++ m) i ≡ left (stepBy t v i .answer) (stepBy t v i .words ++ m)
+      by : (t : Verdict) → handedOf v ≡ t → stepBy t (v ++ m) i ≡ left (stepBy t v i .answer) (stepBy t v i .words ++ m)
       by (verdict.Refused r) e = refl
       by verdict.Passed e =
           ap (λ (s : Store). left (steppedAs (answerS (geometryOf s) raised s i)) (stepW (geometryOf s) raised (v ++ m) i)) (view-more m v long)
-          ∙ ap (left (steppedAs (answerS (geometryOf (view v)) raised (view v) i))) (step-more m raised v long i (geometryOf (view v)) (laws (preserveCollinear (view v))) (passed-sound v e))
+          ∙ ap (left (steppedAs (answerS (geometryOf (view v)) raised (view v) i))) (step-more m raised v long i (geometryOf (view v)) (laws (preserveCollinear (view v))) (handed-sound v e .sound))
 
   writings : (t : List ℕ) → writeOf (v ++ m) t ≡ writeOf v t
   writings t =
-      long-write (v ++ m) t longer
-      ∙ ap (λ (x : Verdict). writeBy x (v ++ m) t) same-tests
-      ∙ by (testsOf v)
-      ∙ sym (long-write v t long)
+      handed-write (v ++ m) t (handedOf v) same-handed
+      ∙ by (handedOf v)
+      ∙ sym (handed-write v t (handedOf v) refl)
     where
       by : (x : Verdict) → writeBy x (v ++ m) t ≡ writeBy x v t
       by (verdict.Refused r) = refl

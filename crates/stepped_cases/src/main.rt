@@ -12,7 +12,7 @@ use crate::progress::due_of;
 use crate::progress::is_done;
 use crate::progress::set_all;
 use audit::Verdict;
-use audit::tests_of;
+use audit::handed;
 use finishing::Stepped;
 use finishing::step;
 use finishing::write_out;
@@ -53,10 +53,8 @@ fn act_on(w: &[u32], i: usize) -> Act
     Act::Stay
 }
 
-fn act_of(w: &[u32], i: usize) -> Act
-    requires { ⌜ LENGTH ≤ length (now w) ⌝ }
-{
-    let v = tests_of(w);
+fn act_of(w: &[u32], i: usize) -> Act {
+    let v = handed(w);
     match v {
         Verdict::Passed => {
             return act_on(w, i);
