@@ -44,8 +44,8 @@ extern "C" {
 /* ---- the work space and the tray */
 
 /* The fixed length of a work space in words. A shorter one is refused with 10 by every call, first of all. */
-#define OUTLINE_WORK_WORDS 14864
-#if OUTLINE_WORK_WORDS != 16 + 5 * OUTLINE_POINTS + 9 * OUTLINE_RECORDS
+#define OUTLINE_WORK_WORDS 74324
+#if OUTLINE_WORK_WORDS != 5 * (16 + 5 * OUTLINE_POINTS + 9 * OUTLINE_RECORDS) + 4
 #error "OUTLINE_WORK_WORDS is not what the limits make it"
 #endif
 

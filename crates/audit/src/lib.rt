@@ -17,16 +17,19 @@ use job::Job;
 use job::refusal::Refusal;
 use store::Col;
 use store::LENGTH;
+use store::STATES;
 use store::get;
+use store::names::same_name;
 ghost use mathlib.Core.Path.{_≡_};
 ghost use mathlib.Core.Bool.{_||_};
-ghost use Prim.Native.Nat.{_≤_};
+ghost use Prim.Native.Nat.{_<_, _≤_};
 ghost use lib.ListN.{length};
-ghost use Rattle.store.specs.Field.{LENGTH};
+ghost use Rattle.store.specs.Field.{STATES, KEPT, BLOCK};
+ghost use Rattle.store.specs.States.{sameName};
 ghost use Rattle.store.specs.Named.{recordsOf};
 ghost use Rattle.audit.specs.Tests.{anyBelow, noSuchOf, lostTaker, misplaced, untold, crowded, anyRecord, testsOf};
 ghost use Rattle.audit.specs.declared.PointTest.the-variants.{Numbers};
-ghost use Rattle.audit.specs.Handed.{handedOf};
+ghost use Rattle.audit.specs.Handed.{keptTwice, handedOf};
 ghost use Rattle.audit.specs.Marks.{Counted, Clear, Looked, fails, failsOf, anyMarked, linksOf, passesOf};
 
 // As many points as a small array has marks for: zeros for all that a job may have would cost a small one more than its tests.
@@ -55,7 +58,7 @@ pub enum RecordTest {
 
 // Whether a count is above its limit.
 fn crowded(w: &[u32]) -> bool
-    requires { ⌜ LENGTH ≤ length (now w) ⌝ }
+    requires { ⌜ BLOCK ≤ length (now w) ⌝ }
     ensures { λ r. ⌜ r ≡ crowded (now (w .entry)) ⌝ }
 {
     let m = get(w, Col::Points, 0);
@@ -66,7 +69,7 @@ fn crowded(w: &[u32]) -> bool
 // ---- one test, by its name
 
 pub fn point_fails(w: &[u32], t: PointTest, k: usize) -> bool
-    requires { ⌜ LENGTH ≤ length (now w) ⌝ }
+    requires { ⌜ BLOCK ≤ length (now w) ⌝ }
     ensures { λ r. ⌜ r ≡ fails t (now (w .entry)) k ⌝ }
 {
     match t {
@@ -83,7 +86,7 @@ pub fn point_fails(w: &[u32], t: PointTest, k: usize) -> bool
 }
 
 fn record_fails(w: &[u32], t: RecordTest, i: usize) -> bool
-    requires { ⌜ LENGTH ≤ length (now w) ⌝ }
+    requires { ⌜ BLOCK ≤ length (now w) ⌝ }
     ensures { λ r. ⌜ r ≡ failsOf t (now (w .entry)) i ⌝ }
 {
     match t {
@@ -104,7 +107,7 @@ fn record_fails(w: &[u32], t: RecordTest, i: usize) -> bool
 
 // Whether a record fails the test.
 pub fn any_record(w: &[u32], t: RecordTest) -> bool
-    requires { ⌜ LENGTH ≤ length (now w) ⌝ }
+    requires { ⌜ BLOCK ≤ length (now w) ⌝ }
     ensures { λ r. ⌜ r ≡ anyBelow (recordsOf (now (w .entry))) (failsOf t (now (w .entry))) ⌝ }
 {
     let n = get(w, Col::Records, 0);
@@ -123,7 +126,7 @@ pub fn any_record(w: &[u32], t: RecordTest) -> bool
 
 // Whether a number names nothing: of a marked point, a record's owner's or first point's, or a taker's.
 fn any_no_such(w: &[u32], marks: &[u8]) -> bool
-    requires { ⌜ LENGTH ≤ length (now w) ⌝ }
+    requires { ⌜ BLOCK ≤ length (now w) ⌝ }
     ensures { λ r. ⌜ r ≡ (anyMarked (now (w .entry)) (now (marks .entry)) Numbers || (anyRecord (now (w .entry)) (noSuchOf (now (w .entry))) || anyRecord (now (w .entry)) (lostTaker (now (w .entry))))) ⌝ }
 {
     let a = any_marked(w, marks, PointTest::Numbers);
@@ -134,7 +137,7 @@ fn any_no_such(w: &[u32], marks: &[u8]) -> bool
 
 // Whether two records share a ring, a record's progress is misplaced, or a record without a ring keeps no reason.
 fn any_muddled(w: &[u32], shares: bool) -> bool
-    requires { ⌜ LENGTH ≤ length (now w) ⌝ }
+    requires { ⌜ BLOCK ≤ length (now w) ⌝ }
     ensures { λ r. ⌜ r ≡ (shares || (anyRecord (now (w .entry)) (misplaced (now (w .entry))) || anyRecord (now (w .entry)) (untold (now (w .entry))))) ⌝ }
 {
     if shares {
@@ -147,7 +150,7 @@ fn any_muddled(w: &[u32], shares: bool) -> bool
 
 // The tests after the coordinates: numbers, links, rings and progress.
 fn links_of(w: &[u32], marks: &[u8], shares: bool) -> Verdict
-    requires { ⌜ LENGTH ≤ length (now w) ⌝ }
+    requires { ⌜ BLOCK ≤ length (now w) ⌝ }
     ensures { λ r. ⌜ r ≡ linksOf (now (w .entry)) (now (marks .entry)) shares ⌝ }
 {
     let a = any_no_such(w, marks);
@@ -167,7 +170,7 @@ fn links_of(w: &[u32], marks: &[u8], shares: bool) -> Verdict
 
 // The tests after the counts, one after the other.
 fn passes_of(w: &[u32], marks: &[u8], shares: bool) -> Verdict
-    requires { ⌜ LENGTH ≤ length (now w) ⌝ }
+    requires { ⌜ BLOCK ≤ length (now w) ⌝ }
     ensures { λ r. ⌜ r ≡ passesOf (now (w .entry)) (now (marks .entry)) shares ⌝ }
 {
     let a = any_marked(w, marks, PointTest::Table);
@@ -218,7 +221,7 @@ fn is_good(w: &[u32]) -> bool
 
 // The tests of a work space that a step, or writing out after steps, is handed: at once, and in their order only where something fails.
 pub fn tests_of(w: &[u32]) -> Verdict
-    requires { ⌜ LENGTH ≤ length (now w) ⌝ }
+    requires { ⌜ BLOCK ≤ length (now w) ⌝ }
     ensures { λ r. ⌜ r ≡ testsOf (now (w .entry)) ⌝ }
 {
     let many = crowded(w);
@@ -232,12 +235,60 @@ pub fn tests_of(w: &[u32]) -> Verdict
     in_order(w)
 }
 
-// What every call on an opened work space asks first: its length, then its tests.
+// ---- the names of kept states
+
+// Whether a place before q keeps its name too.
+fn named_before(w: &[u32], q: usize) -> bool
+    requires { ⌜ (KEPT ≤ length (now w)) × (q < STATES) ⌝ }
+    ensures { λ r. ⌜ r ≡ anyBelow q (λ p. sameName (now (w .entry)) p q) ⌝ }
+{
+    let mut p: usize = 0;
+    while p < q {
+        let found = same_name(w, p, q);
+        if found {
+            return true;
+        }
+        p += 1;
+    }
+    false
+}
+
+// Whether one name is kept twice.
+fn kept_twice(w: &[u32]) -> bool
+    requires { ⌜ KEPT ≤ length (now w) ⌝ }
+    ensures { λ r. ⌜ r ≡ keptTwice (now (w .entry)) ⌝ }
+{
+    let mut q: usize = 0;
+    while q < STATES {
+        let found = named_before(w, q);
+        if found {
+            return true;
+        }
+        q += 1;
+    }
+    false
+}
+
+// ---- what a call asks first
+
+// What every call on an opened work space asks first: its length, then the tests of its live block, then its names.
 pub fn handed(w: &[u32]) -> Verdict
     ensures { λ r. ⌜ r ≡ handedOf (now (w .entry)) ⌝ }
 {
     if w.len() < LENGTH {
         return Verdict::Refused(Refusal::Full);
     }
-    tests_of(w)
+    let verdict = tests_of(w);
+    match verdict {
+        Verdict::Passed => {
+            let twice = kept_twice(w);
+            if twice {
+                return Verdict::Refused(Refusal::Muddled);
+            }
+            return Verdict::Passed;
+        }
+        Verdict::Refused(r) => {
+            return Verdict::Refused(r);
+        }
+    }
 }

@@ -26,6 +26,7 @@ use Rattle.opening.specs.declared.open.Opened.the-variants.{Accepted}
 use Rattle.opening.specs.declared.open.Opened.the-variants as opened
 use Rattle.opening.specs.Open.{End, end, openOf}
 use Rattle.opening.proofs.Accepted.{after-opening}
+use Rattle.opening.proofs.Behind.{open-long, open-apart}
 use Rattle.finishing.proofs.Starting.{start-rep}
 
 pub zeros : (x : Refusal) (w t w′ t′ : List ℕ) → w′ ≡ replicate (length w) 0 → t′ ≡ replicate (length t) 0 → finished (Refused x) w′ t′ ≡ refused x (length w) (length t)
@@ -69,19 +70,19 @@ module _ (w w₁ t : List ℕ) (a : code.RingsEnd) (e : endIs a w₁ ≡ finishW
 
 -- ---- a job is opened
 
-pub opening-left : (bytes : List ℕ) (n : ℕ) (w : List ℕ) → openOf bytes n ≡ end Accepted w → OpeningLeft w
-opening-left bytes n w e = let a = after-opening w bytes n e in record { long = a .ready .long; sound = a .sound; fresh = a .fresh }
+pub opening-left : (bytes lent w : List ℕ) → openOf bytes lent ≡ end Accepted w → OpeningLeft w
+opening-left bytes lent w e = let a = after-opening w bytes lent e in record { long = open-long bytes lent w e; sound = a .sound; apart = open-apart bytes lent w e; fresh = a .fresh }
 
-module _ (bytes : List ℕ) (n : ℕ) (w₁ t : List ℕ) (o : Opened) (e : end o w₁ ≡ openOf bytes n) where
+module _ (bytes lent w₁ t : List ℕ) (o : Opened) (e : end o w₁ ≡ openOf bytes lent) where
   pub may-finish : o ≡ Accepted → OpeningLeft w₁
-  may-finish h = opening-left bytes n w₁ (sym e ∙ ap (λ (a : Opened). end a w₁) h)
+  may-finish h = opening-left bytes lent w₁ (sym e ∙ ap (λ (a : Opened). end a w₁) h)
 
-  opened-as : afterOpening (end o w₁) t ≡ finishOf bytes n t
+  opened-as : afterOpening (end o w₁) t ≡ finishOf bytes lent t
   unfolding finishOf
   opened-as = ap (λ (z : End). afterOpening z t) e
 
-  pub job-accepted : (b : Written) (w′ t′ : List ℕ) → o ≡ Accepted → finished b w′ t′ ≡ afterSteps (finishRings w₁) t → finished b w′ t′ ≡ finishOf bytes n t
+  pub job-accepted : (b : Written) (w′ t′ : List ℕ) → o ≡ Accepted → finished b w′ t′ ≡ afterSteps (finishRings w₁) t → finished b w′ t′ ≡ finishOf bytes lent t
   job-accepted b w′ t′ h g = g ∙ sym (ap (λ (a : Opened). afterOpening (end a w₁) t) h) ∙ opened-as
 
-  pub job-refused : (x : Refusal) (b : Written) (w′ t′ : List ℕ) → o ≡ opened.Refused x → finished b w′ t′ ≡ refused x (length w₁) (length t) → finished b w′ t′ ≡ finishOf bytes n t
+  pub job-refused : (x : Refusal) (b : Written) (w′ t′ : List ℕ) → o ≡ opened.Refused x → finished b w′ t′ ≡ refused x (length w₁) (length t) → finished b w′ t′ ≡ finishOf bytes lent t
   job-refused x b w′ t′ h g = g ∙ sym (ap (λ (a : Opened). afterOpening (end a w₁) t) h) ∙ opened-as

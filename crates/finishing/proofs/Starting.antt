@@ -34,7 +34,7 @@ module _ (w : List ℕ) (o : OpeningLeft w) where
   F₀ = opening (records (raised .of) (view w)) (pts (view w))
 
   pub start-rep : RepW raised w F₀
-  start-rep = record { long = o .long; rep = opening-rep (raised .of) (view w) (o .sound) (o .fresh) }
+  start-rep = record { long = omega (arith, o .long); rep = opening-rep (raised .of) (view w) (o .sound) (o .fresh) }
 
   -- every ring is at its start, and has no more points than there are
   module _ (i : ℕ) (l : i < recs (view w)) where

@@ -51,7 +51,7 @@ fn finish_opened(work: &mut [u32], tray: &mut [u8]) -> Written
 
 // Finishes a job in one call: the answer, every word and every byte left.
 pub fn finish(bytes: &[u8], work: &mut [u32], tray: &mut [u8]) -> Written
-    ensures { λ r. ⌜ finished r (now (work .exit)) (now (tray .exit)) ≡ finishOf (now (bytes .entry)) (length (now (work .entry))) (now (tray .entry)) ⌝ }
+    ensures { λ r. ⌜ finished r (now (work .exit)) (now (tray .exit)) ≡ finishOf (now (bytes .entry)) (now (work .entry)) (now (tray .entry)) ⌝ }
 {
     let o = open(bytes, work);
     match o {

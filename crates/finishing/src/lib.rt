@@ -11,7 +11,6 @@ use steps::Answer;
 use steps::step::any_live;
 use steps::step::step_record;
 ghost use mathlib.Core.Path.{_≡_};
-ghost use lib.ListN.{length};
 ghost use Prim.Native.Nat.{_+_, _<_};
 ghost use Rattle.store.specs.Good.{SoundWords};
 ghost use Rattle.audit.specs.declared.Verdict.the-variants.{Passed};
@@ -31,7 +30,7 @@ pub enum Stepped {
 
 // Opens a job: its answer, and every word left.
 pub fn open(bytes: &[u8], work: &mut [u32]) -> Opened
-    ensures { λ r. ⌜ end r (now (work .exit)) ≡ openOf (now (bytes .entry)) (length (now (work .entry))) ⌝ }
+    ensures { λ r. ⌜ end r (now (work .exit)) ≡ openOf (now (bytes .entry)) (now (work .entry)) ⌝ }
 {
     opening::open::open(bytes, work)
 }

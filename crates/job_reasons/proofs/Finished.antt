@@ -39,24 +39,24 @@ call-told w i h = call-tells w i (h .work .tested) (h .known) (h .work .done)
 apart : {A : Type 0} (c o : ℕ) (x : Refusal) → Paths c o ≡ Refused x → A
 apart c o x e = let z : _≡_ {A = ℕ} 0 1 = cc in absurd (omega arith)
 
-module _ (bytes : List ℕ) (n : ℕ) (t w′ t′ : List ℕ) (c o : ℕ) (e : finished (Paths c o) w′ t′ ≡ finishOf bytes n t) where
+module _ (bytes lent t w′ t′ : List ℕ) (c o : ℕ) (e : finished (Paths c o) w′ t′ ≡ finishOf bytes lent t) where
   -- the job was accepted
   record Steps : Type 0 where
     from : List ℕ
-    opens : openOf bytes n ≡ end Accepted from
-    rising : ByRising bytes n from
+    opens : openOf bytes lent ≡ end Accepted from
+    rising : ByRising bytes lent from
 
   accepted : Steps
   unfolding finishOf
-  accepted = go (openOf bytes n) refl e
+  accepted = go (openOf bytes lent) refl e
     where
-      go : (r : End) → openOf bytes n ≡ r → finished (Paths c o) w′ t′ ≡ afterOpening r t → Steps
-      go (end Accepted w) h g = by (of-job bytes n w h .holds .either)
+      go : (r : End) → openOf bytes lent ≡ r → finished (Paths c o) w′ t′ ≡ afterOpening r t → Steps
+      go (end Accepted w) h g = by (of-job bytes lent w h .holds .either)
         where
           by : RingsFit w ⊎ RingsNeverEnd w → Steps
-          by (inl f) = record { from = w; opens = h; rising = of-job bytes n w h .ends f }
+          by (inl f) = record { from = w; opens = h; rising = of-job bytes lent w h .ends f }
           by (inr f) =
-              let d : finished (Paths c o) w′ t′ ≡ refused Full (length w) (length t) = g ∙ sym (ap (λ (z : End). afterOpening z t) h) ∙ of-job bytes n w h .overflows f t in
+              let d : finished (Paths c o) w′ t′ ≡ refused Full (length w) (length t) = g ∙ sym (ap (λ (z : End). afterOpening z t) h) ∙ of-job bytes lent w h .overflows f t in
               apart c o Full (ap (λ (z : Finished). z .answer) d)
       go (end (opened.Refused x) w) h g = apart c o x (ap (λ (z : Finished). z .answer) g)
 
@@ -73,35 +73,35 @@ module _ (bytes : List ℕ) (n : ℕ) (t w′ t′ : List ℕ) (c o : ℕ) (e : 
       go (Refused x) u g = apart c o x (ap (λ (f : Finished). f .answer) g)
 
   done : anyLive (view (runOf (accepted .from) (accepted .rising .steps))) ≡ false
-  done = of-job bytes n (accepted .from) (accepted .opens) .holds .after-every-list (accepted .rising .steps) .all-done .1 (accepted .rising .all-done)
+  done = of-job bytes lent (accepted .from) (accepted .opens) .holds .after-every-list (accepted .rising .steps) .all-done .1 (accepted .rising .all-done)
 
   pub tellable : Tellable w′
   tellable =
       record {
-        tested = ap handedOf words-are ∙ of-job bytes n (accepted .from) (accepted .opens) .holds .after-every-list (accepted .rising .steps) .tests-pass;
+        tested = ap handedOf words-are ∙ of-job bytes lent (accepted .from) (accepted .opens) .holds .after-every-list (accepted .rising .steps) .tests-pass;
         done = ap (λ (v : List ℕ). anyLive (view v)) words-are ∙ done;
       }
 
 -- of what finishing in one call leaves where it gives paths
-module _ (bytes : List ℕ) (n : ℕ) (t : List ℕ) (c o : ℕ) (h : finishOf bytes n t .answer ≡ Paths c o) where
-  given : finished (Paths c o) (left bytes n t) (finishOf bytes n t .tray) ≡ finishOf bytes n t
-  given = ap (λ (r : Written). finished r (left bytes n t) (finishOf bytes n t .tray)) (sym h)
+module _ (bytes lent t : List ℕ) (c o : ℕ) (h : finishOf bytes lent t .answer ≡ Paths c o) where
+  given : finished (Paths c o) (left bytes lent t) (finishOf bytes lent t .tray) ≡ finishOf bytes lent t
+  given = ap (λ (r : Written). finished r (left bytes lent t) (finishOf bytes lent t .tray)) (sym h)
 
-  pub left-tellable : Tellable (left bytes n t)
-  left-tellable = tellable bytes n t (left bytes n t) (finishOf bytes n t .tray) c o given
+  pub left-tellable : Tellable (left bytes lent t)
+  left-tellable = tellable bytes lent t (left bytes lent t) (finishOf bytes lent t .tray) c o given
 
   -- THE THEOREM: what each line tells is what the call tells, and what in fact ended the ring
-  pub in-fact : InFact bytes n t
+  pub in-fact : InFact bytes lent t
   unfolding reasonsOf
   in-fact =
-      let a = accepted bytes n t (left bytes n t) (finishOf bytes n t .tray) c o given in
-      let e = words-are bytes n t (left bytes n t) (finishOf bytes n t .tray) c o given in
+      let a = accepted bytes lent t (left bytes lent t) (finishOf bytes lent t .tray) c o given in
+      let e = words-are bytes lent t (left bytes lent t) (finishOf bytes lent t .tray) c o given in
       record {
-        text = ap (λ (r : Written). reasonsAs r (left bytes n t)) h;
-        calls = λ i l. call-told (left bytes n t) i (record { work = left-tellable; known = l });
+        text = ap (λ (r : Written). reasonsAs r (left bytes lent t)) h;
+        calls = λ i l. call-told (left bytes lent t) i (record { work = left-tellable; known = l });
         opened = a .from;
-        stages = stages bytes n (a .from) (a .opens);
+        stages = stages bytes lent (a .from) (a .opens);
         steps = a .rising .steps;
         words = e;
-        ends = λ i l. tells bytes n (a .from) (a .opens) (a .rising .steps) i (subst (λ (v : List ℕ). i < recs (view v)) e l) (done bytes n t (left bytes n t) (finishOf bytes n t .tray) c o given);
+        ends = λ i l. tells bytes lent (a .from) (a .opens) (a .rising .steps) i (subst (λ (v : List ℕ). i < recs (view v)) e l) (done bytes lent t (left bytes lent t) (finishOf bytes lent t .tray) c o given);
       }

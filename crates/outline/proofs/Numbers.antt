@@ -40,9 +40,9 @@ use Rattle.telling.specs.Within.{NumberWithin, ToldWithin}
 use Rattle.telling.proofs.Within.{told-within}
 use Rattle.outline.specs.Calls.{openedNumber, steppedNumber, writtenNumber, listedBytes, rewrittenNumber, reasonWord, toldNumber, rateFrom, worked, wrote, finished, listing, asOpened, asStepped, asWritten, asFinished, asListed, asRewritten, openC, stepC, writeC, finishC, listC, rewriteC, reasonC}
 
-pub as-opened : (bytes : List ℕ) (n k : ℕ) (a : Opened) (w : List ℕ) → end a w ≡ openOf bytes n → k ≡ openedNumber a → worked k w ≡ openC bytes n
+pub as-opened : (bytes lent : List ℕ) (k : ℕ) (a : Opened) (w : List ℕ) → end a w ≡ openOf bytes lent → k ≡ openedNumber a → worked k w ≡ openC bytes lent
 unfolding openC
-as-opened bytes n k a w e h = ap (λ (z : ℕ). worked z w) h ∙ ap asOpened e
+as-opened bytes lent k a w e h = ap (λ (z : ℕ). worked z w) h ∙ ap asOpened e
 
 pub as-stepped : (v : List ℕ) (i k : ℕ) (a : Stepped) (w : List ℕ) → step.left a w ≡ stepOf v i → k ≡ steppedNumber a → worked k w ≡ stepC v i
 unfolding stepC
@@ -52,9 +52,9 @@ pub as-written : (w u : List ℕ) (k : ℕ) (a : Written) (t : List ℕ) → pat
 unfolding writeC
 as-written w u k a t e h = ap (λ (z : ℕ). wrote z t) h ∙ ap asWritten e
 
-pub as-finished : (bytes : List ℕ) (n k : ℕ) (u : List ℕ) (a : Written) (w t : List ℕ) → call.finished a w t ≡ finishOf bytes n u → k ≡ writtenNumber a → finished k w t ≡ finishC bytes n u
+pub as-finished : (bytes lent : List ℕ) (k : ℕ) (u : List ℕ) (a : Written) (w t : List ℕ) → call.finished a w t ≡ finishOf bytes lent u → k ≡ writtenNumber a → finished k w t ≡ finishC bytes lent u
 unfolding finishC
-as-finished bytes n k u a w t e h = ap (λ (z : ℕ). finished z w t) h ∙ ap asFinished e
+as-finished bytes lent k u a w t e h = ap (λ (z : ℕ). finished z w t) h ∙ ap asFinished e
 
 -- ---- rewriting
 

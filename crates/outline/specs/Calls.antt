@@ -138,9 +138,9 @@ asListed l = listing (listedBytes (l .text .answer)) (l .words) (l .tray) (l .te
 abbrev pub asRewritten : Rewrote → Finished
 asRewritten l = finished (rewrittenNumber (l .answer)) (l .words) (l .tray)
 
--- `outline_open`, by the job's bytes and the length n of the work space
-unfoldable pub openC : List ℕ → ℕ → Worked
-openC bytes n = asOpened (openOf bytes n)
+-- `outline_open`, by the job's bytes and the lent work space
+unfoldable pub openC : List ℕ → List ℕ → Worked
+openC bytes lent = asOpened (openOf bytes lent)
 
 -- `outline_step`
 unfoldable pub stepC : List ℕ → ℕ → Worked
@@ -151,8 +151,8 @@ unfoldable pub writeC : List ℕ → List ℕ → Wrote
 writeC w t = asWritten (writeOf w t)
 
 -- `outline_finish`
-unfoldable pub finishC : List ℕ → ℕ → List ℕ → Finished
-finishC bytes n t = asFinished (finishOf bytes n t)
+unfoldable pub finishC : List ℕ → List ℕ → List ℕ → Finished
+finishC bytes lent t = asFinished (finishOf bytes lent t)
 
 -- `outline_list`, of the job's bytes, the words, the tray, the rate and the text: a text too short for some job's listing is left as found, and so is all else
 unfoldable pub listC : List ℕ → List ℕ → List ℕ → ℕ → List ℕ → Listing

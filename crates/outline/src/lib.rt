@@ -156,7 +156,7 @@ pub extern "C" fn outline_work_words() -> u64
 // Opens a job.
 #[no_mangle]
 pub extern "C" fn outline_open(job: &[u8], work: &mut [u32]) -> u32
-    ensures { λ r. ⌜ worked r (now (work .exit)) ≡ openC (now (job .entry)) (length (now (work .entry))) ⌝ }
+    ensures { λ r. ⌜ worked r (now (work .exit)) ≡ openC (now (job .entry)) (now (work .entry)) ⌝ }
 {
     let a = open(job, work);
     opened_number(a)
@@ -183,7 +183,7 @@ pub extern "C" fn outline_write(work: &[u32], tray: &mut [u8]) -> u32
 // Finishes a job in one call.
 #[no_mangle]
 pub extern "C" fn outline_finish(job: &[u8], work: &mut [u32], tray: &mut [u8]) -> u32
-    ensures { λ r. ⌜ finished r (now (work .exit)) (now (tray .exit)) ≡ finishC (now (job .entry)) (length (now (work .entry))) (now (tray .entry)) ⌝ }
+    ensures { λ r. ⌜ finished r (now (work .exit)) (now (tray .exit)) ≡ finishC (now (job .entry)) (now (work .entry)) (now (tray .entry)) ⌝ }
 {
     let a = finish(job, work, tray);
     written_number(a)

@@ -37,7 +37,7 @@ use turns::Act;
 use turns::decide::decide;
 ghost use Prim.Native.Nat.{_≤_};
 ghost use lib.ListN.{length};
-ghost use Rattle.store.specs.Field.{LENGTH};
+ghost use Rattle.store.specs.Field.{BLOCK};
 ghost use Rattle.store.specs.Good.{SoundWords};
 
 // ---- a step
@@ -141,7 +141,7 @@ fn listed(w: &mut [u32; LENGTH], steps: &[u8]) {
 
 // The listing of what writing out gives, in a lent slice; nothing after a refusal, which is printed.
 fn list(work: &[u32], tray: &mut [u8], out: &mut [u8]) -> usize
-    requires { ⌜ LENGTH ≤ length (now work) ⌝ }
+    requires { ⌜ BLOCK ≤ length (now work) ⌝ }
 {
     let r = write_out(work, tray);
     match r {

@@ -19,7 +19,7 @@ ghost use mathlib.Core.Path.{_≡_};
 ghost use Prim.Native.Nat.{_<_, _≤_};
 ghost use lib.ListN.{length};
 ghost use Rattle.job.specs.Limits as limit;
-ghost use Rattle.store.specs.Field.{rc, REASON, TAKER, LENGTH};
+ghost use Rattle.store.specs.Field.{rc, REASON, TAKER, BLOCK};
 ghost use Rattle.store.specs.Words.{view};
 ghost use Rattle.store.specs.Good.{SoundWords};
 ghost use Rattle.paths.specs.Walking.{Known};
@@ -47,7 +47,7 @@ pub enum Told {
 
 // Of a record without a ring: what it keeps.
 fn kept_reason(w: &[u32], i: usize) -> Reason
-    requires { ⌜ (LENGTH ≤ length (now w)) × (i < limit.RECORDS) ⌝ }
+    requires { ⌜ (BLOCK ≤ length (now w)) × (i < limit.RECORDS) ⌝ }
     ensures { λ r. ⌜ r ≡ keptReason (view (now (w .entry)) (rc REASON) i) (view (now (w .entry)) (rc TAKER) i) ⌝ }
 {
     let v = get(w, Col::Reason, i);

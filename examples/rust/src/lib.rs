@@ -38,7 +38,7 @@ pub const JOINS: usize = 256;
 /// A coordinate is at most so many micrometres either way.
 pub const COORDINATE: i32 = 1_048_576;
 /// The fixed length of a work space in words; a shorter one is refused with 10.
-pub const WORK_WORDS: usize = 16 + 5 * POINTS + 9 * RECORDS;
+pub const WORK_WORDS: usize = 5 * (16 + 5 * POINTS + 9 * RECORDS) + 4;
 /// A tray of so many bytes is always long enough.
 pub const TRAY_BYTES: usize = 3 * RECORDS + 8 * POINTS;
 /// The first so many bytes of a job decide what becomes of it: the longest job that is accepted, and one point more.

@@ -1,6 +1,6 @@
--- handed meets its contract: the length, then the tests.
+-- handed meets its contract: the length, the tests of the live block, then the names.
 use borrow.Author.Needs.{needs}
-use Rattle.audit.proofs.Handing.{says-short, says-tested}
+use Rattle.audit.proofs.Handing.{says-short, says-refused, says-twice, says-passed}
 use Rattle.audit.proofs.handed.Statement.{statement}
 use Rattle.audit.proofs.handed.Tie as tie
 
@@ -10,4 +10,9 @@ handed-spec =
     (tie.spec
     (λ c. search says-short)
     (λ c κs. search needs)
-    (λ c. search says-tested))
+    (λ c. search needs)
+    (λ c κs. search needs)
+    (λ c. search says-twice)
+    (λ c. search says-passed)
+    (λ c. search needs)
+    (λ c. search says-refused))
