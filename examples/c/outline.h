@@ -91,7 +91,9 @@ enum outline_refusal {
     OUTLINE_FULL = 10,         /* finishing needs more than 2,048 points or 512 records, or the work space is too short */
     OUTLINE_SMALL_TRAY = 11,   /* the paths, or the job that is written, need more bytes than the tray has */
     OUTLINE_OUT_OF_TURN = 12,  /* a step on a record that has none to take, the reason of an unknown record, or writing out or asking for a reason before every closed ring is done */
-    OUTLINE_BAD_RATE = 13      /* more than one rate is given, or one that is not a whole number from 1 to 1,000 */
+    OUTLINE_BAD_RATE = 13,     /* more than one rate is given, or one that is not a whole number from 1 to 1,000 */
+    OUTLINE_UNKNOWN_NAME = 14, /* going back to, or dropping, a name that is not kept */
+    OUTLINE_NO_PLACE = 15      /* keeping a fifth name */
 };
 
 /* ---- where a record's ring went */
@@ -136,6 +138,13 @@ uint32_t outline_open(const uint8_t *job, size_t job_bytes, uint32_t *work, size
  * points or records than there are; with 3 to 7: the work space is not one that these calls left. A refused step leaves every word as
  * found. Steps may be taken in any order; an offcut is a new record, with the next number. */
 uint32_t outline_step(uint32_t *work, size_t work_words, uint32_t record);
+
+/* Four states may be kept, each under a name of one byte. Keeping under a name that is kept replaces its state; going back makes points, records, progress, reasons and counts those kept, the name staying
+ * kept; dropping a name frees its place. Refused with 15: four other names are kept; with 14: the name isn't kept; with 3 to 7 as a step, and with 7 too if one name is kept twice. Refused: every word is
+ * as found. Opening a job keeps no name. */
+uint32_t outline_keep(uint32_t *work, size_t work_words, uint8_t name);
+uint32_t outline_go_back(uint32_t *work, size_t work_words, uint8_t name);
+uint32_t outline_drop(uint32_t *work, size_t work_words, uint8_t name);
 
 /* Writes the paths of a work space whose closed rings are all done into the tray; past them every byte is 0. Refused with 12: a closed ring isn't
  * done; with 11: the tray is too short; with 3 to 7 as a step. A refused writing out leaves every byte as found. The work space is only read. */

@@ -38,7 +38,10 @@ use Rattle.telling.specs.declared.Told.the-variants as telling
 use Rattle.telling.specs.Telling.{reasonOf}
 use Rattle.telling.specs.Within.{NumberWithin, ToldWithin}
 use Rattle.telling.proofs.Within.{told-within}
-use Rattle.outline.specs.Calls.{openedNumber, steppedNumber, writtenNumber, listedBytes, rewrittenNumber, reasonWord, toldNumber, rateFrom, worked, wrote, finished, listing, asOpened, asStepped, asWritten, asFinished, asListed, asRewritten, openC, stepC, writeC, finishC, listC, rewriteC, reasonC}
+use Rattle.states.specs.declared.Answer.{Answer}
+use Rattle.states.specs.Calls as states
+use Rattle.states.specs.Calls.{keepOf, goBackOf, dropOf}
+use Rattle.outline.specs.Calls.{openedNumber, steppedNumber, stateNumber, writtenNumber, listedBytes, rewrittenNumber, reasonWord, toldNumber, rateFrom, worked, wrote, finished, listing, asOpened, asStepped, asKept, asWritten, asFinished, asListed, asRewritten, openC, stepC, keepC, backC, dropC, writeC, finishC, listC, rewriteC, reasonC}
 
 pub as-opened : (bytes lent : List ℕ) (k : ℕ) (a : Opened) (w : List ℕ) → end a w ≡ openOf bytes lent → k ≡ openedNumber a → worked k w ≡ openC bytes lent
 unfolding openC
@@ -47,6 +50,19 @@ as-opened bytes lent k a w e h = ap (λ (z : ℕ). worked z w) h ∙ ap asOpened
 pub as-stepped : (v : List ℕ) (i k : ℕ) (a : Stepped) (w : List ℕ) → step.left a w ≡ stepOf v i → k ≡ steppedNumber a → worked k w ≡ stepC v i
 unfolding stepC
 as-stepped v i k a w e h = ap (λ (z : ℕ). worked z w) h ∙ ap asStepped e
+
+module _ (v : List ℕ) (n k : ℕ) (a : Answer) (w : List ℕ) (h : k ≡ stateNumber a) where
+  pub as-kept : states.left a w ≡ keepOf v n → worked k w ≡ keepC v n
+  unfolding keepC
+  as-kept e = ap (λ (z : ℕ). worked z w) h ∙ ap asKept e
+
+  pub as-back : states.left a w ≡ goBackOf v n → worked k w ≡ backC v n
+  unfolding backC
+  as-back e = ap (λ (z : ℕ). worked z w) h ∙ ap asKept e
+
+  pub as-dropped : states.left a w ≡ dropOf v n → worked k w ≡ dropC v n
+  unfolding dropC
+  as-dropped e = ap (λ (z : ℕ). worked z w) h ∙ ap asKept e
 
 pub as-written : (w u : List ℕ) (k : ℕ) (a : Written) (t : List ℕ) → paths.wrote a t ≡ writeOf w u → k ≡ writtenNumber a → wrote k t ≡ writeC w u
 unfolding writeC

@@ -16,6 +16,10 @@ use Rattle.opening.specs.declared.open.Opened.the-variants as opened
 use Rattle.opening.specs.Open.{End, end, openOf}
 use Rattle.finishing.specs.declared.Stepped.{Stepped}
 use Rattle.finishing.specs.declared.Stepped.the-variants as stepped
+use Rattle.states.specs.declared.Answer.{Answer}
+use Rattle.states.specs.declared.Answer.the-variants as answer
+use Rattle.states.specs.Calls as states
+use Rattle.states.specs.Calls.{keepOf, goBackOf, dropOf}
 use Rattle.finishing.specs.Step as step
 use Rattle.finishing.specs.Step.{stepOf}
 use Rattle.finishing.specs.Write.{writeOf}
@@ -44,6 +48,10 @@ openedNumber (opened.Refused x) = numberOf x
 abbrev pub steppedNumber : Stepped → ℕ
 steppedNumber stepped.Done = 0
 steppedNumber (stepped.Refused x) = numberOf x
+
+abbrev pub stateNumber : Answer → ℕ
+stateNumber answer.Done = 0
+stateNumber (answer.Refused x) = numberOf x
 
 abbrev pub writtenNumber : Written → ℕ
 writtenNumber (written.Paths closed open′) = 0
@@ -126,6 +134,9 @@ asOpened (end a w) = worked (openedNumber a) w
 abbrev pub asStepped : step.Left → Worked
 asStepped l = worked (steppedNumber (l .answer)) (l .words)
 
+abbrev pub asKept : states.Left → Worked
+asKept l = worked (stateNumber (l .answer)) (l .words)
+
 abbrev pub asWritten : paths.Wrote → Wrote
 asWritten l = wrote (writtenNumber (l .answer)) (l .tray)
 
@@ -145,6 +156,16 @@ openC bytes lent = asOpened (openOf bytes lent)
 -- `outline_step`
 unfoldable pub stepC : List ℕ → ℕ → Worked
 stepC w i = asStepped (stepOf w i)
+
+-- `outline_keep`, `outline_go_back`, `outline_drop`
+unfoldable pub keepC : List ℕ → ℕ → Worked
+keepC w n = asKept (keepOf w n)
+
+unfoldable pub backC : List ℕ → ℕ → Worked
+backC w n = asKept (goBackOf w n)
+
+unfoldable pub dropC : List ℕ → ℕ → Worked
+dropC w n = asKept (dropOf w n)
 
 -- `outline_write`
 unfoldable pub writeC : List ℕ → List ℕ → Wrote

@@ -13,6 +13,10 @@ use paths::tag_of;
 use rates::Rate;
 use rewriting::Rewritten;
 use rewriting::rewrite;
+use states::Answer;
+use states::drop;
+use states::go_back;
+use states::keep;
 use store::LENGTH;
 use telling::Reason;
 use telling::Told;
@@ -26,7 +30,7 @@ ghost use Rattle.prefix.specs.Decides.{LONGEST};
 ghost use Rattle.rewriting.specs.Answers.{BytesWithin};
 ghost use Rattle.paths.specs.Tray.{tagOf};
 ghost use Rattle.telling.specs.Within.{NumberWithin, ToldWithin};
-ghost use Rattle.outline.specs.Calls.{openedNumber, steppedNumber, writtenNumber, listedBytes, rewrittenNumber, reasonWord, toldNumber, rateFrom, worked, wrote, finished, listing, openC, stepC, writeC, finishC, listC, rewriteC, reasonC};
+ghost use Rattle.outline.specs.Calls.{openedNumber, steppedNumber, stateNumber, writtenNumber, listedBytes, rewrittenNumber, reasonWord, toldNumber, rateFrom, worked, wrote, finished, listing, openC, stepC, keepC, backC, dropC, writeC, finishC, listC, rewriteC, reasonC};
 
 // ---- the numbers of answers
 
@@ -45,6 +49,15 @@ fn stepped_number(a: Stepped) -> u32
     match a {
         Stepped::Done => 0,
         Stepped::Refused(x) => x.number(),
+    }
+}
+
+fn state_number(a: Answer) -> u32
+    ensures { λ r. ⌜ r ≡ stateNumber a ⌝ }
+{
+    match a {
+        Answer::Done => 0,
+        Answer::Refused(x) => x.number(),
     }
 }
 
@@ -169,6 +182,33 @@ pub extern "C" fn outline_step(work: &mut [u32], number: u32) -> u32
 {
     let a = step(work, number);
     stepped_number(a)
+}
+
+// Keeps the live state under a name.
+#[no_mangle]
+pub extern "C" fn outline_keep(work: &mut [u32], name: u8) -> u32
+    ensures { λ r. ⌜ worked r (now (work .exit)) ≡ keepC (now (work .entry)) name ⌝ }
+{
+    let a = keep(work, name);
+    state_number(a)
+}
+
+// Goes back to the state that a name keeps.
+#[no_mangle]
+pub extern "C" fn outline_go_back(work: &mut [u32], name: u8) -> u32
+    ensures { λ r. ⌜ worked r (now (work .exit)) ≡ backC (now (work .entry)) name ⌝ }
+{
+    let a = go_back(work, name);
+    state_number(a)
+}
+
+// Drops a name.
+#[no_mangle]
+pub extern "C" fn outline_drop(work: &mut [u32], name: u8) -> u32
+    ensures { λ r. ⌜ worked r (now (work .exit)) ≡ dropC (now (work .entry)) name ⌝ }
+{
+    let a = drop(work, name);
+    state_number(a)
 }
 
 // Writes all paths into the tray.

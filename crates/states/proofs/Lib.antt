@@ -1,0 +1,4 @@
+-- Laws of kept states.
+pub mod Lowest
+pub mod Copying
+pub mod Calling
