@@ -2,3 +2,5 @@
 pub mod Lowest
 pub mod Copying
 pub mod Calling
+pub mod Words
+pub mod Others
