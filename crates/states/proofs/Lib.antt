@@ -4,3 +4,4 @@ pub mod Copying
 pub mod Calling
 pub mod Words
 pub mod Others
+pub mod Examples
