@@ -122,10 +122,22 @@ pub fn names(w: &mut [u32], rng: &mut Rng) -> String {
     let other = (place + 1 + rng.below(STATES - 1)) % STATES;
     let name = 1 + rng.below(256) as u32;
     let word = rng.pick(&[w[NAMES + other], name, 1, 256, 257, 65_536 + name, u32::MAX, 0]);
-    if rng.one_in(2) {
+    if !rng.one_in(4) {
         put(w, NAMES + other, word);
     }
     put(w, NAMES + place, word) + &format!(", and word {} is {}", NAMES + other, w[NAMES + other])
+}
+
+/// Names, and beside them a count, a coordinate, a link or nothing, so that the order of the tests shows.
+pub fn names_beside(w: &mut [u32], rng: &mut Rng) -> String {
+    let said = names(w, rng);
+    let beside = match (rng.below(4), ring_point(rng, w)) {
+        (0, _) => count(w, rng),
+        (1, Some(p)) => put(w, rng.pick(&[X, Y]) + p, rng.pick(&[(1 << 21) + 1, u32::MAX])),
+        (2, _) => point_word(w, rng),
+        _ => return said,
+    };
+    format!("{said}; {beside}")
 }
 
 /// A record loses its ring, or the reason or the taker of one without is another.

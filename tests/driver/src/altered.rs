@@ -1,6 +1,6 @@
 // Kind `altered`: a work space after opening and some steps, some words altered; then steps and writing out against the plain
 // reading of the tests, then 12, then 10; where a step is carried out, against the model loaded from the words.
-use crate::alter::{alter, kept, made_up, names, progress};
+use crate::alter::{alter, kept, made_up, names_beside, progress};
 use crate::calls::{Calls, Fault};
 use crate::finish::tray_length;
 use crate::model::{load, same_forest, stray};
@@ -77,7 +77,7 @@ pub fn case(room: &mut Room, seed: u64, index: u64, rng: &mut Rng) -> Same {
         room.trace.push(said);
     }
     if !elsewhere && rng.one_in(6) {
-        let said = names(&mut room.work.get_mut()[..KEPT], rng);
+        let said = names_beside(&mut room.work.get_mut()[..KEPT], rng);
         room.trace.push(said);
     }
     if rng.one_in(30) {

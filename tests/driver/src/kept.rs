@@ -1,7 +1,7 @@
 // Kind `kept`: lists of calls on one work space. Steps, keeping, going back, dropping, writing out, asking for a reason, each in short work spaces too; opening again, finishing, listing
 // and writing a job over what is kept; names, copies and live words altered. Where only calls wrote, or names were altered, the states are those of the oracle's trails, which keep no copy;
 // the plain readings tell every other answer. All words are held against a shadow, on which the calls are carried out as the plain reading has them.
-use crate::alter::{alter, names};
+use crate::alter::{alter, names, names_beside};
 use crate::altered;
 use crate::finish::tray_length;
 use crate::listed::TEXT;
@@ -541,7 +541,7 @@ fn spoilt(room: &mut Room, rng: &mut Rng, list: &mut List) -> Same {
                 said.push(crate::alter::kept(w, rng));
             }
             if rng.one_in(2) {
-                said.push(names(w, rng));
+                said.push(names_beside(w, rng));
             }
             said.join("; ")
         });

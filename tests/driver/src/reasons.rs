@@ -1,6 +1,6 @@
 // Kind `reasons`: outline_reason after opening, steps in any order and finishing in one call, against what happened in the oracle's stepping model; on altered
 // work spaces, against a plain reading of document 02, Ask 5. The work space is only read.
-use crate::alter::{alter, kept, made_up, names};
+use crate::alter::{alter, kept, made_up, names_beside};
 use crate::finish::read_tray;
 use crate::open::open_job;
 use crate::plain;
@@ -219,8 +219,8 @@ fn altered(room: &mut Room, rng: &mut Rng) -> Same {
         let said = if rng.one_in(4) { alter(w, rng) } else { kept(w, rng) };
         room.trace.push(said);
     }
-    if rng.one_in(8) {
-        room.trace.push(names(w, rng));
+    if rng.one_in(4) {
+        room.trace.push(names_beside(w, rng));
     }
     for _ in 0..4 {
         let w = room.work.get();
