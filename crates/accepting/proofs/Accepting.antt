@@ -7,7 +7,7 @@ use native.Mathlib.Omega.{arith}
 use lib.ListN.{length}
 use Rattle.job.specs.declared.Job.{Job}
 use Rattle.job.specs.declared.refusal.Refusal.{Refusal}
-use Rattle.store.specs.Field.{LENGTH, ct, SETTINGS, POINTS, RECORDS}
+use Rattle.store.specs.Field.{BLOCK, ct, SETTINGS, POINTS, RECORDS}
 use Rattle.store.specs.Words.{write}
 use Rattle.store.specs.Named.{pointsOf, recordsOf, firstOf}
 use Rattle.store.proofs.Storing.{length-writes}
@@ -49,7 +49,7 @@ read-whole bytes w ss js s j v ts ks e = by (fillOf bytes w ss js) refl e (field
         let c : us ≡ ts = cc (d) in
         let k : ls ≡ ks = cc (d) in
         let l = length-writes u (write (ct SETTINGS) 0 (i .bits) ∷ write (ct POINTS) 0 (i .points) ∷ write (ct RECORDS) 0 (i .records) ∷ []) in
-        let n : LENGTH ≤ length u = omega (arith, s .words, g .words) in
+        let n : BLOCK ≤ length u = omega (arith, s .words, g .words) in
         rw (← a, ← b, ← c, ← k)
         (record {
           counts = counts u i n (g .within);

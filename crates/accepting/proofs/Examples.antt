@@ -6,7 +6,7 @@ use lib.ListN.{replicate}
 use Rattle.job.specs.Limits.{SEGMENTS, JOINS}
 use Rattle.job.specs.Field.{bodyOf, fieldOf}
 use Rattle.job.specs.Refusal.{numberOf}
-use Rattle.store.specs.Field.{LENGTH}
+use Rattle.store.specs.Field.{BLOCK}
 use Rattle.store.specs.Words.{cell, put}
 use Rattle.audit.specs.Tests.{anyBelow}
 use Rattle.reading.specs.declared.fill.Outcome.the-variants.{Ok, Refused}
@@ -88,6 +88,6 @@ rows =
     ∷ row (settings ++ at 7 0 0 1 ++ record-at 0 0 ++ owned 1 ++ segment) 0
     ∷ []
 
-pub holds : map (λ (r : Row). said (acceptOf (r .job) (replicate LENGTH 0) (replicate SEGMENTS 0) (replicate (2 * JOINS) 0))) rows ≡ map (λ (r : Row). r .says) rows
+pub holds : map (λ (r : Row). said (acceptOf (r .job) (replicate BLOCK 0) (replicate SEGMENTS 0) (replicate (2 * JOINS) 0))) rows ≡ map (λ (r : Row). r .says) rows
 unfolding acceptOf readOf fillOf run turnOf fieldOf bodyOf rowsOf endsIn findIn anyIn walk.run anyBelow cell put
 holds = refl

@@ -12,7 +12,7 @@ use Rattle.lone.specs.Lone.{Geo}
 use Rattle.lone.specs.Forest.{Answer, ok, full, outOfTurn}
 use Rattle.lone.specs.Act.{Act, stay, discard, dropPoint, moveOn, toFirst, double, cut}
 use Rattle.store.proofs.Storing.{ends, length-put, length-writes}
-use Rattle.store.specs.Field.{Field, size, base, LENGTH}
+use Rattle.store.specs.Field.{Field, size, base, BLOCK}
 use Rattle.store.specs.Good.{Sound}
 use Rattle.store.specs.Words.{Store, Write, cell, put, view, onWords}
 use Rattle.store.specs.Stores.{Within}
@@ -25,7 +25,7 @@ use Rattle.acts.proofs.Readiness.{ready}
 use Rattle.acts.proofs.Stepping.{Able, able}
 
 module _ (m : List ℕ) where
-  cell-more : (v : List ℕ) → LENGTH ≤ length v → (f : Field) (i : ℕ) → cell f (v ++ m) i ≡ cell f v i
+  cell-more : (v : List ℕ) → BLOCK ≤ length v → (f : Field) (i : ℕ) → cell f (v ++ m) i ≡ cell f v i
   unfolding cell
   cell-more v l f i = go (ltb i (size f)) refl
     where
@@ -34,18 +34,18 @@ module _ (m : List ℕ) where
       go false e = refl
 
   -- the words hold the same store
-  pub view-more : (v : List ℕ) → LENGTH ≤ length v → view (v ++ m) ≡ view v
+  pub view-more : (v : List ℕ) → BLOCK ≤ length v → view (v ++ m) ≡ view v
   view-more v l = fun-ext (λ f. fun-ext (λ i. cell-more v l f i))
 
-  put-more : (v : List ℕ) → LENGTH ≤ length v → (x : Write) (xs : List Write) → Within (x ∷ xs) → put (x .to) (v ++ m) (x .at) (x .is) ≡ put (x .to) v (x .at) (x .is) ++ m
+  put-more : (v : List ℕ) → BLOCK ≤ length v → (x : Write) (xs : List Write) → Within (x ∷ xs) → put (x .to) (v ++ m) (x .at) (x .is) ≡ put (x .to) v (x .at) (x .is) ++ m
   unfolding put
   put-more v l x xs h = set-append-left v m (base (x .to) + x .at) (x .is) (omega (arith, ends (x .to) (x .at) (h .0)))
 
-  pub writes-more : (v : List ℕ) → LENGTH ≤ length v → (xs : List Write) → Within xs → onWords (v ++ m) xs ≡ onWords v xs ++ m
+  pub writes-more : (v : List ℕ) → BLOCK ≤ length v → (xs : List Write) → Within xs → onWords (v ++ m) xs ≡ onWords v xs ++ m
   writes-more v l [] h = refl
   writes-more v l (x ∷ xs) h = ap (λ (u : List ℕ). onWords u xs) (put-more v l x xs h) ∙ writes-more (put (x .to) v (x .at) (x .is)) (omega (arith, length-put (x .to) v (x .at) (x .is))) xs (h .1)
 
-  module _ {P : Type 0} (f : Coding P) (v : List ℕ) (l : LENGTH ≤ length v) (i : ℕ) where
+  module _ {P : Type 0} (f : Coding P) (v : List ℕ) (l : BLOCK ≤ length v) (i : ℕ) where
     -- an act whose writes are a list made from the store
     by-list : (ws : Store → List Write) → Within (ws (view v)) → onWords (v ++ m) (ws (view (v ++ m))) ≡ onWords v (ws (view v)) ++ m
     by-list ws h = ap (λ (s : Store). onWords (v ++ m) (ws s)) (view-more v l) ∙ writes-more v l (ws (view v)) h
@@ -60,7 +60,7 @@ module _ (m : List ℕ) where
     after-more (cut a p off d) h =
         let r : Store → List Write = λ (s : Store). ringWrites f s i a p d in
         let u : List ℕ = onWords v (r (view v)) in
-        let k : LENGTH ≤ length u = omega (arith, length-writes v (r (view v))) in
+        let k : BLOCK ≤ length u = omega (arith, length-writes v (r (view v))) in
         ap (λ (s : Store). onWords (onWords (v ++ m) (r s)) (offWrites f s (view (onWords (v ++ m) (r s))) i a off)) (view-more v l)
         ∙ ap (λ (t : List ℕ). onWords t (offWrites f (view v) (view t) i a off)) (writes-more v l (r (view v)) (h .0))
         ∙ ap (λ (s : Store). onWords (u ++ m) (offWrites f (view v) s i a off)) (view-more u k)

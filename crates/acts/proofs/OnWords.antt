@@ -12,7 +12,7 @@ use Rattle.rings.specs.Progress.{Due}
 use Rattle.rings.specs.Whole.{Whole}
 use Rattle.lone.specs.Act.{Act, stay, discard, dropPoint, moveOn, toFirst, double, cut, takesPoints}
 use Rattle.store.proofs.Storing.{view-writes, length-writes}
-use Rattle.store.specs.Field.{pt, rc, NEXT, PREV, PRESENT, LENGTH}
+use Rattle.store.specs.Field.{pt, rc, NEXT, PREV, PRESENT, BLOCK}
 use Rattle.store.specs.Sound.{pts, recs, Closed}
 use Rattle.store.specs.Good.{Sound}
 use Rattle.store.specs.Words.{Store, Write, view, onWords}
@@ -79,7 +79,7 @@ module _ {P : Type 0} (f : Coding P) where
   Inside w i (cut v put off d) = Within (ringWrites f (view w) i v put d) × Within (offWrites f (view w) (view (onWords w (ringWrites f (view w) i v put d))) i v off)
 
   -- so the words show the store
-  view-inside : (w : List ℕ) (i : ℕ) → LENGTH ≤ length w → (act : Act P) → Inside w i act → view (afterW f w i act) ≡ after f (view w) i act
+  view-inside : (w : List ℕ) (i : ℕ) → BLOCK ≤ length w → (act : Act P) → Inside w i act → view (afterW f w i act) ≡ after f (view w) i act
   view-inside w i l stay h = refl
   view-inside w i l (discard y) h = view-writes w (discardWrites i y) l h
   view-inside w i l dropPoint h = view-writes w (dropWrites (view w) i) l h
@@ -91,7 +91,7 @@ module _ {P : Type 0} (f : Coding P) where
       view-writes (onWords w r) (offWrites f (view w) (view (onWords w r)) i v off) (omega (arith, length-writes w r)) (h .1)
       ∙ ap (λ (s : Store). onStore s (offWrites f (view w) s i v off)) (view-writes w r l (h .0))
 
-  module _ (w : List ℕ) (long : LENGTH ≤ length w) (o : Sound (view w)) (i : ℕ) (c : Closed (view w) i) where
+  module _ (w : List ℕ) (long : BLOCK ≤ length w) (o : Sound (view w)) (i : ℕ) (c : Closed (view w) i) where
     k : i < 512
     k = omega (arith, c .known, o .few-records)
 

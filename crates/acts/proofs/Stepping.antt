@@ -18,7 +18,7 @@ use Rattle.lone.specs.Lone.{Geo, actOf, offcutRing, takesRing}
 use Rattle.lone.specs.Order.{machine}
 use Rattle.lone.specs.Act.{Act, stay, discard, dropPoint, moveOn, toFirst, double, cut, offcut, takesPoints, ringsNew}
 use Rattle.lone.specs.Forest as forest
-use Rattle.store.specs.Field.{rc, START, CUT, REASON, LENGTH}
+use Rattle.store.specs.Field.{rc, START, CUT, REASON, BLOCK}
 use Rattle.store.specs.Reason.{discardOf}
 use Rattle.store.specs.Sound.{pts, recs, ringless, isOpen, dueAt, Closed, loneDue, loneAt}
 use Rattle.store.specs.Good.{Sound}
@@ -219,7 +219,7 @@ module _ {P : Type 0} (G : Geo P) (f : Coding P) where
       go outOfTurn = refl
 
   -- the step on words is the step on the store, for every sound one
-  pub view-step : Laws G f → (w : List ℕ) (i : ℕ) → LENGTH ≤ length w → Sound (view w) → view (stepW G f w i) ≡ stepS G f (view w) i
+  pub view-step : Laws G f → (w : List ℕ) (i : ℕ) → BLOCK ≤ length w → Sound (view w) → view (stepW G f w i) ≡ stepS G f (view w) i
   unfolding stepW stepS
   view-step Λ w i l o = by (answerS G f (view w) i) refl
     where
@@ -229,7 +229,7 @@ module _ {P : Type 0} (G : Geo P) (f : Coding P) where
       by outOfTurn e = refl
 
   -- a work space that is long enough and sound stays so
-  pub stepW-sound : Laws G f → (w : List ℕ) (i : ℕ) → LENGTH ≤ length w → Sound (view w) → Sound (view (stepW G f w i))
+  pub stepW-sound : Laws G f → (w : List ℕ) (i : ℕ) → BLOCK ≤ length w → Sound (view w) → Sound (view (stepW G f w i))
   stepW-sound Λ w i l o = rw (view-step Λ w i l o) (step-sound G f (view w) i Λ o)
 
   pub stepW-is : Laws G f → (w : List ℕ) (F : Forest (Ring P) (List P)) → RepW f w F → (i : ℕ) → RepW f (stepW G f w i) (stepForest (machine G) 2048 512 F i)

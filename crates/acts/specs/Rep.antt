@@ -6,7 +6,7 @@ use mathlib.Core.List.{List}
 use lib.ListN.{length}
 use Rattle.rings.specs.Progress.{Due, validity, removal, triangle, split, done, Ring}
 use Rattle.lone.specs.Forest.{Forest, at, cutFrom}
-use Rattle.store.specs.Field.{rc, START, CUT, LENGTH}
+use Rattle.store.specs.Field.{rc, START, CUT, BLOCK}
 use Rattle.store.specs.Words.{Store, view}
 use Rattle.store.specs.Sound.{pts, recs, dueAt, Closed}
 use Rattle.acts.specs.Apply.{Coding}
@@ -33,5 +33,5 @@ pub record Rep {P : Type 0} (of : ℕ → ℕ → P) (s : Store) (F : Forest (Ri
 
 -- the same of words
 pub record RepW {P : Type 0} (f : Coding P) (w : List ℕ) (F : Forest (Ring P) (List P)) : Type 0 where
-  pub long : LENGTH ≤ length w
+  pub long : BLOCK ≤ length w
   pub rep : Rep (f .of) (view w) F

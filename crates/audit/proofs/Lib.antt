@@ -7,4 +7,5 @@ pub mod Ringing
 pub mod Deciding
 pub mod Trying
 pub mod Agreeing
+pub mod Handing
 mod Examples

@@ -13,7 +13,7 @@ use borrow.Author.Tests.{lt-ltb, le-ltb, ltb-true, ltb-false}
 use Rattle.job.specs.Limits as limit
 use Rattle.rings.specs.Count.{occ}
 use Rattle.rings.proofs.Counting.{one-else, occ-head}
-use Rattle.store.specs.Field.{LENGTH}
+use Rattle.store.specs.Field.{BLOCK}
 use Rattle.store.specs.Named.{pointsOf, recordsOf, nextOf, firstOf}
 use Rattle.audit.specs.declared.Verdict.{Verdict}
 use Rattle.audit.specs.declared.PointTest.{PointTest}
@@ -89,7 +89,7 @@ counts false false e = (refl, refl)
 counts false true e = let z : _≡_ {A = ℕ} 0 1 = cc in absurd (omega arith)
 counts true b e = let z : _≡_ {A = ℕ} 0 1 = cc in absurd (omega arith)
 
-pub counted : (w : List ℕ) (b : Bool) → LENGTH ≤ length w → b ≡ crowded w → b ≡ false → Counted w
+pub counted : (w : List ℕ) (b : Bool) → BLOCK ≤ length w → b ≡ crowded w → b ≡ false → Counted w
 counted w b l e h =
     let q = counts (ltb limit.POINTS (pointsOf w)) (ltb limit.RECORDS (recordsOf w)) (sym e ∙ h) in
     record { long = l; points = ltb-false limit.POINTS (pointsOf w) (q .0); records = ltb-false limit.RECORDS (recordsOf w) (q .1) }

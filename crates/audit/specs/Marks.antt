@@ -9,7 +9,7 @@ use Rattle.job.specs.Limits as limit
 use Rattle.job.specs.declared.refusal.Refusal.the-variants.{OffTheTable, NoSuch, Loose, Muddled}
 use Rattle.audit.specs.declared.Verdict.{Verdict}
 use Rattle.audit.specs.declared.Verdict.the-variants.{Passed, Refused}
-use Rattle.store.specs.Field.{LENGTH}
+use Rattle.store.specs.Field.{BLOCK}
 use Rattle.store.specs.Named.{pointsOf, recordsOf, nextOf, prevOf, recOf, firstOf}
 use Rattle.audit.specs.Tests.{anyBelow, anyRecord, offTable, noSuch, loose, noSuchOf, lostTaker, misplaced, untold, testsOf}
 use Rattle.audit.specs.declared.PointTest.{PointTest}
@@ -19,7 +19,7 @@ use Rattle.audit.specs.declared.RecordTest.the-variants.{Named, Taken, P
 
 -- a work space whose counts are within the limits
 pub record Counted (w : List ℕ) : Type 0 where
-  pub long : LENGTH ≤ length w
+  pub long : BLOCK ≤ length w
   pub points : pointsOf w ≤ limit.POINTS
   pub records : recordsOf w ≤ limit.RECORDS
 

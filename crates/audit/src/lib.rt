@@ -1,8 +1,10 @@
 // The tests of a handed work space: read only, linear in points and records.
+mod names;
 mod points;
 mod records;
 mod walks;
 
+use crate::names::names_tested;
 use crate::points::loose;
 use crate::points::no_such;
 use crate::points::off_table;
@@ -16,15 +18,17 @@ use crate::walks::mark_all;
 use job::Job;
 use job::refusal::Refusal;
 use store::Col;
+use store::LENGTH;
 use store::get;
 ghost use mathlib.Core.Path.{_≡_};
 ghost use mathlib.Core.Bool.{_||_};
 ghost use Prim.Native.Nat.{_≤_};
 ghost use lib.ListN.{length};
-ghost use Rattle.store.specs.Field.{LENGTH};
+ghost use Rattle.store.specs.Field.{BLOCK, LENGTH};
 ghost use Rattle.store.specs.Named.{recordsOf};
 ghost use Rattle.audit.specs.Tests.{anyBelow, noSuchOf, lostTaker, misplaced, untold, crowded, anyRecord, testsOf};
 ghost use Rattle.audit.specs.declared.PointTest.the-variants.{Numbers};
+ghost use Rattle.audit.specs.Handed.{testedOf, handedOf};
 ghost use Rattle.audit.specs.Marks.{Counted, Clear, Looked, fails, failsOf, anyMarked, linksOf, passesOf};
 
 // As many points as a small array has marks for: zeros for all that a job may have would cost a small one more than its tests.
@@ -33,6 +37,12 @@ const FEW: usize = 64;
 // What the tests of a work space say.
 pub enum Verdict {
     Passed,
+    Refused(Refusal),
+}
+
+// What a call answers that changes what it is lent: done, or a refusal.
+pub enum Reply {
+    Done,
     Refused(Refusal),
 }
 
@@ -53,7 +63,7 @@ pub enum RecordTest {
 
 // Whether a count is above its limit.
 fn crowded(w: &[u32]) -> bool
-    requires { ⌜ LENGTH ≤ length (now w) ⌝ }
+    requires { ⌜ BLOCK ≤ length (now w) ⌝ }
     ensures { λ r. ⌜ r ≡ crowded (now (w .entry)) ⌝ }
 {
     let m = get(w, Col::Points, 0);
@@ -64,7 +74,7 @@ fn crowded(w: &[u32]) -> bool
 // ---- one test, by its name
 
 pub fn point_fails(w: &[u32], t: PointTest, k: usize) -> bool
-    requires { ⌜ LENGTH ≤ length (now w) ⌝ }
+    requires { ⌜ BLOCK ≤ length (now w) ⌝ }
     ensures { λ r. ⌜ r ≡ fails t (now (w .entry)) k ⌝ }
 {
     match t {
@@ -81,7 +91,7 @@ pub fn point_fails(w: &[u32], t: PointTest, k: usize) -> bool
 }
 
 fn record_fails(w: &[u32], t: RecordTest, i: usize) -> bool
-    requires { ⌜ LENGTH ≤ length (now w) ⌝ }
+    requires { ⌜ BLOCK ≤ length (now w) ⌝ }
     ensures { λ r. ⌜ r ≡ failsOf t (now (w .entry)) i ⌝ }
 {
     match t {
@@ -102,7 +112,7 @@ fn record_fails(w: &[u32], t: RecordTest, i: usize) -> bool
 
 // Whether a record fails the test.
 pub fn any_record(w: &[u32], t: RecordTest) -> bool
-    requires { ⌜ LENGTH ≤ length (now w) ⌝ }
+    requires { ⌜ BLOCK ≤ length (now w) ⌝ }
     ensures { λ r. ⌜ r ≡ anyBelow (recordsOf (now (w .entry))) (failsOf t (now (w .entry))) ⌝ }
 {
     let n = get(w, Col::Records, 0);
@@ -121,7 +131,7 @@ pub fn any_record(w: &[u32], t: RecordTest) -> bool
 
 // Whether a number names nothing: of a marked point, a record's owner's or first point's, or a taker's.
 fn any_no_such(w: &[u32], marks: &[u8]) -> bool
-    requires { ⌜ LENGTH ≤ length (now w) ⌝ }
+    requires { ⌜ BLOCK ≤ length (now w) ⌝ }
     ensures { λ r. ⌜ r ≡ (anyMarked (now (w .entry)) (now (marks .entry)) Numbers || (anyRecord (now (w .entry)) (noSuchOf (now (w .entry))) || anyRecord (now (w .entry)) (lostTaker (now (w .entry))))) ⌝ }
 {
     let a = any_marked(w, marks, PointTest::Numbers);
@@ -132,7 +142,7 @@ fn any_no_such(w: &[u32], marks: &[u8]) -> bool
 
 // Whether two records share a ring, a record's progress is misplaced, or a record without a ring keeps no reason.
 fn any_muddled(w: &[u32], shares: bool) -> bool
-    requires { ⌜ LENGTH ≤ length (now w) ⌝ }
+    requires { ⌜ BLOCK ≤ length (now w) ⌝ }
     ensures { λ r. ⌜ r ≡ (shares || (anyRecord (now (w .entry)) (misplaced (now (w .entry))) || anyRecord (now (w .entry)) (untold (now (w .entry))))) ⌝ }
 {
     if shares {
@@ -145,7 +155,7 @@ fn any_muddled(w: &[u32], shares: bool) -> bool
 
 // The tests after the coordinates: numbers, links, rings and progress.
 fn links_of(w: &[u32], marks: &[u8], shares: bool) -> Verdict
-    requires { ⌜ LENGTH ≤ length (now w) ⌝ }
+    requires { ⌜ BLOCK ≤ length (now w) ⌝ }
     ensures { λ r. ⌜ r ≡ linksOf (now (w .entry)) (now (marks .entry)) shares ⌝ }
 {
     let a = any_no_such(w, marks);
@@ -165,7 +175,7 @@ fn links_of(w: &[u32], marks: &[u8], shares: bool) -> Verdict
 
 // The tests after the counts, one after the other.
 fn passes_of(w: &[u32], marks: &[u8], shares: bool) -> Verdict
-    requires { ⌜ LENGTH ≤ length (now w) ⌝ }
+    requires { ⌜ BLOCK ≤ length (now w) ⌝ }
     ensures { λ r. ⌜ r ≡ passesOf (now (w .entry)) (now (marks .entry)) shares ⌝ }
 {
     let a = any_marked(w, marks, PointTest::Table);
@@ -216,7 +226,7 @@ fn is_good(w: &[u32]) -> bool
 
 // The tests of a work space that a step, or writing out after steps, is handed: at once, and in their order only where something fails.
 pub fn tests_of(w: &[u32]) -> Verdict
-    requires { ⌜ LENGTH ≤ length (now w) ⌝ }
+    requires { ⌜ BLOCK ≤ length (now w) ⌝ }
     ensures { λ r. ⌜ r ≡ testsOf (now (w .entry)) ⌝ }
 {
     let many = crowded(w);
@@ -228,4 +238,32 @@ pub fn tests_of(w: &[u32]) -> Verdict
         return Verdict::Passed;
     }
     in_order(w)
+}
+
+// ---- what a call asks first
+
+// The tests of a work space that is long enough: of its live block, then of its names.
+pub fn tested(w: &[u32]) -> Verdict
+    requires { ⌜ LENGTH ≤ length (now w) ⌝ }
+    ensures { λ r. ⌜ r ≡ testedOf (now (w .entry)) ⌝ }
+{
+    let verdict = tests_of(w);
+    match verdict {
+        Verdict::Passed => {
+            return names_tested(w);
+        }
+        Verdict::Refused(r) => {
+            return Verdict::Refused(r);
+        }
+    }
+}
+
+// What every call on an opened work space asks first: its length, then its tests.
+pub fn handed(w: &[u32]) -> Verdict
+    ensures { λ r. ⌜ r ≡ handedOf (now (w .entry)) ⌝ }
+{
+    if w.len() < LENGTH {
+        return Verdict::Refused(Refusal::Full);
+    }
+    tested(w)
 }

@@ -7,7 +7,7 @@ ghost use mathlib.Core.Path.{_≡_};
 ghost use Prim.Native.Nat.{_<_, _≤_};
 ghost use lib.ListN.{length};
 ghost use Rattle.job.specs.Limits as limit;
-ghost use Rattle.store.specs.Field.{LENGTH};
+ghost use Rattle.store.specs.Field.{BLOCK};
 ghost use Rattle.store.specs.Named.{pointsOf, recordsOf, nextOf};
 ghost use Rattle.audit.specs.Tests.{offTable, noSuch, loose};
 ghost use Rattle.audit.specs.Marks.{Counted, faulty};
@@ -16,7 +16,7 @@ ghost use Rattle.audit.specs.Marks.{Counted, faulty};
 const FAR: usize = 2 * (Job::COORDINATE as usize);
 
 pub fn off_table(w: &[u32], k: usize) -> bool
-    requires { ⌜ LENGTH ≤ length (now w) ⌝ }
+    requires { ⌜ BLOCK ≤ length (now w) ⌝ }
     ensures { λ r. ⌜ r ≡ offTable (now (w .entry)) k ⌝ }
 {
     let x = read(w, Col::X, k);
@@ -25,7 +25,7 @@ pub fn off_table(w: &[u32], k: usize) -> bool
 }
 
 pub fn no_such(w: &[u32], k: usize) -> bool
-    requires { ⌜ LENGTH ≤ length (now w) ⌝ }
+    requires { ⌜ BLOCK ≤ length (now w) ⌝ }
     ensures { λ r. ⌜ r ≡ noSuch (now (w .entry)) k ⌝ }
 {
     let m = get(w, Col::Points, 0);
@@ -37,7 +37,7 @@ pub fn no_such(w: &[u32], k: usize) -> bool
 }
 
 pub fn loose(w: &[u32], k: usize) -> bool
-    requires { ⌜ LENGTH ≤ length (now w) ⌝ }
+    requires { ⌜ BLOCK ≤ length (now w) ⌝ }
     ensures { λ r. ⌜ r ≡ loose (now (w .entry)) k ⌝ }
 {
     let a = read(w, Col::Next, k);

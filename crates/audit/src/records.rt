@@ -13,7 +13,7 @@ ghost use mathlib.Core.Bool.{_||_};
 ghost use Prim.Native.Nat.{_≤_};
 ghost use lib.ListN.{length};
 ghost use Rattle.store.specs.Field as field;
-ghost use Rattle.store.specs.Field.{LENGTH};
+ghost use Rattle.store.specs.Field.{BLOCK};
 ghost use Rattle.store.specs.Named.{firstOf, ringOf};
 ghost use Rattle.audit.specs.Tests.{isIn, anyRecord, namesNothing, noSuchOf, lostTaker, misplaced, untold};
 ghost use Rattle.audit.specs.Marks.{faultyOf};
@@ -25,7 +25,7 @@ fn names_nothing(n: usize, v: usize) -> bool
 }
 
 pub fn no_such_of(w: &[u32], i: usize) -> bool
-    requires { ⌜ LENGTH ≤ length (now w) ⌝ }
+    requires { ⌜ BLOCK ≤ length (now w) ⌝ }
     ensures { λ r. ⌜ r ≡ noSuchOf (now (w .entry)) i ⌝ }
 {
     let m = get(w, Col::Points, 0);
@@ -38,7 +38,7 @@ pub fn no_such_of(w: &[u32], i: usize) -> bool
 }
 
 pub fn lost_taker(w: &[u32], i: usize) -> bool
-    requires { ⌜ LENGTH ≤ length (now w) ⌝ }
+    requires { ⌜ BLOCK ≤ length (now w) ⌝ }
     ensures { λ r. ⌜ r ≡ lostTaker (now (w .entry)) i ⌝ }
 {
     let n = get(w, Col::Records, 0);
@@ -49,7 +49,7 @@ pub fn lost_taker(w: &[u32], i: usize) -> bool
 }
 
 pub fn untold(w: &[u32], i: usize) -> bool
-    requires { ⌜ LENGTH ≤ length (now w) ⌝ }
+    requires { ⌜ BLOCK ≤ length (now w) ⌝ }
     ensures { λ r. ⌜ r ≡ untold (now (w .entry)) i ⌝ }
 {
     let f = read(w, Col::First, i);
@@ -59,7 +59,7 @@ pub fn untold(w: &[u32], i: usize) -> bool
 
 // Whether k is on the ring that starts at a.
 fn is_on_ring(w: &[u32], a: usize, k: usize) -> bool
-    requires { ⌜ LENGTH ≤ length (now w) ⌝ }
+    requires { ⌜ BLOCK ≤ length (now w) ⌝ }
     ensures { λ r. ⌜ r ≡ isIn k (ringOf (now (w .entry)) a) ⌝ }
 {
     let mut p = a;
@@ -79,7 +79,7 @@ fn is_on_ring(w: &[u32], a: usize, k: usize) -> bool
 
 // The progress of a record whose ring starts at f.
 fn misplaced_on(w: &[u32], i: usize, f: usize) -> bool
-    requires { ⌜ (LENGTH ≤ length (now w)) × (f ≡ firstOf (now w) i) × (f ≢ field.NONE) ⌝ }
+    requires { ⌜ (BLOCK ≤ length (now w)) × (f ≡ firstOf (now w) i) × (f ≢ field.NONE) ⌝ }
     ensures { λ r. ⌜ r ≡ misplaced (now (w .entry)) i ⌝ }
 {
     let g = read(w, Col::Flags, i);
@@ -99,7 +99,7 @@ fn misplaced_on(w: &[u32], i: usize, f: usize) -> bool
 }
 
 pub fn misplaced(w: &[u32], i: usize) -> bool
-    requires { ⌜ LENGTH ≤ length (now w) ⌝ }
+    requires { ⌜ BLOCK ≤ length (now w) ⌝ }
     ensures { λ r. ⌜ r ≡ misplaced (now (w .entry)) i ⌝ }
 {
     let f = read(w, Col::First, i);
@@ -113,7 +113,7 @@ pub fn misplaced(w: &[u32], i: usize) -> bool
 
 // What a record without a ring keeps: does it fail a test?
 fn ill_kept(w: &[u32], i: usize) -> bool
-    requires { ⌜ LENGTH ≤ length (now w) ⌝ }
+    requires { ⌜ BLOCK ≤ length (now w) ⌝ }
     ensures { λ r. ⌜ r ≡ (lostTaker (now (w .entry)) i || untold (now (w .entry)) i) ⌝ }
 {
     let a = lost_taker(w, i);
@@ -123,7 +123,7 @@ fn ill_kept(w: &[u32], i: usize) -> bool
 
 // Whether a record fails one of the four tests; what it keeps is asked only where it has no ring, its progress only where it has one.
 fn is_faulty_of(w: &[u32], i: usize) -> bool
-    requires { ⌜ LENGTH ≤ length (now w) ⌝ }
+    requires { ⌜ BLOCK ≤ length (now w) ⌝ }
     ensures { λ r. ⌜ r ≡ faultyOf (now (w .entry)) i ⌝ }
 {
     let a = no_such_of(w, i);
@@ -139,7 +139,7 @@ fn is_faulty_of(w: &[u32], i: usize) -> bool
 
 // Whether a record fails one of the four.
 pub fn any_faulty(w: &[u32]) -> bool
-    requires { ⌜ LENGTH ≤ length (now w) ⌝ }
+    requires { ⌜ BLOCK ≤ length (now w) ⌝ }
     ensures { λ r. ⌜ r ≡ anyRecord (now (w .entry)) (faultyOf (now (w .entry))) ⌝ }
 {
     let n = get(w, Col::Records, 0);

@@ -9,7 +9,7 @@ ghost use mathlib.Core.Path.{_≡_};
 ghost use mathlib.Core.Bool.{_&&_};
 ghost use Prim.Native.Nat.{_≤_};
 ghost use lib.ListN.{length};
-ghost use Rattle.store.specs.Field.{LENGTH};
+ghost use Rattle.store.specs.Field.{BLOCK};
 ghost use Rattle.store.specs.Named.{pointsOf, recordsOf};
 ghost use Rattle.audit.specs.Marks.{Counted, isMarked, AllMarked, MarkedFrom, Tried, fails, anyMarked};
 
@@ -82,7 +82,7 @@ pub fn mark_all(w: &[u32], marks: &mut [u8]) -> Walks
 
 // Whether the point is marked and fails the test.
 fn marked_fails(w: &[u32], marks: &[u8], t: PointTest, k: usize) -> bool
-    requires { ⌜ LENGTH ≤ length (now w) ⌝ }
+    requires { ⌜ BLOCK ≤ length (now w) ⌝ }
     ensures { λ r. ⌜ r ≡ (isMarked (now (marks .entry)) k && fails t (now (w .entry)) k) ⌝ }
 {
     let marked = is_marked(marks, k);
@@ -94,7 +94,7 @@ fn marked_fails(w: &[u32], marks: &[u8], t: PointTest, k: usize) -> bool
 
 // Whether a marked point fails the test.
 pub fn any_marked(w: &[u32], marks: &[u8], t: PointTest) -> bool
-    requires { ⌜ LENGTH ≤ length (now w) ⌝ }
+    requires { ⌜ BLOCK ≤ length (now w) ⌝ }
     ensures { λ r. ⌜ r ≡ anyMarked (now (w .entry)) (now (marks .entry)) t ⌝ }
 {
     let m = get(w, Col::Points, 0);

@@ -13,7 +13,7 @@ use store::set;
 ghost use Prim.Native.Nat.{_+_, _<_, _≤_, _^_};
 ghost use lib.ListN.{length};
 ghost use Rattle.job.specs.Limits as limit;
-ghost use Rattle.store.specs.Field.{size, LENGTH};
+ghost use Rattle.store.specs.Field.{size, BLOCK};
 ghost use Rattle.store.specs.Column.{columnOf};
 
 // The word of the coordinate 0.
@@ -21,7 +21,7 @@ const AT: usize = Job::COORDINATE as usize;
 
 // Point i at (x, y), by the words of its coordinates, between p and n, of record r.
 fn put_point(w: &mut [u32], i: usize, x: usize, y: usize, n: usize, p: usize, r: usize)
-    requires { ⌜ (LENGTH ≤ length (now w)) × (i < limit.POINTS) × (x < 2 ^ 32) × (y < 2 ^ 32) × (n < 2 ^ 32) × (p < 2 ^ 32) × (r < 2 ^ 32) ⌝ }
+    requires { ⌜ (BLOCK ≤ length (now w)) × (i < limit.POINTS) × (x < 2 ^ 32) × (y < 2 ^ 32) × (n < 2 ^ 32) × (p < 2 ^ 32) × (r < 2 ^ 32) ⌝ }
 {
     set(w, Col::X, i, x);
     set(w, Col::Y, i, y);
@@ -32,7 +32,7 @@ fn put_point(w: &mut [u32], i: usize, x: usize, y: usize, n: usize, p: usize, r:
 
 // A square of points a to a + 3, of record r.
 fn put_square(w: &mut [u32], a: usize, r: usize)
-    requires { ⌜ (LENGTH ≤ length (now w)) × (a + 3 < limit.POINTS) × (r < limit.RECORDS) ⌝ }
+    requires { ⌜ (BLOCK ≤ length (now w)) × (a + 3 < limit.POINTS) × (r < limit.RECORDS) ⌝ }
 {
     put_point(w, a, AT, AT, a + 1, a + 3, r);
     put_point(w, a + 1, AT + 10, AT, a + 2, a, r);
@@ -42,7 +42,7 @@ fn put_square(w: &mut [u32], a: usize, r: usize)
 
 // Two squares, each a closed ring at its start; record 1 is owned by record 0.
 fn build(w: &mut [u32])
-    requires { ⌜ LENGTH ≤ length (now w) ⌝ }
+    requires { ⌜ BLOCK ≤ length (now w) ⌝ }
 {
     set(w, Col::Points, 0, 8);
     set(w, Col::Records, 0, 2);
@@ -75,7 +75,7 @@ fn digit(n: u32) -> u8 {
 
 // The good work space with one word altered.
 fn altered(w: &mut [u32], c: Col, i: usize, v: usize)
-    requires { ⌜ (LENGTH ≤ length (now w)) × (i < size (columnOf c)) × (v < 2 ^ 32) ⌝ }
+    requires { ⌜ (BLOCK ≤ length (now w)) × (i < size (columnOf c)) × (v < 2 ^ 32) ⌝ }
 {
     build(w);
     set(w, c, i, v);
@@ -85,7 +85,7 @@ fn altered(w: &mut [u32], c: Col, i: usize, v: usize)
 
 // Numbers, coordinates and counts.
 fn alter_numbers(w: &mut [u32])
-    requires { ⌜ LENGTH ≤ length (now w) ⌝ }
+    requires { ⌜ BLOCK ≤ length (now w) ⌝ }
 {
     altered(w, Col::Points, 0, Job::POINTS + 1);
     altered(w, Col::Records, 0, Job::RECORDS + 1);
@@ -99,7 +99,7 @@ fn alter_numbers(w: &mut [u32])
 
 // Links, rings and progress.
 fn alter_rings(w: &mut [u32])
-    requires { ⌜ LENGTH ≤ length (now w) ⌝ }
+    requires { ⌜ BLOCK ≤ length (now w) ⌝ }
 {
     altered(w, Col::First, 1, 8);
     altered(w, Col::Next, 1, 3);
@@ -113,7 +113,7 @@ fn alter_rings(w: &mut [u32])
 
 // The good work space with record 1 emptied: the reason that it keeps, and its taker.
 fn emptied(w: &mut [u32], reason: usize, taker: usize)
-    requires { ⌜ (LENGTH ≤ length (now w)) × (reason < 2 ^ 32) × (taker < 2 ^ 32) ⌝ }
+    requires { ⌜ (BLOCK ≤ length (now w)) × (reason < 2 ^ 32) × (taker < 2 ^ 32) ⌝ }
 {
     build(w);
     set(w, Col::First, 1, NONE);
@@ -125,7 +125,7 @@ fn emptied(w: &mut [u32], reason: usize, taker: usize)
 
 // Reasons and takers.
 fn alter_reasons(w: &mut [u32])
-    requires { ⌜ LENGTH ≤ length (now w) ⌝ }
+    requires { ⌜ BLOCK ≤ length (now w) ⌝ }
 {
     emptied(w, 0, 0);
     emptied(w, NO_RING, 2);

@@ -9,7 +9,7 @@ use lib.Dec.{ltb}
 use lib.ListN.{length}
 use borrow.Author.Tests.{eq-eqb, ne-eqb, ltb-true}
 use Rattle.store.specs.declared.points.Room.the-variants.{At, Full}
-use Rattle.store.specs.Field.{RecordCol, pt, rc, REC, FLAGS, LENGTH}
+use Rattle.store.specs.Field.{RecordCol, pt, rc, REC, FLAGS, BLOCK}
 use Rattle.store.specs.Words.{Store, view, Write, onWords}
 use Rattle.store.specs.Stores.{onStore}
 use Rattle.store.specs.Named.{nextOf, prevOf, pointsOf}
@@ -103,7 +103,7 @@ module _ (w : List ℕ) (o : Ready w) (room : pointsOf w < 2048) (i q like : ℕ
   grown-words : Grown (view w) (view (onWords w writes)) q like
   grown-words = subst (λ (s : Store). Grown (view w) s q like) (sym seen) grown
 
-  long : LENGTH ≤ length (onWords w writes)
+  long : BLOCK ≤ length (onWords w writes)
   unfolding writes
   long = omega (arith, o .long, length-writes w writes)
 

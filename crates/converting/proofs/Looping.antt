@@ -8,7 +8,7 @@ use native.Mathlib.Omega.{arith}
 use lib.Dec.{eqb}
 use lib.ListN.{getD, set, length}
 use borrow.Author.Tests.{eq-eqb, ne-eqb, eqb-false}
-use Rattle.store.specs.Field.{NONE, LENGTH}
+use Rattle.store.specs.Field.{NONE, BLOCK}
 use Rattle.converting.specs.declared.pairs.Converted.{Converted}
 use Rattle.converting.specs.declared.pairs.Converted.the-variants.{Joins, Full}
 use Rattle.segments.specs.Needs.{Meeting}
@@ -19,7 +19,7 @@ use Rattle.converting.proofs.Making.{span-low, pair-overlaps, making-on
 -- ---- the needs of apart and of moved
 
 module _ (w ls rs fs : List ℕ) (i j : ℕ) (t : Valid w ls rs fs i j) where
-  pub valid-long : LENGTH ≤ length w
+  pub valid-long : BLOCK ≤ length w
   valid-long = t .ready .long
 
   pub valid-lefts-i : i < length ls
@@ -57,7 +57,7 @@ module _ (w ls fs : List ℕ) (i j : ℕ) (t : Moving w ls fs i j) where
   pub moving-low : (l : ℕ) → l ≡ getD ls i 0 → l < 2048
   moving-low l e = rw e (span-low w (getD ls i 0) (t .meeting .r1) (t .meeting .overlap .one) .0)
 
-  pub moving-long : LENGTH ≤ length w
+  pub moving-long : BLOCK ≤ length w
   moving-long = t .meeting .overlap .one .same .ready .long
 
   pub moving-meets : (l1 l2 : ℕ) → l1 ≡ getD ls i 0 → l2 ≡ getD ls j 0 → Meeting w l1 l2

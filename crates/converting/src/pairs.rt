@@ -17,7 +17,7 @@ ghost use lib.ListN.{length, getD, set};
 ghost use lib.Dec.{ltb};
 ghost use Rattle.job.specs.Limits as limit;
 ghost use Rattle.store.specs.Field as field;
-ghost use Rattle.store.specs.Field.{LENGTH};
+ghost use Rattle.store.specs.Field.{BLOCK};
 ghost use Rattle.store.specs.Primitive.{duplicateOp};
 ghost use Rattle.joins.specs.Needs.{Point};
 ghost use Rattle.segments.specs.Level.{xOf};
@@ -68,7 +68,7 @@ fn make_join(w: &mut [u32], joins: &mut [u32], m: usize, a: usize, b: usize) -> 
 
 // The left point of row i is left of the right point of row j.
 fn left_of(w: &[u32], lefts: &[usize], i: usize, rights: &[usize], j: usize) -> bool
-    requires { ⌜ (LENGTH ≤ length (now w)) × (i < length (now lefts)) × (j < length (now rights)) × (getD (now lefts) i 0 < limit.POINTS) × (getD (now rights) j 0 < limit.POINTS) ⌝ }
+    requires { ⌜ (BLOCK ≤ length (now w)) × (i < length (now lefts)) × (j < length (now rights)) × (getD (now lefts) i 0 < limit.POINTS) × (getD (now rights) j 0 < limit.POINTS) ⌝ }
     ensures { λ r. ⌜ r ≡ ltb (xOf (now (w .entry)) (getD (now (lefts .entry)) i 0)) (xOf (now (w .entry)) (getD (now (rights .entry)) j 0)) ⌝ }
 {
     let p = load(lefts, i);

@@ -59,5 +59,5 @@ unfolding drawingIn drawingOf acceptOf readOf fillOf run turnOf fieldOf bodyOf r
 second-draws = refl
 
 -- so they finish alike, in every work space and on every tray
-pub finish-alike : (n : ℕ) (t : List ℕ) → SameFinish (finishOf firstExport n t) (finishOf secondExport n t)
-finish-alike n t = drawing-finish firstExport secondExport n t drawnTriangle first-draws second-draws
+pub finish-alike : (lent t : List ℕ) → SameFinish (finishOf firstExport lent t) (finishOf secondExport lent t)
+finish-alike lent t = drawing-finish firstExport secondExport lent t drawnTriangle first-draws second-draws

@@ -18,7 +18,7 @@ use Rattle.opening.specs.declared.open.Opened.the-variants.{Accepted, Refused}
 use Rattle.opening.specs.Open.{End, end, openOf}
 use Rattle.finishing.specs.Write.{writeOf}
 use Rattle.finishing.specs.Run.{runOf}
-use Rattle.finishing.specs.Opened.{OpeningLeft}
+use Rattle.finishing.specs.Start.{Start}
 use Rattle.finishing.specs.InOneCall.{Finished, refused, afterWriting, finishOf}
 use Rattle.order.specs.Demand3.{Lone, inTray, lones, AllDoneAfter, RingsFit, RingsNeverEnd}
 use Rattle.order.proofs.Theorem.{F, lones-are, after-list, GoesThrough, where-fits}
@@ -30,7 +30,7 @@ use Rattle.drawing.proofs.Opening.{acceptedAs, SameOpening, opening-ali
 
 -- ---- two opened work spaces with the same forest, after the same steps
 
-module _ (w w′ : List ℕ) (o : OpeningLeft w) (o′ : OpeningLeft w′) (f : SameForest w w′) (is : List ℕ) where
+module _ (w w′ : List ℕ) (o : Start w) (o′ : Start w′) (f : SameForest w w′) (is : List ℕ) where
   entries-same : F w′ o′ is .entries ≡ F w o is .entries
   entries-same = rw (f .settings, f .forest, f .as-many-points)
 
@@ -64,45 +64,45 @@ out-alike v v′ (written.Refused x) t = record { answer = refl; tray = refl }
 same-from : (f f′ g g′ : Finished) → f ≡ g → f′ ≡ g′ → SameFinish g g′ → SameFinish f f′
 same-from f f′ g g′ e e′ s = rw (e, e′) s
 
-module _ (bytes bytes′ : List ℕ) (n : ℕ) (w w′ : List ℕ) (e : openOf bytes n ≡ end Accepted w) (e′ : openOf bytes′ n ≡ end Accepted w′) (f : SameForest w w′) (t : List ℕ) where
-  abbrev o : OpeningLeft w
-  o = left bytes n w e
+module _ (bytes bytes′ lent w w′ : List ℕ) (e : openOf bytes lent ≡ end Accepted w) (e′ : openOf bytes′ lent ≡ end Accepted w′) (f : SameForest w w′) (t : List ℕ) where
+  abbrev o : Start w
+  o = left bytes lent w e
 
-  abbrev o′ : OpeningLeft w′
-  o′ = left bytes′ n w′ e′
+  abbrev o′ : Start w′
+  o′ = left bytes′ lent w′ e′
 
-  through : GoesThrough w o → GoesThrough w′ o′ → SameFinish (finishOf bytes n t) (finishOf bytes′ n t)
+  through : GoesThrough w o → GoesThrough w′ o′ → SameFinish (finishOf bytes lent t) (finishOf bytes′ lent t)
   through g g′ =
       let s : g′ .steps ≡ g .steps = g′ .always ∙ sym (g .always) in
       let q : writeOf (runOf w′ (g′ .steps)) t ≡ writeOf (runOf w (g .steps)) t = ap (λ (is : List ℕ). writeOf (runOf w′ is) t) s ∙ written-same w w′ o o′ f (g .steps) t (g .all-done) in
-      same-from (finishOf bytes n t) (finishOf bytes′ n t) (afterWriting (runOf w (g .steps)) (writeOf (runOf w (g .steps)) t .answer) (writeOf (runOf w (g .steps)) t .tray))
-      (afterWriting (runOf w′ (g′ .steps)) (writeOf (runOf w (g .steps)) t .answer) (writeOf (runOf w (g .steps)) t .tray)) (goes-out bytes n w e g t)
-      (goes-out bytes′ n w′ e′ g′ t ∙ ap (λ (b : Wrote). afterWriting (runOf w′ (g′ .steps)) (b .answer) (b .tray)) q)
+      same-from (finishOf bytes lent t) (finishOf bytes′ lent t) (afterWriting (runOf w (g .steps)) (writeOf (runOf w (g .steps)) t .answer) (writeOf (runOf w (g .steps)) t .tray))
+      (afterWriting (runOf w′ (g′ .steps)) (writeOf (runOf w (g .steps)) t .answer) (writeOf (runOf w (g .steps)) t .tray)) (goes-out bytes lent w e g t)
+      (goes-out bytes′ lent w′ e′ g′ t ∙ ap (λ (b : Wrote). afterWriting (runOf w′ (g′ .steps)) (b .answer) (b .tray)) q)
       (out-alike (runOf w (g .steps)) (runOf w′ (g′ .steps)) (writeOf (runOf w (g .steps)) t .answer) (writeOf (runOf w (g .steps)) t .tray))
 
-  both : RingsFit w ⊎ RingsNeverEnd w → RingsFit w′ ⊎ RingsNeverEnd w′ → SameFinish (finishOf bytes n t) (finishOf bytes′ n t)
+  both : RingsFit w ⊎ RingsNeverEnd w → RingsFit w′ ⊎ RingsNeverEnd w′ → SameFinish (finishOf bytes lent t) (finishOf bytes′ lent t)
   both (inl x) (inl y) = through (where-fits w o x) (where-fits w′ o′ y)
   both (inl x) (inr y) = let g = x .goes-on [] in absurd (y (g .0) (done-too w w′ o o′ f (g .0) (g .1)))
   both (inr x) (inl y) = let g = y .goes-on [] in absurd (x (g .0) (done-too w′ w o′ o (forest-back w w′ f) (g .0) (g .1)))
   both (inr x) (inr y) =
-      same-from (finishOf bytes n t) (finishOf bytes′ n t) (refused refusal.Full (length w) (length t)) (refused refusal.Full (length w′) (length t))
-      (of-job bytes n w e .overflows x t) (of-job bytes′ n w′ e′ .overflows y t) (record { answer = refl; tray = refl })
+      same-from (finishOf bytes lent t) (finishOf bytes′ lent t) (refused refusal.Full (length w) (length t)) (refused refusal.Full (length w′) (length t))
+      (of-job bytes lent w e .overflows x t) (of-job bytes′ lent w′ e′ .overflows y t) (record { answer = refl; tray = refl })
 
   -- opened with the same forest, they finish alike
-  pub forest-finish : SameFinish (finishOf bytes n t) (finishOf bytes′ n t)
-  forest-finish = both (of-job bytes n w e .holds .either) (of-job bytes′ n w′ e′ .holds .either)
+  pub forest-finish : SameFinish (finishOf bytes lent t) (finishOf bytes′ lent t)
+  forest-finish = both (of-job bytes lent w e .holds .either) (of-job bytes′ lent w′ e′ .holds .either)
 
 -- ---- finishing two jobs that opened alike
 
-module _ (bytes bytes′ : List ℕ) (n : ℕ) (t : List ℕ) where
-  pub opened-finish : (z z′ : End) → openOf bytes n ≡ z → openOf bytes′ n ≡ z′ → SameOpening z z′ → SameFinish (finishOf bytes n t) (finishOf bytes′ n t)
+module _ (bytes bytes′ lent t : List ℕ) where
+  pub opened-finish : (z z′ : End) → openOf bytes lent ≡ z → openOf bytes′ lent ≡ z′ → SameOpening z z′ → SameFinish (finishOf bytes lent t) (finishOf bytes′ lent t)
   unfolding finishOf
-  opened-finish (end Accepted w) (end Accepted w′) e e′ s = forest-finish bytes bytes′ n w w′ e e′ s t
+  opened-finish (end Accepted w) (end Accepted w′) e e′ s = forest-finish bytes bytes′ lent w w′ e e′ s t
   opened-finish (end Accepted w) (end (Refused y) w′) e e′ s = absurd s
   opened-finish (end (Refused x) w) (end Accepted w′) e e′ s = absurd s
   opened-finish (end (Refused x) w) (end (Refused y) w′) e e′ s = rw (e, e′, s) (record { answer = refl; tray = refl })
 
   -- of two jobs that are one renumbered
-  pub finishing-alike : {ρ : ℕ → ℕ} (j j′ : Job) (w w′ ss ss′ js js′ : List ℕ) → acceptedAs bytes n j w ss js → acceptedAs bytes′ n j′ w′ ss′ js′ → RenumberedJob ρ j j′ w w′ ss ss′ js js′
-      → SameFinish (finishOf bytes n t) (finishOf bytes′ n t)
-  finishing-alike j j′ w w′ ss ss′ js js′ p p′ d = opened-finish (openOf bytes n) (openOf bytes′ n) refl refl (opening-alike bytes bytes′ n j j′ w w′ ss ss′ js js′ p p′ d)
+  pub finishing-alike : {ρ : ℕ → ℕ} (j j′ : Job) (w w′ ss ss′ js js′ : List ℕ) → acceptedAs bytes lent j w ss js → acceptedAs bytes′ lent j′ w′ ss′ js′ → RenumberedJob ρ j j′ w w′ ss ss′ js js′
+      → SameFinish (finishOf bytes lent t) (finishOf bytes′ lent t)
+  finishing-alike j j′ w w′ ss ss′ js js′ p p′ d = opened-finish (openOf bytes lent) (openOf bytes′ lent) refl refl (opening-alike bytes bytes′ lent j j′ w w′ ss ss′ js js′ p p′ d)

@@ -13,7 +13,7 @@ use Rattle.rings.specs.Count.{occ}
 use Rattle.rings.specs.Links.{All}
 use Rattle.rings.proofs.Counting.{all-in}
 use Rattle.job.specs.Limits as limit
-use Rattle.store.specs.Field.{Field, pt, rc, ct, X, Y, NEXT, PREV, REC, FLAGS, OWNER, FIRST, POINTS, RECORDS, LENGTH, same}
+use Rattle.store.specs.Field.{Field, pt, rc, ct, X, Y, NEXT, PREV, REC, FLAGS, OWNER, FIRST, POINTS, RECORDS, BLOCK, same}
 use Rattle.store.specs.Words.{Store, view, Write, onWords}
 use Rattle.store.specs.Stores.{onStore}
 use Rattle.store.specs.Named.{nextOf, prevOf, recOf, firstOf, pointsOf, recordsOf}
@@ -78,7 +78,7 @@ rec-out (rc f) e = refl
 rec-out (ct f) e = refl
 
 -- the points of a list name k: whether m does, if it did not before
-name-test : (k : ℕ) (w l : List ℕ) (m : ℕ) → LENGTH ≤ length w → All (λ x. x < limit.POINTS) l → occ m l ≤ 1 → recOf w m ≢ k → eqb (recOf (nameAll w k l) m) k ≡ ltb 0 (occ m l)
+name-test : (k : ℕ) (w l : List ℕ) (m : ℕ) → BLOCK ≤ length w → All (λ x. x < limit.POINTS) l → occ m l ≤ 1 → recOf w m ≢ k → eqb (recOf (nameAll w k l) m) k ≡ ltb 0 (occ m l)
 name-test k w l m long h o d = go (decLt 0 (occ m l))
   where
     go : Dec (0 < occ m l) → eqb (recOf (nameAll w k l) m) k ≡ ltb 0 (occ m l)
@@ -115,7 +115,7 @@ module _ (w : List ℕ) (a c i k : ℕ) (t : Unknotted w a c i i) (kn : k ≡ re
   unfolding fixOutrecPts
   named-still = record { counts = λ f j e. name-col k f j (rec-out f e) halved (ringAt (view halved) k) (ringed .long) ring-low }
 
-  named-long : LENGTH ≤ length named
+  named-long : BLOCK ≤ length named
   unfolding fixOutrecPts
   named-long = omega (arith, ringed .long, name-length k halved (ringAt (view halved) k))
 

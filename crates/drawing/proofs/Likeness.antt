@@ -8,7 +8,7 @@ use native.Mathlib.Omega.{arith}
 use lib.Dec.{eqb}
 use lib.ListN.{length}
 use Rattle.job.specs.Limits as limit
-use Rattle.store.specs.Field.{Field, pt, rc, ct, X, Y, NEXT, PREV, FLAGS, OWNER, FIRST, SETTINGS, POINTS, RECORDS, LENGTH, NONE}
+use Rattle.store.specs.Field.{Field, pt, rc, ct, X, Y, NEXT, PREV, FLAGS, OWNER, FIRST, SETTINGS, POINTS, RECORDS, BLOCK, NONE}
 use Rattle.store.specs.Words.{Store, view, Write, onWords}
 use Rattle.store.specs.Stores.{onStore, Within}
 use Rattle.store.specs.Sound.{pts, recs}
@@ -63,7 +63,7 @@ module _ {ρ : ℕ → ℕ} {s s′ : Store} (a : Renumbered ρ s s′) where
       one f g (inr y) = inr (g y)
 
 -- the same of words
-pub alike-words : {ρ : ℕ → ℕ} (w w′ : List ℕ) (a : Renumbered ρ (view w) (view w′)) (xs ys : List Write) → LENGTH ≤ length w → LENGTH ≤ length w′ → Within xs → Within ys → RenumberedWrites ρ xs ys → Grows a xs
+pub alike-words : {ρ : ℕ → ℕ} (w w′ : List ℕ) (a : Renumbered ρ (view w) (view w′)) (xs ys : List Write) → BLOCK ≤ length w → BLOCK ≤ length w′ → Within xs → Within ys → RenumberedWrites ρ xs ys → Grows a xs
     → Renumbered ρ (view (onWords w xs)) (view (onWords w′ ys))
 alike-words w w′ a xs ys l l′ h h′ r g = rw (view-writes w xs l h, view-writes w′ ys l′ h′) (alike-store a xs ys r g)
 

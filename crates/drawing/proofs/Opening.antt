@@ -5,12 +5,12 @@ use mathlib.Core.Bool.{Bool, true, false, cond}
 use mathlib.Core.List.{List}
 use native.Mathlib.Omega.{arith}
 use lib.Dec.{ltb}
-use lib.ListN.{length, replicate, length-replicate}
+use lib.ListN.{length, drop, replicate, length-append, length-replicate}
 use borrow.Author.Tests.{ltb-false}
 use Rattle.job.specs.Limits as limit
 use Rattle.job.specs.declared.Job.{Job}
 use Rattle.job.specs.declared.refusal.Refusal.the-variants as refusal
-use Rattle.store.specs.Field.{LENGTH}
+use Rattle.store.specs.Field.{BLOCK, KEPT, LENGTH}
 use Rattle.store.specs.Words.{view}
 use Rattle.reading.specs.declared.fill.Outcome.the-variants as outcome
 use Rattle.reading.specs.Fill as fill
@@ -27,7 +27,7 @@ use Rattle.joins.proofs.Turns.{words, joins-kept}
 use Rattle.converting.proofs.Converting.{JoinsOf, convert-joins}
 use Rattle.opening.specs.declared.open.Opened.the-variants.{Accepted, Refused}
 use Rattle.opening.specs.Start.{startRings}
-use Rattle.opening.specs.Open.{JOIN-POINTS, End, end, afterJoins, afterSegments, afterRows, stagesOf, settled, openOf}
+use Rattle.opening.specs.Open.{JOIN-POINTS, End, end, afterJoins, afterSegments, afterRows, stagesOf, settled, cleared, openOf}
 use Rattle.opening.proofs.Passing.{converting}
 use Rattle.opening.proofs.Starting.{start-ready}
 use Rattle.drawing.specs.Renumbered.{Renumbered, RenumberedList, RenumberedJob}
@@ -81,28 +81,28 @@ settled-alike n (end Accepted w) (end (Refused y) w′) s = absurd s
 settled-alike n (end (Refused x) w) (end Accepted w′) s = absurd s
 settled-alike n (end (Refused x) w) (end (Refused y) w′) s = s
 
--- what rows 1 to 8 leave of a job, in a work space of n words
-abbrev pub acceptedAs : List ℕ → ℕ → Job → List ℕ → List ℕ → List ℕ → Type 0
-acceptedAs bytes n j w ss js = acceptOf bytes (replicate n 0) (replicate limit.SEGMENTS 0) (replicate JOIN-POINTS 0) ≡ fill.end (outcome.Ok j) w ss js
+-- what rows 1 to 8 leave of a job, in a lent work space
+abbrev pub acceptedAs : List ℕ → List ℕ → Job → List ℕ → List ℕ → List ℕ → Type 0
+acceptedAs bytes lent j w ss js = acceptOf bytes (cleared lent) (replicate limit.SEGMENTS 0) (replicate JOIN-POINTS 0) ≡ fill.end (outcome.Ok j) w ss js
 
 -- opening depends on the drawing only
-pub opening-alike : {ρ : ℕ → ℕ} (bytes bytes′ : List ℕ) (n : ℕ) (j j′ : Job) (w w′ ss ss′ js js′ : List ℕ) → acceptedAs bytes n j w ss js → acceptedAs bytes′ n j′ w′ ss′ js′ → RenumberedJob ρ j j′ w w′ ss ss′ js js′
-    → SameOpening (openOf bytes n) (openOf bytes′ n)
+pub opening-alike : {ρ : ℕ → ℕ} (bytes bytes′ lent : List ℕ) (j j′ : Job) (w w′ ss ss′ js js′ : List ℕ) → acceptedAs bytes lent j w ss js → acceptedAs bytes′ lent j′ w′ ss′ js′ → RenumberedJob ρ j j′ w w′ ss ss′ js js′
+    → SameOpening (openOf bytes lent) (openOf bytes′ lent)
 unfolding openOf stagesOf
-opening-alike {ρ} bytes bytes′ n j j′ w w′ ss ss′ js js′ p p′ d = go (ltb n LENGTH) refl
+opening-alike {ρ} bytes bytes′ lent j j′ w w′ ss ss′ js js′ p p′ d = go (ltb (length lent) LENGTH) refl
   where
-    stages : LENGTH ≤ length (replicate {A = ℕ} n 0) → SameOpening (afterSegments (convertHorzSegsToJoins w (j .segments) ss js (j .joins))) (afterSegments (convertHorzSegsToJoins w′ (j′ .segments) ss′ js′ (j′ .joins)))
+    stages : BLOCK ≤ length (cleared lent) → SameOpening (afterSegments (convertHorzSegsToJoins w (j .segments) ss js (j .joins))) (afterSegments (convertHorzSegsToJoins w′ (j′ .segments) ss′ js′ (j′ .joins)))
     stages l =
-        let t = converting bytes (replicate n 0) w ss js j l p in
-        let t′ = converting bytes′ (replicate n 0) w′ ss′ js′ j′ l p′ in
+        let t = converting bytes (cleared lent) w ss js j l p in
+        let t′ = converting bytes′ (cleared lent) w′ ss′ js′ j′ l p′ in
         rw (d .as-many-segments, d .as-many-joins)
         (segments-alike w ss (j .segments) js (j .joins) t w′ ss′ js′ (rw (← (d .as-many-segments), ← (d .as-many-joins)) t′) (d .words) (d .segments) (d .joins))
 
-    go : (b : Bool) → ltb n LENGTH ≡ b
-        → SameOpening (cond b (end (Refused refusal.Full) (replicate n 0)) (settled n (afterRows (acceptOf bytes (replicate n 0) (replicate limit.SEGMENTS 0) (replicate JOIN-POINTS 0)))))
-        (cond b (end (Refused refusal.Full) (replicate n 0)) (settled n (afterRows (acceptOf bytes′ (replicate n 0) (replicate limit.SEGMENTS 0) (replicate JOIN-POINTS 0)))))
+    go : (b : Bool) → ltb (length lent) LENGTH ≡ b
+        → SameOpening (cond b (end (Refused refusal.Full) (replicate (length lent) 0)) (settled (length lent) (afterRows (acceptOf bytes (cleared lent) (replicate limit.SEGMENTS 0) (replicate JOIN-POINTS 0)))))
+        (cond b (end (Refused refusal.Full) (replicate (length lent) 0)) (settled (length lent) (afterRows (acceptOf bytes′ (cleared lent) (replicate limit.SEGMENTS 0) (replicate JOIN-POINTS 0)))))
     go true e = refl
     go false e =
         rw (p, p′)
-        (settled-alike n (afterSegments (convertHorzSegsToJoins w (j .segments) ss js (j .joins))) (afterSegments (convertHorzSegsToJoins w′ (j′ .segments) ss′ js′ (j′ .joins)))
-        (stages (omega (arith, ltb-false n LENGTH e, length-replicate {A = ℕ} n 0))))
+        (settled-alike (length lent) (afterSegments (convertHorzSegsToJoins w (j .segments) ss js (j .joins))) (afterSegments (convertHorzSegsToJoins w′ (j′ .segments) ss′ js′ (j′ .joins)))
+        (stages (omega (arith, length-append (replicate {A = ℕ} KEPT 0) (drop KEPT lent), length-replicate {A = ℕ} KEPT 0))))

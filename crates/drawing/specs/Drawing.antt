@@ -7,7 +7,7 @@ use Rattle.rings.specs.Count.{table}
 use Rattle.rings.specs.Place.{place, orZero}
 use Rattle.geometry.specs.declared.Point.{Point}
 use Rattle.job.specs.Limits as limit
-use Rattle.store.specs.Field.{rc, FLAGS, OWNER, LENGTH}
+use Rattle.store.specs.Field.{rc, FLAGS, OWNER, BLOCK}
 use Rattle.store.specs.Words.{Store, view}
 use Rattle.store.specs.Named.{settingsOf, recordsOf}
 use Rattle.store.specs.Sound.{ringAt}
@@ -59,4 +59,4 @@ drawnFrom (end (Refused r) w ss js) = none
 
 -- the drawing of a job by its bytes, none where one of rows 1 to 8 refuses it. (A longer work space gives the same: `any-space`.)
 unfoldable pub drawingIn : List ℕ → Option Drawing
-drawingIn bytes = drawnFrom (acceptOf bytes (replicate LENGTH 0) (replicate limit.SEGMENTS 0) (replicate JOIN-POINTS 0))
+drawingIn bytes = drawnFrom (acceptOf bytes (replicate BLOCK 0) (replicate limit.SEGMENTS 0) (replicate JOIN-POINTS 0))

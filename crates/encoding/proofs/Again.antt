@@ -12,7 +12,7 @@ use Rattle.rings.specs.Count.{occ, table}
 use Rattle.rings.specs.Place.{place, orZero}
 use Rattle.geometry.specs.declared.Point.{Point}
 use Rattle.job.specs.Limits as limit
-use Rattle.store.specs.Field.{LENGTH}
+use Rattle.store.specs.Field.{BLOCK}
 use Rattle.store.specs.Words.{view}
 use Rattle.store.specs.Sound.{ringAt}
 use Rattle.store.specs.Value.{pointAt}
@@ -120,7 +120,7 @@ module _ (d : Drawing) (f : Encodable d) (w : List ℕ) (t : HoldsDrawing d w) (
 
 -- ---- the whole
 
-module _ (d : Drawing) (f : Encodable d) (n : ℕ) (long : LENGTH ≤ n) where
+module _ (d : Drawing) (f : Encodable d) (n : ℕ) (long : BLOCK ≤ n) where
   space : Space (replicate n 0) (replicate limit.SEGMENTS 0) (replicate JOIN-POINTS 0)
   space = record { words = omega (arith, length-replicate {A = ℕ} n 0, long); segments = omega (arith, length-replicate {A = ℕ} limit.SEGMENTS 0); joins = omega (arith, length-replicate {A = ℕ} JOIN-POINTS 0) }
 
@@ -144,5 +144,5 @@ module _ (d : Drawing) (f : Encodable d) (n : ℕ) (long : LENGTH ≤ n) where
 -- a drawing that can be encoded is read back
 pub reads-back : (d : Drawing) → Encodable d → drawingIn (encode d) ≡ some d
 reads-back d f =
-    sym (any-space (encode d) LENGTH (omega arith))
-    ∙ finish d f LENGTH (omega arith) (loaded (sheetOf d) (fits d f) (replicate LENGTH 0) (replicate limit.SEGMENTS 0) (replicate JOIN-POINTS 0) (space d f LENGTH (omega arith)))
+    sym (any-space (encode d) BLOCK (omega arith))
+    ∙ finish d f BLOCK (omega arith) (loaded (sheetOf d) (fits d f) (replicate BLOCK 0) (replicate limit.SEGMENTS 0) (replicate JOIN-POINTS 0) (space d f BLOCK (omega arith)))

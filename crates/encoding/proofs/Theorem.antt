@@ -9,7 +9,7 @@ use Rattle.rings.specs.Circle.{omap}
 use Rattle.geometry.specs.declared.Point.{Point}
 use Rattle.job.specs.Limits as limit
 use Rattle.job.specs.declared.Job.{Job}
-use Rattle.store.specs.Field.{LENGTH}
+use Rattle.store.specs.Field.{BLOCK}
 use Rattle.reading.specs.declared.fill.Outcome.the-variants.{Ok, Refused}
 use Rattle.reading.specs.Fill.{ReadEnd, end, fillOf}
 use Rattle.reading.specs.Read.{counted, withCounts, readOf}
@@ -54,12 +54,12 @@ record Known (bytes : List ℕ) (d : Drawing) : Type 0 where
 
 known : (bytes : List ℕ) (d : Drawing) → drawingIn bytes ≡ some d → Known bytes d
 unfolding drawingIn
-known bytes d e = go (acceptOf bytes (replicate LENGTH 0) (replicate limit.SEGMENTS 0) (replicate JOIN-POINTS 0)) refl e
+known bytes d e = go (acceptOf bytes (replicate BLOCK 0) (replicate limit.SEGMENTS 0) (replicate JOIN-POINTS 0)) refl e
   where
-    read : (j : Job) (v ts ks : List ℕ) → acceptOf bytes (replicate LENGTH 0) (replicate limit.SEGMENTS 0) (replicate JOIN-POINTS 0) ≡ end (Ok j) v ts ks → Known bytes (drawingOf v ts (j .segments) ks (j .joins))
+    read : (j : Job) (v ts ks : List ℕ) → acceptOf bytes (replicate BLOCK 0) (replicate limit.SEGMENTS 0) (replicate JOIN-POINTS 0) ≡ end (Ok j) v ts ks → Known bytes (drawingOf v ts (j .segments) ks (j .joins))
     read j v ts ks f =
-        let a : Accepted j v ts ks = passed bytes (replicate LENGTH 0) v ts ks j (omega (arith, length-replicate {A = ℕ} LENGTH 0)) f in
-        let r = whole bytes (replicate LENGTH 0) (replicate limit.SEGMENTS 0) (replicate JOIN-POINTS 0) j v ts ks f in
+        let a : Accepted j v ts ks = passed bytes (replicate BLOCK 0) v ts ks j (omega (arith, length-replicate {A = ℕ} BLOCK 0)) f in
+        let r = whole bytes (replicate BLOCK 0) (replicate limit.SEGMENTS 0) (replicate JOIN-POINTS 0) j v ts ks f in
         let i = a .counts .within in
         record {
           fits = encodable j v ts ks a;
@@ -77,7 +77,7 @@ known bytes d e = go (acceptOf bytes (replicate LENGTH 0) (replicate limit.SEGME
           longest = omega (arith, r .long, i .points, i .records, i .segments, i .joins);
         }
 
-    go : (z : ReadEnd) → acceptOf bytes (replicate LENGTH 0) (replicate limit.SEGMENTS 0) (replicate JOIN-POINTS 0) ≡ z → drawnFrom z ≡ some d → Known bytes d
+    go : (z : ReadEnd) → acceptOf bytes (replicate BLOCK 0) (replicate limit.SEGMENTS 0) (replicate JOIN-POINTS 0) ≡ z → drawnFrom z ≡ some d → Known bytes d
     go (end (Ok j) v ts ks) f g = let q : drawingOf v ts (j .segments) ks (j .joins) ≡ d = cc (g) in subst (Known bytes) q (read j v ts ks f)
     go (end (Refused x) v ts ks) f g = absurd (let z : _≡_ {A = ℕ} 0 1 = cc in omega arith)
 

@@ -9,7 +9,7 @@ use lib.ListN.{length, getD, replicate}
 use borrow.Author.Tests.{eq-eqb, eqb-true}
 use Rattle.job.specs.Limits as limit
 use Rattle.job.specs.declared.Job.{Job}
-use Rattle.store.specs.Field.{rc, FIRST, REASON, TAKER, NONE, LENGTH}
+use Rattle.store.specs.Field.{rc, FIRST, REASON, TAKER, NONE, BLOCK}
 use Rattle.store.specs.Words.{view}
 use Rattle.store.specs.Named.{recordsOf, firstOf, takerOf}
 use Rattle.store.specs.Reason.{NO-RING, JOINED}
@@ -32,7 +32,7 @@ use Rattle.joins.specs.Join.{processHorzJoins}
 use Rattle.joins.specs.Needs.{Joins}
 use Rattle.opening.specs.declared.open.Opened.the-variants.{Accepted}
 use Rattle.opening.specs.Start.{startRings}
-use Rattle.opening.specs.Open.{JOIN-POINTS, end, afterJoins, afterSegments, afterRows, openOf}
+use Rattle.opening.specs.Open.{JOIN-POINTS, end, afterJoins, afterSegments, afterRows, cleared, openOf}
 use Rattle.opening.proofs.Passing.{passed, converting, may-join, made-ready}
 use Rattle.opening.proofs.Starting.{Begun, begun-all, recs-same, first-same}
 use Rattle.opening.proofs.Accepted.{shut, accepts}
@@ -42,39 +42,39 @@ use Rattle.ended.proofs.Joining.{Bare, Story, not-yet, ringed, had-none
 
 -- ---- the stages
 
-module _ (bytes : List ℕ) (n : ℕ) (w : List ℕ) where
+module _ (bytes lent w : List ℕ) where
   abbrev reads : fill.ReadEnd
-  reads = acceptOf bytes (replicate n 0) (replicate limit.SEGMENTS 0) (replicate JOIN-POINTS 0)
+  reads = acceptOf bytes (cleared lent) (replicate limit.SEGMENTS 0) (replicate JOIN-POINTS 0)
 
-  pub stages : openOf bytes n ≡ end Accepted w → Stages bytes n w
-  stages f = by-read reads refl (accepts w bytes n f .1)
+  pub stages : openOf bytes lent ≡ end Accepted w → Stages bytes lent w
+  stages f = by-read reads refl (accepts w bytes lent f .1)
     where
       by-joins : (j : Job) (v ts ks : List ℕ) → reads ≡ fill.end (outcome.Ok j) v ts ks → (k : ℕ) (x js : List ℕ) → convertHorzSegsToJoins v (j .segments) ts ks (j .joins) ≡ made (converted.Joins k) x js
-          → (T : join.JoinEnd) → processHorzJoins k js x ≡ T → afterJoins T ≡ end Accepted w → Stages bytes n w
+          → (T : join.JoinEnd) → processHorzJoins k js x ≡ T → afterJoins T ≡ end Accepted w → Stages bytes lent w
       by-joins j v ts ks a k x js c (join.end joined.Done y) e f =
           let z : startRings y ≡ w = cc in
           record { job = j; read = v; segments = ts; own = ks; accepted = a; levelled = x; joins = js; many = k; converted = c; joined = y; done = e; started = z }
       by-joins j v ts ks a k x js c (join.end joined.Knot y) e f = absurd (let z : _≡_ {A = ℕ} 0 1 = cc in omega arith)
       by-joins j v ts ks a k x js c (join.end joined.Full y) e f = absurd (let z : _≡_ {A = ℕ} 0 1 = cc in omega arith)
 
-      by-segments : (j : Job) (v ts ks : List ℕ) → reads ≡ fill.end (outcome.Ok j) v ts ks → (T : Made) → convertHorzSegsToJoins v (j .segments) ts ks (j .joins) ≡ T → afterSegments T ≡ end Accepted w → Stages bytes n w
+      by-segments : (j : Job) (v ts ks : List ℕ) → reads ≡ fill.end (outcome.Ok j) v ts ks → (T : Made) → convertHorzSegsToJoins v (j .segments) ts ks (j .joins) ≡ T → afterSegments T ≡ end Accepted w → Stages bytes lent w
       by-segments j v ts ks a (made (converted.Joins k) x js) c f = by-joins j v ts ks a k x js c (processHorzJoins k js x) refl f
       by-segments j v ts ks a (made converted.Full x js) c f = absurd (let z : _≡_ {A = ℕ} 0 1 = cc in omega arith)
 
-      by-read : (T : fill.ReadEnd) → reads ≡ T → afterRows T ≡ end Accepted w → Stages bytes n w
+      by-read : (T : fill.ReadEnd) → reads ≡ T → afterRows T ≡ end Accepted w → Stages bytes lent w
       by-read (fill.end (outcome.Ok j) v ts ks) e f = by-segments j v ts ks e (convertHorzSegsToJoins v (j .segments) ts ks (j .joins)) refl f
       by-read (fill.end (outcome.Refused x) v ts ks) e f = absurd (let z : _≡_ {A = ℕ} 0 1 = cc in omega arith)
 
 -- ---- a record without a ring
 
-module _ (bytes : List ℕ) (n : ℕ) (w : List ℕ) (long : LENGTH ≤ length (replicate {A = ℕ} n 0)) (t : Stages bytes n w) where
+module _ (bytes lent w : List ℕ) (long : BLOCK ≤ length (cleared lent)) (t : Stages bytes lent w) where
   good : accepting.Accepted (t .job) (t .read) (t .segments) (t .own)
-  good = passed bytes (replicate n 0) (t .read) (t .segments) (t .own) (t .job) long (t .accepted)
+  good = passed bytes (cleared lent) (t .read) (t .segments) (t .own) (t .job) long (t .accepted)
 
   -- the segments leave every word of the records
   copied : Copied (view (t .read)) (view (t .levelled))
   copied =
-      let c = converting bytes (replicate n 0) (t .read) (t .segments) (t .own) (t .job) long (t .accepted) in
+      let c = converting bytes (cleared lent) (t .read) (t .segments) (t .own) (t .job) long (t .accepted) in
       let a = anyBelow (t .job .segments) (λ i. onOpen (t .read) (getD (t .segments) i 0)) in
       let b = anyBelow (2 * t .job .joins) (λ i. onOpen (t .read) (getD (t .own) i 0)) in
       subst (ConvertedOpen (t .read)) (t .converted)
@@ -84,7 +84,7 @@ module _ (bytes : List ℕ) (n : ℕ) (w : List ℕ) (long : LENGTH ≤ length (
   joins-of : Joins (t .levelled) (t .many) (t .joins)
   joins-of =
       may-join (t .read) (t .segments) (t .job .segments) (t .own) (t .job .joins) (converted.Joins (t .many)) (t .many) (t .levelled) (t .joins)
-      (converting bytes (replicate n 0) (t .read) (t .segments) (t .own) (t .job) long (t .accepted)) (sym (t .converted)) refl
+      (converting bytes (cleared lent) (t .read) (t .segments) (t .own) (t .job) long (t .accepted)) (sym (t .converted)) refl
 
   -- rings at their start keep them too
   begun : Begun (view (t .joined)) (view w) (recs (view (t .joined)))

@@ -7,16 +7,16 @@ use Prim.Native.Nat.{ℕ, zero, suc, _≤_, _<_}
 use native.Mathlib.Omega.{arith}
 use native.Mathlib.Decide.{ℕ-discrete}
 use lib.ListN.{length}
-use borrow.Author.Tests.{ne-eqb, lt-ltb, le-ltb}
+use borrow.Author.Tests.{ne-eqb, lt-ltb}
 use Rattle.rings.specs.Progress.{Discard}
 use Rattle.geometry.specs.declared.Point.{Point}
-use Rattle.store.specs.Field.{rc, REASON, TAKER, LENGTH}
+use Rattle.store.specs.Field.{rc, REASON, TAKER}
 use Rattle.store.specs.Words.{Store, view}
 use Rattle.store.specs.Reason.{NO-RING, JOINED, discardOf}
 use Rattle.store.specs.Sound.{recs, ringless, isOpen}
 use Rattle.store.specs.Value.{reverseSolution}
 use Rattle.audit.specs.declared.Verdict.the-variants.{Passed}
-use Rattle.audit.specs.Tests.{testsOf}
+use Rattle.audit.specs.Handed.{handedOf}
 use Rattle.steps.specs.Live.{anyLive}
 use Rattle.paths.specs.Path.{pathAt, pathIf, listed, smallBy, pathEnd, pathsBelow}
 use Rattle.telling.specs.declared.Reason.the-variants.{NoRing, Joined, ShortPath, SmallPath, Written}
@@ -91,6 +91,6 @@ own-list s j p e = go (isOpen s j)
 
 -- ---- the call
 
-pub call-tells : (w : List ℕ) (j : ℕ) → LENGTH ≤ length w → testsOf w ≡ Passed → j < recs (view w) → anyLive (view w) ≡ false → reasonOf w j ≡ Because (reasonAt (view w) j)
+pub call-tells : (w : List ℕ) (j : ℕ) → handedOf w ≡ Passed → j < recs (view w) → anyLive (view w) ≡ false → reasonOf w j ≡ Because (reasonAt (view w) j)
 unfolding reasonOf
-call-tells w j l p h d = rw (le-ltb (length w) LENGTH l, p, lt-ltb j (recs (view w)) h, d)
+call-tells w j p h d = rw (p, lt-ltb j (recs (view w)) h, d)

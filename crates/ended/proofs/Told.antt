@@ -33,7 +33,7 @@ use Rattle.opening.specs.Open.{end, openOf}
 use Rattle.opening.specs.After.{OpenAsGiven}
 use Rattle.opening.proofs.Accepted.{accepts, open-as-given}
 use Rattle.finishing.specs.Run.{runOf, granted}
-use Rattle.finishing.specs.Opened.{OpeningLeft}
+use Rattle.finishing.specs.Start.{Start}
 use Rattle.finishing.proofs.InOneCall.{opening-left}
 use Rattle.order.specs.Demand3.{M, G, Lone, lones, HasRing, Has}
 use Rattle.order.proofs.Table.{opened-is}
@@ -53,7 +53,7 @@ use Rattle.ended.proofs.Telling.{tells-none, tells-joined, tells-rule, 
 
 -- ---- a record: opening left it without a ring, or open, or it has a lone ring
 
-module _ (w : List ℕ) (o : OpeningLeft w) (is : List ℕ) (j : ℕ) where
+module _ (w : List ℕ) (o : Start w) (is : List ℕ) (j : ℕ) where
   alone : Alone (M w) (os w o) (lones w is) (granted w is)
   alone = subst (λ (l : List (Fed (Ring Point) (List Point))). Alone (M w) l (lones w is) (granted w is)) (opened-is w) (after-list w o is .alone)
 
@@ -103,27 +103,27 @@ module _ (w : List ℕ) (o : OpeningLeft w) (is : List ℕ) (j : ℕ) where
 
 -- ---- of an accepted job
 
-module _ (bytes : List ℕ) (n : ℕ) (w : List ℕ) (f : openOf bytes n ≡ end Accepted w) (is : List ℕ) (j : ℕ) where
+module _ (bytes lent w : List ℕ) (f : openOf bytes lent ≡ end Accepted w) (is : List ℕ) (j : ℕ) where
   abbrev s : Store
   s = view (runOf w is)
 
-  abbrev t : Stages bytes n w
-  t = stages bytes n w f
+  abbrev t : Stages bytes lent w
+  t = stages bytes lent w f
 
-  abbrev o : OpeningLeft w
-  o = opening-left bytes n w f
+  abbrev o : Start w
+  o = opening-left bytes lent w f
 
   -- a record that opening left without a ring, after the steps
-  bare : (v u : ℕ) → LeftBare bytes n w (accepts w bytes n f .0) t j v u → (ringless s j ≡ true) × (s (rc REASON) j ≡ v) × (s (rc TAKER) j ≡ u)
+  bare : (v u : ℕ) → LeftBare bytes lent w (accepts w bytes lent f .0) t j v u → (ringless s j ≡ true) × (s (rc REASON) j ≡ v) × (s (rc TAKER) j ≡ u)
   bare v u b =
       let k = bare-stays w o is j (b .low) (b .none) in
       (ap (λ (x : ℕ). eqb x NONE) (k .words FIRST) ∙ b .none, k .words REASON ∙ b .kept, k .words TAKER ∙ b .taker)
 
   tells-read : j < recordsOf (t .read) → firstOf (t .read) j ≡ NONE → reasonAt s j ≡ NoRing
-  tells-read l e = let b = bare NO-RING (takerOf (t .levelled) j) (none-left bytes n w (accepts w bytes n f .0) t j l e) in tells-none s j (b .0) (b .1)
+  tells-read l e = let b = bare NO-RING (takerOf (t .levelled) j) (none-left bytes lent w (accepts w bytes lent f .0) t j l e) in tells-none s j (b .0) (b .1)
 
   tells-taken : (m u : ℕ) → m < t .many → EmptiedAt (t .joins) (t .levelled) m u j → reasonAt s j ≡ Joined u
-  tells-taken m u l d = let b = bare JOINED u (taken-left bytes n w (accepts w bytes n f .0) t j m u l d) in tells-joined s j (b .0) u (b .1) (b .2)
+  tells-taken m u l d = let b = bare JOINED u (taken-left bytes lent w (accepts w bytes lent f .0) t j m u l d) in tells-joined s j (b .0) u (b .1) (b .2)
 
   tells-discarded : j < recs s → (q : Option ℕ) (c : List Point) (k : ℕ) (y : Discard) → at (lones w is) j ≡ closedRing q (stepsState (M w) k (initial (atStart c))) → DiscardedBy (G w) c k y → reasonAt s j ≡ discardReason (some y)
   tells-discarded l q c k y e d = let b = rule-back w o is j q c k y e d l in tells-rule s j (b .0) y (b .1)
@@ -142,7 +142,7 @@ module _ (bytes : List ℕ) (n : ℕ) (w : List ℕ) (f : openOf bytes n ≡ end
           let z : _≡_ {A = Option (List Point)} none (some p) = sym (none-built (reverseSolution s) (isOpen s j)) ∙ ap (λ (c : List ℕ). buildPath64FromOutpt (plane (preserveCollinear s)) (reverseSolution s) (isOpen s j) (map (paths.pointAt s) c)) (sym (joining.no-ring s j r)) ∙ e in
           let y : _≡_ {A = ℕ} 0 1 = cc in absurd (omega arith)
 
-  only : j < recs s → (r : Reason) → Ended bytes n w t is j r → r ≡ reasonAt s j
+  only : j < recs s → (r : Reason) → Ended bytes lent w t is j r → r ≡ reasonAt s j
   only l r (no-ring h e) = sym (tells-read h e)
   only l r (joined m u h d) = sym (tells-taken m u h d)
   only l r (discarded q c k y e d) = sym (tells-discarded l q c k y e d)
@@ -151,32 +151,32 @@ module _ (bytes : List ℕ) (n : ℕ) (w : List ℕ) (f : openOf bytes n ≡ end
   only l r (written p after e h) = sym (tells-written s j (ringed p e) p e)
 
   -- with a ring
-  told-path : j < recs s → ringless s j ≡ false → Ended bytes n w t is j (reasonAt s j)
+  told-path : j < recs s → ringless s j ≡ false → Ended bytes lent w t is j (reasonAt s j)
   told-path l r = go (pathAt s j) refl (smallBy s (reverseSolution s) (isOpen s j) j) refl
     where
-      go : (x : Option (List Point)) → pathAt s j ≡ x → (b : Bool) → smallBy s (reverseSolution s) (isOpen s j) j ≡ b → Ended bytes n w t is j (reasonAt s j)
-      go none e true h = subst (Ended bytes n w t is j) (sym (tells-small s j r e h)) (small r e h)
-      go none e false h = subst (Ended bytes n w t is j) (sym (tells-short s j r e h)) (short r e h)
+      go : (x : Option (List Point)) → pathAt s j ≡ x → (b : Bool) → smallBy s (reverseSolution s) (isOpen s j) j ≡ b → Ended bytes lent w t is j (reasonAt s j)
+      go none e true h = subst (Ended bytes lent w t is j) (sym (tells-small s j r e h)) (small r e h)
+      go none e false h = subst (Ended bytes lent w t is j) (sym (tells-short s j r e h)) (short r e h)
       go (some p) e b h =
           let i = in-list s (isOpen s j) j p (own-list s j p e) (recs s) l in
-          subst (Ended bytes n w t is j) (sym (tells-written s j r p e)) (written p (i .0) e (i .1))
+          subst (Ended bytes lent w t is j) (sym (tells-written s j r p e)) (written p (i .0) e (i .1))
 
   -- without
-  told-none : ringless s j ≡ true → Whose w o is j → Ended bytes n w t is j (reasonAt s j)
-  told-none r (left-so l e) = go (why-bare bytes n w (accepts w bytes n f .0) t j l e)
+  told-none : ringless s j ≡ true → Whose w o is j → Ended bytes lent w t is j (reasonAt s j)
+  told-none r (left-so l e) = go (why-bare bytes lent w (accepts w bytes lent f .0) t j l e)
     where
-      go : WhyBare bytes n w (accepts w bytes n f .0) t j → Ended bytes n w t is j (reasonAt s j)
-      go (read-none h d) = subst (Ended bytes n w t is j) (sym (tells-read h d)) (no-ring h d)
-      go (emptied m u h d) = subst (Ended bytes n w t is j) (sym (tells-taken m u h d)) (joined m u h d)
+      go : WhyBare bytes lent w (accepts w bytes lent f .0) t j → Ended bytes lent w t is j (reasonAt s j)
+      go (read-none h d) = subst (Ended bytes lent w t is j) (sym (tells-read h d)) (no-ring h d)
+      go (emptied m u h d) = subst (Ended bytes lent w t is j) (sym (tells-taken m u h d)) (joined m u h d)
   told-none r (lone q L e) =
       let k = rule-kept w o is j q L (ap (λ (es : List Lone). at es j) (lones-are w o is) ∙ e) r in
-      subst (Ended bytes n w t is j) (sym (tells-rule s j r (k .rule) (k .kept)))
+      subst (Ended bytes lent w t is j) (sym (tells-rule s j r (k .rule) (k .kept)))
       (discarded q (k .lone .points) (k .lone .steps) (k .rule) (e ∙ ap (closedRing q) (k .lone .is)) (k .by))
 
-  told : j < recs s → Ended bytes n w t is j (reasonAt s j)
+  told : j < recs s → Ended bytes lent w t is j (reasonAt s j)
   told l = go (ringless s j) refl
     where
-      go : (b : Bool) → ringless s j ≡ b → Ended bytes n w t is j (reasonAt s j)
+      go : (b : Bool) → ringless s j ≡ b → Ended bytes lent w t is j (reasonAt s j)
       go true r = told-none r (whose w o is j l r)
       go false r = told-path l r
 
@@ -187,7 +187,7 @@ module _ (bytes : List ℕ) (n : ℕ) (w : List ℕ) (f : openOf bytes n ≡ end
   open-bare a (left-so l e) = given (decLt j (recs (view (t .read))))
     where
       k : OpenAsGiven (view (t .read)) (view w)
-      k = open-as-given w bytes n f (t .job) (t .read) (t .segments) (t .own) (t .accepted)
+      k = open-as-given w bytes lent f (t .job) (t .read) (t .segments) (t .own) (t .accepted)
 
       b : isOpen (view w) j ≡ true
       b = sym (ap (λ (x : ℕ). eqb (x % 2) 1) (bare-stays w o is j l e .words FLAGS)) ∙ a
@@ -212,10 +212,10 @@ module _ (bytes : List ℕ) (n : ℕ) (w : List ℕ) (f : openOf bytes n ≡ end
       go true r = rw (open-bare a (whose w o is j l r)) tt
       go false r = path r (pathAt s j) refl
 
-  pub tells : Tells bytes n w t is j
+  pub tells : Tells bytes lent w t is j
   tells l d =
       record {
-        call = call-tells (runOf w is) j (follows w o is .rep .long) (after-list w o is .tests-pass) l d;
+        call = call-tells (runOf w is) j (after-list w o is .tests-pass) l d;
         told = told l;
         only = only l;
         opened = of-open l;

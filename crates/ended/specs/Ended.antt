@@ -37,7 +37,7 @@ OfOpen SmallPath = ⊥
 OfOpen (Written o place) = o ≡ true
 
 -- of an accepted job, stage by stage up to w, after the list of steps `is`: record j
-module _ (bytes : List ℕ) (n : ℕ) (w : List ℕ) (t : Stages bytes n w) (is : List ℕ) (j : ℕ) where
+module _ (bytes lent w : List ℕ) (t : Stages bytes lent w) (is : List ℕ) (j : ℕ) where
   abbrev s : Store
   s = view (runOf w is)
 

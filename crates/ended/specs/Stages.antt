@@ -13,16 +13,16 @@ use Rattle.converting.specs.Make.{made, convertHorzSegsToJoins}
 use Rattle.joins.specs.declared.Joined.the-variants.{Done}
 use Rattle.joins.specs.Join.{end, processHorzJoins}
 use Rattle.opening.specs.Start.{startRings}
-use Rattle.opening.specs.Open.{JOIN-POINTS}
+use Rattle.opening.specs.Open.{JOIN-POINTS, cleared}
 
--- of the job's bytes and the length n of the lent work space; w is what opening leaves
-pub record Stages (bytes : List ℕ) (n : ℕ) (w : List ℕ) : Type 0 where
+-- of the job's bytes and the lent work space; w is what opening leaves
+pub record Stages (bytes lent w : List ℕ) : Type 0 where
   pub job : Job
   -- rows 1 to 8: the job as read, its segments, its own joins
   pub read : List ℕ
   pub segments : List ℕ
   pub own : List ℕ
-  pub accepted : acceptOf bytes (replicate n 0) (replicate limit.SEGMENTS 0) (replicate JOIN-POINTS 0) ≡ fill.end (Ok job) read segments own
+  pub accepted : acceptOf bytes (cleared lent) (replicate limit.SEGMENTS 0) (replicate JOIN-POINTS 0) ≡ fill.end (Ok job) read segments own
   -- `convert_horz_segs_to_joins`: the words, and all joins
   pub levelled : List ℕ
   pub joins : List ℕ

@@ -1,20 +1,17 @@
 -- What the needs of the entry points' code come to.
-use Prim.Native.Nat.{ℕ, _≤_, _<_}
+use Prim.Native.Nat.{ℕ}
 use mathlib.Core.Path.{_≡_, ap, _∙_, sym}
 use mathlib.Core.Bool.{Bool, true, false}
 use mathlib.Core.List.{List}
-use lib.ListN.{length}
-use borrow.Author.Tests.{lt-ltb}
 use Rattle.job.specs.declared.refusal.Refusal.{Refusal}
 use Rattle.job.specs.declared.refusal.Refusal.the-variants.{Full, OutOfTurn}
 use Rattle.lone.specs.Forest.{Answer}
-use Rattle.store.specs.Field.{LENGTH}
 use Rattle.store.specs.Words.{view}
 use Rattle.store.specs.Good.{SoundWords}
 use Rattle.audit.specs.declared.Verdict.{Verdict}
 use Rattle.audit.specs.declared.Verdict.the-variants as verdict
-use Rattle.audit.specs.Tests.{testsOf}
-use Rattle.audit.proofs.Agreeing.{passed-sound}
+use Rattle.audit.specs.Handed.{handedOf}
+use Rattle.audit.proofs.Handing.{handed-sound}
 use Rattle.acts.specs.Run as acts
 use Rattle.acts.specs.Step.{outcome, answerS, stepW}
 use Rattle.turns.specs.Form.{raised, geometryOf}
@@ -25,20 +22,17 @@ use Rattle.steps.specs.Live.{anyLive}
 use Rattle.paths.specs.declared.Written.{Written}
 use Rattle.paths.specs.declared.Written.the-variants as written
 use Rattle.paths.specs.Wrote.{wrote, buildPaths64}
-use Rattle.finishing.specs.declared.Stepped.{Stepped}
-use Rattle.finishing.specs.declared.Stepped.the-variants.{Refused}
-use Rattle.finishing.specs.Tested.{Tested}
-use Rattle.finishing.specs.Step.{left, steppedAs, stepBy, stepOf}
+use Rattle.audit.specs.declared.Reply.{Reply}
+use Rattle.audit.specs.declared.Reply.the-variants.{Refused}
+use Rattle.audit.specs.Left.{left}
+use Rattle.finishing.specs.Step.{steppedAs, stepBy, stepOf}
 use Rattle.finishing.specs.Write.{writeBy, writeOf}
-use Rattle.finishing.proofs.Entering.{long-step, long-write}
+use Rattle.finishing.proofs.Entering.{handed-step, handed-write}
 
 -- ---- what the calls ask
 
-pub tested : (w : List ℕ) (v : Verdict) → LENGTH ≤ length w → v ≡ testsOf w → v ≡ verdict.Passed → Tested w
-tested w v l e p = record { long = l; passed = sym e ∙ p }
-
-pub sound-words : (w : List ℕ) → Tested w → SoundWords w
-sound-words w t = record { long = t .long; sound = passed-sound w (t .passed) }
+pub tested : (w : List ℕ) (v : Verdict) → v ≡ handedOf w → v ≡ verdict.Passed → SoundWords w
+tested w v e p = handed-sound w (sym e ∙ p)
 
 -- ---- a step
 
@@ -49,36 +43,28 @@ pub is-out : (a : code.Answer) → a ≡ answers.OutOfTurn → Refused OutOfTurn
 is-out a e = rw e
 
 module _ (w : List ℕ) (i : ℕ) where
-  pub step-short : length w < LENGTH → left (Refused Full) w ≡ stepOf w i
-  unfolding stepOf
-  step-short h = rw (lt-ltb (length w) LENGTH h)
+  pub step-refused : (v : Verdict) (x : Refusal) → v ≡ handedOf w → v ≡ verdict.Refused x → left (Refused x) w ≡ stepOf w i
+  step-refused v x e p = sym (handed-step w i (verdict.Refused x) (sym e ∙ p))
 
-  pub step-refused : (v : Verdict) (x : Refusal) → LENGTH ≤ length w → v ≡ testsOf w → v ≡ verdict.Refused x → left (Refused x) w ≡ stepOf w i
-  step-refused v x l e p = sym (long-step w i l ∙ ap (λ (u : Verdict). stepBy u w i) (sym e ∙ p))
-
-  pub step-passed : (v : Verdict) (r : Stepped) (w′ : List ℕ) → LENGTH ≤ length w → v ≡ testsOf w → v ≡ verdict.Passed → left r w′ ≡ stepBy verdict.Passed w i → left r w′ ≡ stepOf w i
-  step-passed v r w′ l e p h = h ∙ sym (long-step w i l ∙ ap (λ (u : Verdict). stepBy u w i) (sym e ∙ p))
+  pub step-passed : (v : Verdict) (r : Reply) (w′ : List ℕ) → v ≡ handedOf w → v ≡ verdict.Passed → left r w′ ≡ stepBy verdict.Passed w i → left r w′ ≡ stepOf w i
+  step-passed v r w′ e p h = h ∙ sym (handed-step w i verdict.Passed (sym e ∙ p))
 
   -- the answer by the code's name
-  pub step-carried : (a : code.Answer) (r : Stepped) (w′ : List ℕ) → outcome (answerIs a) w′ ≡ acts.stepWords (geometryOf (view w)) raised w i → r ≡ steppedAs (answerIs a) → left r w′ ≡ stepBy verdict.Passed w i
+  pub step-carried : (a : code.Answer) (r : Reply) (w′ : List ℕ) → outcome (answerIs a) w′ ≡ acts.stepWords (geometryOf (view w)) raised w i → r ≡ steppedAs (answerIs a) → left r w′ ≡ stepBy verdict.Passed w i
   unfolding acts.stepWords
   step-carried a r w′ h e =
       let p : answerIs a ≡ answerS (geometryOf (view w)) raised (view w) i = cc in
       let q : w′ ≡ stepW (geometryOf (view w)) raised w i = cc in
-      ap (λ (z : Stepped). left z w′) (e ∙ ap steppedAs p) ∙ ap (left (steppedAs (answerS (geometryOf (view w)) raised (view w) i))) q
+      ap (λ (z : Reply). left z w′) (e ∙ ap steppedAs p) ∙ ap (left (steppedAs (answerS (geometryOf (view w)) raised (view w) i))) q
 
 -- ---- writing out
 
 module _ (w t : List ℕ) where
-  pub write-short : length w < LENGTH → wrote (written.Refused Full) t ≡ writeOf w t
-  unfolding writeOf
-  write-short h = rw (lt-ltb (length w) LENGTH h)
+  pub write-refused : (v : Verdict) (x : Refusal) → v ≡ handedOf w → v ≡ verdict.Refused x → wrote (written.Refused x) t ≡ writeOf w t
+  write-refused v x e p = sym (handed-write w t (verdict.Refused x) (sym e ∙ p))
 
-  pub write-refused : (v : Verdict) (x : Refusal) → LENGTH ≤ length w → v ≡ testsOf w → v ≡ verdict.Refused x → wrote (written.Refused x) t ≡ writeOf w t
-  write-refused v x l e p = sym (long-write w t l ∙ ap (λ (u : Verdict). writeBy u w t) (sym e ∙ p))
-
-  pub write-passed : (v : Verdict) (r : Written) (t′ : List ℕ) → LENGTH ≤ length w → v ≡ testsOf w → v ≡ verdict.Passed → wrote r t′ ≡ writeBy verdict.Passed w t → wrote r t′ ≡ writeOf w t
-  write-passed v r t′ l e p h = h ∙ sym (long-write w t l ∙ ap (λ (u : Verdict). writeBy u w t) (sym e ∙ p))
+  pub write-passed : (v : Verdict) (r : Written) (t′ : List ℕ) → v ≡ handedOf w → v ≡ verdict.Passed → wrote r t′ ≡ writeBy verdict.Passed w t → wrote r t′ ≡ writeOf w t
+  write-passed v r t′ e p h = h ∙ sym (handed-write w t verdict.Passed (sym e ∙ p))
 
   module _ (b : Bool) (e : b ≡ anyLive (view w)) where
     pub write-early : b ≡ true → wrote (written.Refused OutOfTurn) t ≡ writeBy verdict.Passed w t

@@ -1,35 +1,29 @@
--- A call on a work space that is long enough, by what its tests say; and a refused step leaves every word.
-use Prim.Native.Nat.{ℕ, _≤_}
-use mathlib.Core.Path.{_≡_, refl}
-use mathlib.Core.Bool.{Bool, true, false, cond}
+-- A call on a work space that passes; and a refused step leaves every word.
+use Prim.Native.Nat.{ℕ}
+use mathlib.Core.Path.{_≡_, refl, ap}
 use mathlib.Core.List.{List}
 use native.Mathlib.Omega.{arith}
-use lib.Dec.{ltb}
-use lib.ListN.{length}
-use borrow.Author.Tests.{le-ltb}
 use Rattle.job.specs.declared.refusal.Refusal.{Refusal}
-use Rattle.job.specs.declared.refusal.Refusal.the-variants.{Full}
 use Rattle.lone.specs.Lone.{Geo}
 use Rattle.lone.specs.Forest.{Answer, ok, full, outOfTurn}
 use Rattle.geometry.specs.declared.Point.{Point}
-use Rattle.store.specs.Field.{LENGTH}
 use Rattle.store.specs.Words.{view}
 use Rattle.audit.specs.declared.Verdict.{Verdict}
 use Rattle.audit.specs.declared.Verdict.the-variants as verdict
-use Rattle.audit.specs.Tests.{testsOf}
+use Rattle.audit.specs.Handed.{handedOf}
 use Rattle.acts.specs.Step.{answerS, stepByW, stepW}
 use Rattle.turns.specs.Form.{raised, geometryOf}
-use Rattle.finishing.specs.declared.Stepped.the-variants.{Refused}
-use Rattle.finishing.specs.Step.{left, steppedAs, stepBy, stepOf}
+use Rattle.audit.specs.declared.Reply.the-variants.{Refused}
+use Rattle.finishing.specs.Step.{steppedAs, stepBy, stepOf}
 use Rattle.finishing.specs.Write.{writeBy, writeOf}
 
-pub long-step : (w : List ℕ) (i : ℕ) → LENGTH ≤ length w → stepOf w i ≡ stepBy (testsOf w) w i
+pub handed-step : (w : List ℕ) (i : ℕ) (v : Verdict) → handedOf w ≡ v → stepOf w i ≡ stepBy v w i
 unfolding stepOf
-long-step w i l = rw (le-ltb (length w) LENGTH l)
+handed-step w i v e = ap (λ (u : Verdict). stepBy u w i) e
 
-pub long-write : (w t : List ℕ) → LENGTH ≤ length w → writeOf w t ≡ writeBy (testsOf w) w t
+pub handed-write : (w t : List ℕ) (v : Verdict) → handedOf w ≡ v → writeOf w t ≡ writeBy v w t
 unfolding writeOf
-long-write w t l = rw (le-ltb (length w) LENGTH l)
+handed-write w t v e = ap (λ (u : Verdict). writeBy u w t) e
 
 -- refused with 12 or with 10, a step on words leaves them
 refused-words : (G : Geo Point) (w : List ℕ) (i : ℕ) (x : Refusal) → steppedAs (answerS G raised (view w) i) ≡ Refused x → stepW G raised w i ≡ w
@@ -44,10 +38,8 @@ refused-words G w i x e = go (answerS G raised (view w) i) e
 -- a refused step leaves every word, on every input
 pub refused-leaves : (w : List ℕ) (i : ℕ) (x : Refusal) → stepOf w i .answer ≡ Refused x → stepOf w i .words ≡ w
 unfolding stepOf
-refused-leaves w i x e = go (ltb (length w) LENGTH) (testsOf w) e
+refused-leaves w i x e = go (handedOf w) e
   where
-    go : (b : Bool) (v : Verdict) → cond b (left (Refused Full) w) (stepBy v w i) .answer ≡ Refused x
-        → cond b (left (Refused Full) w) (stepBy v w i) .words ≡ w
-    go true v h = refl
-    go false (verdict.Refused r) h = refl
-    go false verdict.Passed h = refused-words (geometryOf (view w)) w i x h
+    go : (v : Verdict) → stepBy v w i .answer ≡ Refused x → stepBy v w i .words ≡ w
+    go (verdict.Refused r) h = refl
+    go verdict.Passed h = refused-words (geometryOf (view w)) w i x h

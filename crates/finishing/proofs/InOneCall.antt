@@ -18,7 +18,7 @@ use Rattle.acts.specs.Finish.{RingsEnd, ringsDone, finishW}
 use Rattle.paths.specs.declared.Written.{Written}
 use Rattle.paths.specs.declared.Written.the-variants.{Paths, Refused}
 use Rattle.paths.specs.Wrote.{Wrote, wrote, buildPaths64}
-use Rattle.finishing.specs.Opened.{OpeningLeft}
+use Rattle.finishing.specs.Start.{Start}
 use Rattle.finishing.specs.Finish.{finishRings}
 use Rattle.finishing.specs.InOneCall.{finished, refused, afterWriting, afterSteps, afterOpening, finishOf}
 use Rattle.opening.specs.declared.open.Opened.{Opened}
@@ -26,6 +26,7 @@ use Rattle.opening.specs.declared.open.Opened.the-variants.{Accepted}
 use Rattle.opening.specs.declared.open.Opened.the-variants as opened
 use Rattle.opening.specs.Open.{End, end, openOf}
 use Rattle.opening.proofs.Accepted.{after-opening}
+use Rattle.opening.proofs.Behind.{open-long, open-apart}
 use Rattle.finishing.proofs.Starting.{start-rep}
 
 pub zeros : (x : Refusal) (w t w′ t′ : List ℕ) → w′ ≡ replicate (length w) 0 → t′ ≡ replicate (length t) 0 → finished (Refused x) w′ t′ ≡ refused x (length w) (length t)
@@ -46,7 +47,7 @@ module _ (w t t₁ : List ℕ) (r : Written) (e : wrote r t₁ ≡ buildPaths64 
 -- ---- the rings are finished
 
 -- rings that are done may be written out
-pub done-ready : (w w₁ : List ℕ) → OpeningLeft w → finishRings w ≡ ringsDone w₁ → SoundWords w₁
+pub done-ready : (w w₁ : List ℕ) → Start w → finishRings w ≡ ringsDone w₁ → SoundWords w₁
 unfolding finishRings
 done-ready w w₁ o e =
     let r = finish-done (geometryOf (view w)) raised (laws (preserveCollinear (view w))) w _ w₁ (start-rep w o) e in
@@ -57,7 +58,7 @@ module _ (w w₁ t : List ℕ) (a : code.RingsEnd) (e : endIs a w₁ ≡ finishW
   unfolding finishRings
   stepped-as = ap (λ (o : RingsEnd). afterSteps o t) e
 
-  pub may-write : OpeningLeft w → a ≡ Done → SoundWords w₁
+  pub may-write : Start w → a ≡ Done → SoundWords w₁
   unfolding finishRings
   may-write o h = done-ready w w₁ o (sym e ∙ ap (λ (b : code.RingsEnd). endIs b w₁) h)
 
@@ -69,19 +70,19 @@ module _ (w w₁ t : List ℕ) (a : code.RingsEnd) (e : endIs a w₁ ≡ finishW
 
 -- ---- a job is opened
 
-pub opening-left : (bytes : List ℕ) (n : ℕ) (w : List ℕ) → openOf bytes n ≡ end Accepted w → OpeningLeft w
-opening-left bytes n w e = let a = after-opening w bytes n e in record { long = a .ready .long; sound = a .sound; fresh = a .fresh }
+pub opening-left : (bytes lent w : List ℕ) → openOf bytes lent ≡ end Accepted w → Start w
+opening-left bytes lent w e = let a = after-opening w bytes lent e in record { long = open-long bytes lent w e; sound = a .sound; apart = open-apart bytes lent w e; fresh = a .fresh }
 
-module _ (bytes : List ℕ) (n : ℕ) (w₁ t : List ℕ) (o : Opened) (e : end o w₁ ≡ openOf bytes n) where
-  pub may-finish : o ≡ Accepted → OpeningLeft w₁
-  may-finish h = opening-left bytes n w₁ (sym e ∙ ap (λ (a : Opened). end a w₁) h)
+module _ (bytes lent w₁ t : List ℕ) (o : Opened) (e : end o w₁ ≡ openOf bytes lent) where
+  pub may-finish : o ≡ Accepted → Start w₁
+  may-finish h = opening-left bytes lent w₁ (sym e ∙ ap (λ (a : Opened). end a w₁) h)
 
-  opened-as : afterOpening (end o w₁) t ≡ finishOf bytes n t
+  opened-as : afterOpening (end o w₁) t ≡ finishOf bytes lent t
   unfolding finishOf
   opened-as = ap (λ (z : End). afterOpening z t) e
 
-  pub job-accepted : (b : Written) (w′ t′ : List ℕ) → o ≡ Accepted → finished b w′ t′ ≡ afterSteps (finishRings w₁) t → finished b w′ t′ ≡ finishOf bytes n t
+  pub job-accepted : (b : Written) (w′ t′ : List ℕ) → o ≡ Accepted → finished b w′ t′ ≡ afterSteps (finishRings w₁) t → finished b w′ t′ ≡ finishOf bytes lent t
   job-accepted b w′ t′ h g = g ∙ sym (ap (λ (a : Opened). afterOpening (end a w₁) t) h) ∙ opened-as
 
-  pub job-refused : (x : Refusal) (b : Written) (w′ t′ : List ℕ) → o ≡ opened.Refused x → finished b w′ t′ ≡ refused x (length w₁) (length t) → finished b w′ t′ ≡ finishOf bytes n t
+  pub job-refused : (x : Refusal) (b : Written) (w′ t′ : List ℕ) → o ≡ opened.Refused x → finished b w′ t′ ≡ refused x (length w₁) (length t) → finished b w′ t′ ≡ finishOf bytes lent t
   job-refused x b w′ t′ h g = g ∙ sym (ap (λ (a : Opened). afterOpening (end a w₁) t) h) ∙ opened-as

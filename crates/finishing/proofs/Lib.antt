@@ -1,5 +1,6 @@
 -- Laws of the entry points.
 pub mod Entering
+pub mod Blocks
 pub mod Calls
 pub mod Starting
 pub mod InOneCall

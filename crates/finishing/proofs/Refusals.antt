@@ -1,4 +1,4 @@
--- Which rows the calls can give: opening those up to 10, the tests of a handed work space those up to 7; and with a tray of `TRAY` bytes neither writing
+-- Which rows the calls can give: opening those up to 10, the tests of a handed work space those up to 7, and 10 where it is too short; and with a tray of `TRAY` bytes neither writing
 -- out nor finishing in one call ever gives 11.
 use Prim.Native.Nat.{ℕ, zero, suc, _≤_}
 use mathlib.Core.Path.{_≡_, refl, ap, sym, subst}
@@ -24,7 +24,8 @@ use Rattle.audit.specs.declared.Verdict.{Verdict}
 use Rattle.audit.specs.declared.Verdict.the-variants as verdict
 use Rattle.audit.specs.Tests.{anyReached, anyRecord, offTable, noSuch, noSuchOf, lostTaker, loose, shared, misplaced, untold, testsOf}
 use Rattle.audit.specs.Tests as tests
-use Rattle.audit.proofs.Agreeing.{passed-sound}
+use Rattle.audit.specs.Handed.{keptTwice, namesTested, testedOf, handedOf}
+use Rattle.audit.proofs.Handing.{handed-sound}
 use Rattle.reading.specs.declared.fill.Outcome.the-variants as outcome
 use Rattle.reading.specs.Fill as fill
 use Rattle.reading.specs.Fill.{placed, taken, turnOf, follow, run, fillOf}
@@ -37,7 +38,7 @@ use Rattle.joins.specs.declared.Joined.the-variants as joined
 use Rattle.joins.specs.Join as join
 use Rattle.joins.specs.Join.{processHorzJoins}
 use Rattle.opening.specs.declared.open.Opened.the-variants.{Accepted, Refused}
-use Rattle.opening.specs.Open.{End, end, afterJoins, afterSegments, afterRows, stagesOf, settled, openOf, JOIN-POINTS}
+use Rattle.opening.specs.Open.{End, end, afterJoins, afterSegments, afterRows, stagesOf, settled, cleared, openOf, JOIN-POINTS}
 use Rattle.job.specs.Limits.{SEGMENTS}
 use Rattle.acts.specs.Finish.{RingsEnd, ringsDone, ringsFull}
 use Rattle.paths.specs.declared.Written.{Written}
@@ -46,7 +47,7 @@ use Rattle.paths.specs.Tray.{TRAY}
 use Rattle.paths.specs.Wrote.{Wrote, wrote, buildPaths64}
 use Rattle.paths.proofs.Bound.{never-small}
 use Rattle.store.specs.Good.{Sound}
-use Rattle.finishing.specs.Opened.{OpeningLeft}
+use Rattle.finishing.specs.Start.{Start}
 use Rattle.steps.specs.Live.{anyLive}
 use Rattle.finishing.specs.Write.{writeBy, writeOf}
 use Rattle.finishing.specs.Finish.{finishRings}
@@ -162,17 +163,18 @@ settled-rows : (n : ℕ) (e : End) → OpenedTo 10 e → OpenedTo 10 (settled n 
 settled-rows n (end Accepted w) h = tt
 settled-rows n (end (Refused x) w) h = h
 
-pub open-rows : (bytes : List ℕ) (n : ℕ) → OpenedTo 10 (openOf bytes n)
+pub open-rows : (bytes lent : List ℕ) → OpenedTo 10 (openOf bytes lent)
 unfolding openOf stagesOf acceptOf readOf
-open-rows bytes n =
-    let w : List ℕ = replicate n 0 in
+open-rows bytes lent =
+    let n : ℕ = length lent in
+    let w : List ℕ = cleared lent in
     let ss : List ℕ = replicate SEGMENTS 0 in
     let js : List ℕ = replicate JOIN-POINTS 0 in
     let read : fill.ReadEnd = fillOf bytes w ss js in
     go (ltb n LENGTH) (settled n (afterRows (judged (withCounts read))))
     (settled-rows n (afterRows (judged (withCounts read))) (stages-rows (judged (withCounts read)) (judged-rows (withCounts read) (count-rows read (fill-rows bytes w ss js)))))
   where
-    go : (b : Bool) (e : End) → OpenedTo 10 e → OpenedTo 10 (cond b (end (Refused Full) (replicate n 0)) e)
+    go : (b : Bool) (e : End) → OpenedTo 10 e → OpenedTo 10 (cond b (end (Refused Full) (replicate (length lent) 0)) e)
     go true e h = omega arith
     go false e h = h
 
@@ -193,6 +195,20 @@ tests-rows w =
     go false false false false true = omega arith
     go false false false false false = tt
 
+-- and its length row 10
+pub handed-rows : (w : List ℕ) → JudgedTo 10 (handedOf w)
+unfolding handedOf testedOf
+handed-rows w = go (ltb (length w) LENGTH) (testsOf w) (tests-rows w)
+  where
+    names : (c : Bool) → JudgedTo 10 (cond c (verdict.Refused Muddled) verdict.Passed)
+    names true = omega arith
+    names false = tt
+
+    go : (b : Bool) (v : Verdict) → JudgedTo 7 v → JudgedTo 10 (cond b (verdict.Refused Full) (namesTested w v))
+    go true v h = omega arith
+    go false (verdict.Refused x) h = omega (arith, h)
+    go false verdict.Passed h = names (keptTwice w)
+
 -- ---- never 11
 
 abbrev NotSmall : Written → Type 0
@@ -205,29 +221,28 @@ module _ (t : List ℕ) (long : TRAY ≤ length t) where
 
   pub write-not-small : (w : List ℕ) → writeOf w t .answer ≢ written.Refused SmallTray
   unfolding writeOf
-  write-not-small w e = subst NotSmall e (go (ltb (length w) LENGTH) (testsOf w) refl (tests-rows w)) refl
+  write-not-small w e = subst NotSmall e (go (handedOf w) refl (handed-rows w)) refl
     where
       passed : (l : Bool) → Sound (view w) → NotSmall (cond l (wrote (written.Refused OutOfTurn) t) (buildPaths64 (view w) t) .answer)
       passed true s = λ z. omega (arith, z)
       passed false s = written-not-small w s
 
-      go : (b : Bool) (v : Verdict) → testsOf w ≡ v → JudgedTo 7 v → NotSmall (cond b (wrote (written.Refused Full) t) (writeBy v w t) .answer)
-      go true v h k = λ z. omega (arith, z)
-      go false (verdict.Refused r) h k = λ z. omega (arith, z, k)
-      go false verdict.Passed h k = passed (anyLive (view w)) (passed-sound w h)
+      go : (v : Verdict) → handedOf w ≡ v → JudgedTo 10 v → NotSmall (writeBy v w t .answer)
+      go (verdict.Refused r) h k = λ z. omega (arith, z, k)
+      go verdict.Passed h k = passed (anyLive (view w)) (handed-sound w h .sound)
 
   after-writing : (w : List ℕ) (r : Written) (u : List ℕ) → NotSmall r → NotSmall (afterWriting w r u .answer)
   after-writing w (written.Paths c o) u h = tt
   after-writing w (written.Refused x) u h = h
 
-  after-steps : (w : List ℕ) → OpeningLeft w → (r : RingsEnd) → finishRings w ≡ r → NotSmall (afterSteps r t .answer)
+  after-steps : (w : List ℕ) → Start w → (r : RingsEnd) → finishRings w ≡ r → NotSmall (afterSteps r t .answer)
   after-steps w o (ringsDone w₁) e = after-writing w₁ (buildPaths64 (view w₁) t .answer) (buildPaths64 (view w₁) t .tray) (written-not-small w₁ (done-ready w w₁ o e .sound))
   after-steps w o (ringsFull w₁) e = λ z. omega (arith, z)
 
-  pub finish-not-small : (bytes : List ℕ) (n : ℕ) → finishOf bytes n t .answer ≢ written.Refused SmallTray
+  pub finish-not-small : (bytes lent : List ℕ) → finishOf bytes lent t .answer ≢ written.Refused SmallTray
   unfolding finishOf
-  finish-not-small bytes n e = subst NotSmall e (go (openOf bytes n) refl (open-rows bytes n)) refl
+  finish-not-small bytes lent e = subst NotSmall e (go (openOf bytes lent) refl (open-rows bytes lent)) refl
     where
-      go : (r : End) → openOf bytes n ≡ r → OpenedTo 10 r → NotSmall (afterOpening r t .answer)
-      go (end Accepted w) h k = after-steps w (opening-left bytes n w h) (finishRings w) refl
+      go : (r : End) → openOf bytes lent ≡ r → OpenedTo 10 r → NotSmall (afterOpening r t .answer)
+      go (end Accepted w) h k = after-steps w (opening-left bytes lent w h) (finishRings w) refl
       go (end (Refused x) w) h k = λ z. omega (arith, z, k)

@@ -26,15 +26,15 @@ use Rattle.acts.specs.Value.{value}
 use Rattle.acts.specs.Finishable.{MayFinish}
 use Rattle.acts.proofs.Opening.{opening-rep}
 use Rattle.turns.specs.Form.{raised, geometryOf}
-use Rattle.finishing.specs.Opened.{OpeningLeft}
+use Rattle.finishing.specs.Start.{Start}
 
-module _ (w : List ℕ) (o : OpeningLeft w) where
+module _ (w : List ℕ) (o : Start w) where
   -- the forest that opening makes
   abbrev F₀ : Forest (Ring Point) (List Point)
   F₀ = opening (records (raised .of) (view w)) (pts (view w))
 
   pub start-rep : RepW raised w F₀
-  start-rep = record { long = o .long; rep = opening-rep (raised .of) (view w) (o .sound) (o .fresh) }
+  start-rep = record { long = omega (arith, o .long); rep = opening-rep (raised .of) (view w) (o .sound) (o .fresh) }
 
   -- every ring is at its start, and has no more points than there are
   module _ (i : ℕ) (l : i < recs (view w)) where

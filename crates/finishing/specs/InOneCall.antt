@@ -43,6 +43,6 @@ abbrev pub afterOpening : End → List ℕ → Finished
 afterOpening (end Accepted w) t = afterSteps (finishRings w) t
 afterOpening (end (opened.Refused x) w) t = refused x (length w) (length t)
 
--- `finish`, by the job's bytes, the length n of the lent work space and the tray
-unfoldable pub finishOf : List ℕ → ℕ → List ℕ → Finished
-finishOf bytes n t = afterOpening (openOf bytes n) t
+-- `finish`, by the job's bytes, the lent work space and the tray
+unfoldable pub finishOf : List ℕ → List ℕ → List ℕ → Finished
+finishOf bytes w t = afterOpening (openOf bytes w) t

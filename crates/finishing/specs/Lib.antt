@@ -1,8 +1,7 @@
 -- The entry points' definitions: what each call answers and leaves, on every input; lists of steps; finishing the rings.
-pub mod Tested
 pub mod Step
 pub mod Write
 pub mod Run
 pub mod Finish
-pub mod Opened
+pub mod Start
 pub mod InOneCall

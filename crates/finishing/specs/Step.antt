@@ -1,40 +1,29 @@
 -- A step as a call: what it answers and the words that it leaves, on every work space and every record number.
 use Prim.Native.Nat.{ℕ}
-use mathlib.Core.Bool.{cond}
 use mathlib.Core.List.{List}
-use lib.Dec.{ltb}
-use lib.ListN.{length}
 use Rattle.job.specs.declared.refusal.Refusal.the-variants.{Full, OutOfTurn}
 use Rattle.lone.specs.Forest.{Answer, ok, full, outOfTurn}
-use Rattle.store.specs.Field.{LENGTH}
 use Rattle.store.specs.Words.{view}
 use Rattle.audit.specs.declared.Verdict.{Verdict}
 use Rattle.audit.specs.declared.Verdict.the-variants as verdict
-use Rattle.audit.specs.Tests.{testsOf}
+use Rattle.audit.specs.Handed.{handedOf}
+use Rattle.audit.specs.Left.{Left, left}
 use Rattle.acts.specs.Step.{answerS, stepW}
 use Rattle.turns.specs.Form.{raised, geometryOf}
-use Rattle.finishing.specs.declared.Stepped.{Stepped}
-use Rattle.finishing.specs.declared.Stepped.the-variants.{Done, Refused}
-
--- the answer, and the words left
-pub record Left : Type 0 where
-  pub answer : Stepped
-  pub words : List ℕ
-
-abbrev pub left : Stepped → List ℕ → Left
-left a w = record { answer = a; words = w }
+use Rattle.audit.specs.declared.Reply.{Reply}
+use Rattle.audit.specs.declared.Reply.the-variants.{Done, Refused}
 
 -- which of the table's rows each answer is: carried out, 10, 12. ("12 precedes it in a step": `answerS` has that order)
-abbrev pub steppedAs : Answer → Stepped
+abbrev pub steppedAs : Answer → Reply
 steppedAs ok = Done
 steppedAs full = Refused Full
 steppedAs outOfTurn = Refused OutOfTurn
 
--- a step on a work space that is long enough, by what its tests say: "A step .. first tests the work space it is handed"
+-- by what was found out about the work space: "A step .. first tests the work space it is handed"; a refused step leaves every word
 abbrev pub stepBy : Verdict → List ℕ → ℕ → Left
 stepBy (verdict.Refused r) w i = left (Refused r) w
 stepBy verdict.Passed w i = left (steppedAs (answerS (geometryOf (view w)) raised (view w) i)) (stepW (geometryOf (view w)) raised w i)
 
--- `step`. Row 10's length is "tested first of all, by every call"; a refused step leaves every word
+-- `step`
 unfoldable pub stepOf : List ℕ → ℕ → Left
-stepOf w i = cond (ltb (length w) LENGTH) (left (Refused Full) w) (stepBy (testsOf w) w i)
+stepOf w i = stepBy (handedOf w) w i

@@ -1,8 +1,9 @@
 // The public entry points: opening, a step, and writing out. No function of this file that is `pub` has a `requires`.
 pub mod finish;
 
+use audit::Reply;
 use audit::Verdict;
-use audit::tests_of;
+use audit::handed;
 use job::refusal::Refusal;
 use opening::open::Opened;
 use paths::Written;
@@ -10,49 +11,41 @@ use paths::build_paths64;
 use steps::Answer;
 use steps::step::any_live;
 use steps::step::step_record;
-use store::LENGTH;
 ghost use mathlib.Core.Path.{_≡_};
-ghost use lib.ListN.{length};
 ghost use Prim.Native.Nat.{_+_, _<_};
-ghost use Rattle.store.specs.Field.{LENGTH};
+ghost use Rattle.store.specs.Good.{SoundWords};
 ghost use Rattle.audit.specs.declared.Verdict.the-variants.{Passed};
 ghost use Rattle.steps.specs.Code.{answerIs};
 ghost use Rattle.paths.specs.Wrote.{wrote};
 ghost use Rattle.opening.specs.Open.{end, openOf};
-ghost use Rattle.finishing.specs.Step.{left, steppedAs, stepBy, stepOf};
+ghost use Rattle.audit.specs.Left.{left};
+ghost use Rattle.finishing.specs.Step.{steppedAs, stepBy, stepOf};
 ghost use Rattle.finishing.specs.Write.{writeBy, writeOf};
-ghost use Rattle.finishing.specs.Tested.{Tested};
-
-// What a step answers: carried out, or a refusal.
-pub enum Stepped {
-    Done,
-    Refused(Refusal),
-}
 
 // ---- opening
 
 // Opens a job: its answer, and every word left.
 pub fn open(bytes: &[u8], work: &mut [u32]) -> Opened
-    ensures { λ r. ⌜ end r (now (work .exit)) ≡ openOf (now (bytes .entry)) (length (now (work .entry))) ⌝ }
+    ensures { λ r. ⌜ end r (now (work .exit)) ≡ openOf (now (bytes .entry)) (now (work .entry)) ⌝ }
 {
     opening::open::open(bytes, work)
 }
 
 // ---- a step
 
-fn answered(a: Answer) -> Stepped
+fn answered(a: Answer) -> Reply
     ensures { λ r. ⌜ r ≡ steppedAs (answerIs a) ⌝ }
 {
     match a {
-        Answer::Ok => Stepped::Done,
-        Answer::Full => Stepped::Refused(Refusal::Full),
-        Answer::OutOfTurn => Stepped::Refused(Refusal::OutOfTurn),
+        Answer::Ok => Reply::Done,
+        Answer::Full => Reply::Refused(Refusal::Full),
+        Answer::OutOfTurn => Reply::Refused(Refusal::OutOfTurn),
     }
 }
 
 // A step on a work space that passed the tests.
-fn step_tested(work: &mut [u32], i: usize) -> Stepped
-    requires { ⌜ Tested (now work) ⌝ }
+fn step_tested(work: &mut [u32], i: usize) -> Reply
+    requires { ⌜ SoundWords (now work) ⌝ }
     ensures { λ r. ⌜ left r (now (work .exit)) ≡ stepBy Passed (now (work .entry)) i ⌝ }
 {
     let a = step_record(work, i);
@@ -60,19 +53,16 @@ fn step_tested(work: &mut [u32], i: usize) -> Stepped
 }
 
 // A step on a record number: its answer, and every word left.
-pub fn step(work: &mut [u32], number: u32) -> Stepped
+pub fn step(work: &mut [u32], number: u32) -> Reply
     ensures { λ r. ⌜ left r (now (work .exit)) ≡ stepOf (now (work .entry)) number ⌝ }
 {
-    if work.len() < LENGTH {
-        return Stepped::Refused(Refusal::Full);
-    }
-    let verdict = tests_of(work);
+    let verdict = handed(work);
     match verdict {
         Verdict::Passed => {
             return step_tested(work, number as usize);
         }
         Verdict::Refused(r) => {
-            return Stepped::Refused(r);
+            return Reply::Refused(r);
         }
     }
 }
@@ -81,7 +71,7 @@ pub fn step(work: &mut [u32], number: u32) -> Stepped
 
 // Writing out a work space that passed the tests.
 fn write_tested(work: &[u32], tray: &mut [u8]) -> Written
-    requires { ⌜ Tested (now work) ⌝ }
+    requires { ⌜ SoundWords (now work) ⌝ }
     ensures { λ r. ⌜ wrote r (now (tray .exit)) ≡ writeBy Passed (now (work .entry)) (now (tray .entry)) ⌝ }
 {
     let going = any_live(work);
@@ -95,10 +85,7 @@ fn write_tested(work: &[u32], tray: &mut [u8]) -> Written
 pub fn write_out(work: &[u32], tray: &mut [u8]) -> Written
     ensures { λ r. ⌜ wrote r (now (tray .exit)) ≡ writeOf (now (work .entry)) (now (tray .entry)) ⌝ }
 {
-    if work.len() < LENGTH {
-        return Written::Refused(Refusal::Full);
-    }
-    let verdict = tests_of(work);
+    let verdict = handed(work);
     match verdict {
         Verdict::Passed => {
             return write_tested(work, tray);

@@ -1,7 +1,7 @@
--- The table of refusals: document 01's twelve, and document 02's 13 "bad rate".
+-- The table of refusals: document 01's twelve, and document 02's 13 "bad rate", 14 "unknown name", 15 "no place".
 use Prim.Native.Nat.{ℕ}
 use Rattle.job.specs.declared.refusal.Refusal.{Refusal}
-use Rattle.job.specs.declared.refusal.Refusal.the-variants.{Torn, Strange, Crowded, OffTheTable, NoSuch, Loose, Muddled, OpenEdge, Knot, Full, SmallTray, OutOfTurn, BadRate}
+use Rattle.job.specs.declared.refusal.Refusal.the-variants.{Torn, Strange, Crowded, OffTheTable, NoSuch, Loose, Muddled, OpenEdge, Knot, Full, SmallTray, OutOfTurn, BadRate, UnknownName, NoPlace}
 
 abbrev pub numberOf : Refusal → ℕ
 numberOf Torn = 1
@@ -17,3 +17,5 @@ numberOf Full = 10
 numberOf SmallTray = 11
 numberOf OutOfTurn = 12
 numberOf BadRate = 13
+numberOf UnknownName = 14
+numberOf NoPlace = 15

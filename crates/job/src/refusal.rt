@@ -1,4 +1,4 @@
-// The refusals of document 01's table, and 13 of document 02.
+// The refusals of document 01's table, and 13 to 15 of document 02.
 ghost use mathlib.Core.Path.{_≡_};
 ghost use Rattle.job.specs.Refusal.{numberOf};
 
@@ -16,6 +16,8 @@ pub enum Refusal {
     SmallTray,
     OutOfTurn,
     BadRate,
+    UnknownName,
+    NoPlace,
 }
 
 impl Refusal {
@@ -37,6 +39,8 @@ impl Refusal {
             Refusal::SmallTray => 11,
             Refusal::OutOfTurn => 12,
             Refusal::BadRate => 13,
+            Refusal::UnknownName => 14,
+            Refusal::NoPlace => 15,
         }
     }
 }

@@ -8,6 +8,6 @@ use Rattle.prefix.specs.Decides.{DECIDES}
 use Rattle.prefix.proofs.Decided.{finish-decided}
 use Rattle.job_listing.specs.Cutlist.{listedFrom, cutlistOf}
 
-pub cutlist-decided : (rate : Rate) (bytes : List ℕ) (n : ℕ) (t : List ℕ) → cutlistOf rate (take DECIDES bytes) n t ≡ cutlistOf rate bytes n t
+pub cutlist-decided : (rate : Rate) (bytes lent t : List ℕ) → cutlistOf rate (take DECIDES bytes) lent t ≡ cutlistOf rate bytes lent t
 unfolding cutlistOf
-cutlist-decided rate bytes n t = ap (listedFrom rate) (finish-decided bytes n t)
+cutlist-decided rate bytes lent t = ap (listedFrom rate) (finish-decided bytes lent t)

@@ -21,7 +21,7 @@ use Rattle.paths.specs.Wrote.{wrote, buildPaths64}
 use Rattle.opening.specs.declared.open.Opened.the-variants.{Accepted}
 use Rattle.opening.specs.declared.open.Opened.the-variants as opened
 use Rattle.opening.specs.Open.{End, end, openOf}
-use Rattle.finishing.specs.Opened.{OpeningLeft}
+use Rattle.finishing.specs.Start.{Start}
 use Rattle.finishing.specs.Finish.{finishRings}
 use Rattle.finishing.specs.InOneCall.{afterWriting, afterSteps, afterOpening, finishOf}
 use Rattle.finishing.proofs.InOneCall.{done-ready, opening-left}
@@ -44,16 +44,16 @@ module _ (rate : Rate) (t : List ℕ) where
   after-writing w s (Paths c o) u e = at-rate rate (reverseSolution (view w)) c o w u s e
   after-writing w s (Refused x) u e = refusal-le (numberOf x)
 
-  after-steps : (w : List ℕ) → OpeningLeft w → (r : RingsEnd) → finishRings w ≡ r → length (listedFrom rate (afterSteps r t)) ≤ TEXT
+  after-steps : (w : List ℕ) → Start w → (r : RingsEnd) → finishRings w ≡ r → length (listedFrom rate (afterSteps r t)) ≤ TEXT
   after-steps w l (ringsDone w₁) e = after-writing w₁ (done-ready w w₁ l e .sound) (buildPaths64 (view w₁) t .answer) (buildPaths64 (view w₁) t .tray) refl
   after-steps w l (ringsFull w₁) e = refusal-le 10
 
-  pub cutlist-fits : (bytes : List ℕ) (n : ℕ) → length (cutlistOf rate bytes n t) ≤ TEXT
+  pub cutlist-fits : (bytes lent : List ℕ) → length (cutlistOf rate bytes lent t) ≤ TEXT
   unfolding cutlistOf finishOf
-  cutlist-fits bytes n = go (openOf bytes n) refl
+  cutlist-fits bytes lent = go (openOf bytes lent) refl
     where
-      go : (r : End) → openOf bytes n ≡ r → length (listedFrom rate (afterOpening r t)) ≤ TEXT
-      go (end Accepted w) h = after-steps w (opening-left bytes n w h) (finishRings w) refl
+      go : (r : End) → openOf bytes lent ≡ r → length (listedFrom rate (afterOpening r t)) ≤ TEXT
+      go (end Accepted w) h = after-steps w (opening-left bytes lent w h) (finishRings w) refl
       go (end (opened.Refused x) w) h = refusal-le (numberOf x)
 
 -- the text that is told in a slice of so many bytes is told whole
@@ -65,8 +65,8 @@ tell-whole text out h =
 
 by-whole : (q : Rate) (bytes w t out : List ℕ) → TEXT ≤ length out → Whole (listedBy q bytes w t out .text .answer) (length (listedBy q bytes w t out .text .out))
 unfolding cutlistOf
-by-whole NoRate bytes w t out h = tell-whole (listedFrom NoRate (finishOf bytes (length w) t)) out (omega (arith, h, cutlist-fits NoRate t bytes (length w)))
-by-whole (Cents n) bytes w t out h = tell-whole (listedFrom (Cents n) (finishOf bytes (length w) t)) out (omega (arith, h, cutlist-fits (Cents n) t bytes (length w)))
+by-whole NoRate bytes w t out h = tell-whole (listedFrom NoRate (finishOf bytes w t)) out (omega (arith, h, cutlist-fits NoRate t bytes w))
+by-whole (Cents n) bytes w t out h = tell-whole (listedFrom (Cents n) (finishOf bytes w t)) out (omega (arith, h, cutlist-fits (Cents n) t bytes w))
 by-whole Bad bytes w t out h = tell-whole (refusedLine (numberOf BadRate)) out (omega (arith, h, refusal-le (numberOf BadRate)))
 
 -- so `list_job` never answers that there is no room

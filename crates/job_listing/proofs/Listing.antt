@@ -12,7 +12,7 @@ use Rattle.rates.specs.declared.Rate.{Rate}
 use Rattle.rates.specs.declared.Rate.the-variants.{NoRate, Cents, Bad}
 use Rattle.rates.specs.Rate.{LARGEST, asked}
 use Rattle.rates.proofs.Digits.{asked-twice, cents-low}
-use Rattle.store.specs.Field.{LENGTH}
+use Rattle.store.specs.Field.{BLOCK}
 use Rattle.store.specs.Words.{view}
 use Rattle.store.specs.Value.{reverseSolution}
 use Rattle.acts.specs.Finish.{RingsEnd, ringsDone, ringsFull}
@@ -23,7 +23,7 @@ use Rattle.paths.specs.Wrote.{Wrote, wrote, buildPaths64}
 use Rattle.opening.specs.declared.open.Opened.the-variants.{Accepted}
 use Rattle.opening.specs.declared.open.Opened.the-variants as opened
 use Rattle.opening.specs.Open.{End, end, openOf}
-use Rattle.finishing.specs.Opened.{OpeningLeft}
+use Rattle.finishing.specs.Start.{Start}
 use Rattle.finishing.specs.Finish.{finishRings}
 use Rattle.finishing.specs.InOneCall.{Finished, finished, afterWriting, afterSteps, afterOpening, finishOf}
 use Rattle.finishing.proofs.InOneCall.{done-ready, opening-left}
@@ -59,22 +59,22 @@ module _ (c o : ℕ) (w′ t′ t : List ℕ) where
           subst (λ (u : List ℕ). From c o u t′) (sym (ap (λ (z : Finished). z .words) g)) (record { ready = d; before = t; is = y ∙ sym h })
       go (Refused x) f g = never c o x _ _ _ _ g
 
-  after-steps : (w : List ℕ) → OpeningLeft w → (r : RingsEnd) → finishRings w ≡ r → finished (Paths c o) w′ t′ ≡ afterSteps r t → From c o w′ t′
+  after-steps : (w : List ℕ) → Start w → (r : RingsEnd) → finishRings w ≡ r → finished (Paths c o) w′ t′ ≡ afterSteps r t → From c o w′ t′
   after-steps w l (ringsDone w₁) h e = after-writing w₁ (done-ready w w₁ l h) (buildPaths64 (view w₁) t) refl e
   after-steps w l (ringsFull w₁) h e = never c o _ _ _ _ _ e
 
-  finish-from : (bytes : List ℕ) (n : ℕ) → finished (Paths c o) w′ t′ ≡ finishOf bytes n t → From c o w′ t′
+  finish-from : (bytes lent : List ℕ) → finished (Paths c o) w′ t′ ≡ finishOf bytes lent t → From c o w′ t′
   unfolding finishOf
-  finish-from bytes n e = go (openOf bytes n) refl e
+  finish-from bytes lent e = go (openOf bytes lent) refl e
     where
-      go : (r : End) → openOf bytes n ≡ r → finished (Paths c o) w′ t′ ≡ afterOpening r t → From c o w′ t′
-      go (end Accepted w) h g = after-steps w (opening-left bytes n w h) (finishRings w) refl g
+      go : (r : End) → openOf bytes lent ≡ r → finished (Paths c o) w′ t′ ≡ afterOpening r t → From c o w′ t′
+      go (end Accepted w) h g = after-steps w (opening-left bytes lent w h) (finishRings w) refl g
       go (end (opened.Refused x) w) h g = never c o x _ _ _ _ g
 
-module _ (bytes : List ℕ) (n : ℕ) (t w′ t′ : List ℕ) (r : Written) (e : finished r w′ t′ ≡ finishOf bytes n t) where
+module _ (bytes lent t w′ t′ : List ℕ) (r : Written) (e : finished r w′ t′ ≡ finishOf bytes lent t) where
   module _ (c o : ℕ) (h : r ≡ Paths c o) where
     from : From c o w′ t′
-    from = finish-from c o w′ t′ t bytes n (subst (λ (z : Written). finished z w′ t′ ≡ finishOf bytes n t) h e)
+    from = finish-from c o w′ t′ t bytes lent (subst (λ (z : Written). finished z w′ t′ ≡ finishOf bytes lent t) h e)
 
     -- what finishing leaves in the tray can be listed, and charged; the words are long enough to tell the setting
     pub may-list : Listable c o t′
@@ -83,17 +83,17 @@ module _ (bytes : List ℕ) (n : ℕ) (t w′ t′ : List ℕ) (r : Written) (e 
     pub may-charge : Summable t′ c
     may-charge = let f = from in answer-summable (view w′) c o (f .before) t′ (f .ready .sound) (f .is)
 
-    pub may-ask : LENGTH ≤ length w′
+    pub may-ask : BLOCK ≤ length w′
     may-ask = from .ready .long
 
   module _ (rate : Rate) (out out′ : List ℕ) (a : Listed) where
-    as-listed : (text : List ℕ) → listedAs rate r w′ t′ ≡ text → told a out′ ≡ tell text out → listedJob (told a out′) w′ t′ ≡ listedOut rate (finishOf bytes n t) out
+    as-listed : (text : List ℕ) → listedAs rate r w′ t′ ≡ text → told a out′ ≡ tell text out → listedJob (told a out′) w′ t′ ≡ listedOut rate (finishOf bytes lent t) out
     as-listed text h g = ap (λ (x : Told). listedJob x w′ t′) (g ∙ ap (λ (s : List ℕ). tell s out) (sym h)) ∙ ap (λ (f : Finished). listedOut rate f out) e
 
-    pub paths-listed : (c o : ℕ) (rev : Bool) → r ≡ Paths c o → rev ≡ reverseSolution (view w′) → told a out′ ≡ tell (pathsAt rate rev c o t′) out → listedJob (told a out′) w′ t′ ≡ listedOut rate (finishOf bytes n t) out
+    pub paths-listed : (c o : ℕ) (rev : Bool) → r ≡ Paths c o → rev ≡ reverseSolution (view w′) → told a out′ ≡ tell (pathsAt rate rev c o t′) out → listedJob (told a out′) w′ t′ ≡ listedOut rate (finishOf bytes lent t) out
     paths-listed c o rev h i g = as-listed (pathsAt rate rev c o t′) (ap (λ (z : Written). listedAs rate z w′ t′) h ∙ ap (λ (b : Bool). pathsAt rate b c o t′) (sym i)) g
 
-    pub refusal-listed : (x : Refusal) → r ≡ Refused x → told a out′ ≡ tell (refusedLine (numberOf x)) out → listedJob (told a out′) w′ t′ ≡ listedOut rate (finishOf bytes n t) out
+    pub refusal-listed : (x : Refusal) → r ≡ Refused x → told a out′ ≡ tell (refusedLine (numberOf x)) out → listedJob (told a out′) w′ t′ ≡ listedOut rate (finishOf bytes lent t) out
     refusal-listed x h g = as-listed (refusedLine (numberOf x)) (ap (λ (z : Written). listedAs rate z w′ t′) h) g
 
 -- the line of a refusal, by its number
@@ -116,11 +116,11 @@ module _ (rate : Rate) (rev : Bool) (c o : ℕ) (t out out′ : List ℕ) (a : L
   bad-told e g = at-rate Bad e g
 
 module _ (rate q : Rate) (e : q ≡ asked rate) (bytes w t out out′ w′ t′ : List ℕ) (a : Listed) where
-  pub by-none : q ≡ NoRate → listedJob (told a out′) w′ t′ ≡ listedOut NoRate (finishOf bytes (length w) t) out → listedJob (told a out′) w′ t′ ≡ listJobOf rate bytes w t out
+  pub by-none : q ≡ NoRate → listedJob (told a out′) w′ t′ ≡ listedOut NoRate (finishOf bytes w t) out → listedJob (told a out′) w′ t′ ≡ listJobOf rate bytes w t out
   unfolding listJobOf
   by-none h g = g ∙ ap (λ (p : Rate). listedBy p bytes w t out) (sym h ∙ e)
 
-  pub by-cents : (n : ℕ) → q ≡ Cents n → listedJob (told a out′) w′ t′ ≡ listedOut (Cents n) (finishOf bytes (length w) t) out → listedJob (told a out′) w′ t′ ≡ listJobOf rate bytes w t out
+  pub by-cents : (n : ℕ) → q ≡ Cents n → listedJob (told a out′) w′ t′ ≡ listedOut (Cents n) (finishOf bytes w t) out → listedJob (told a out′) w′ t′ ≡ listJobOf rate bytes w t out
   unfolding listJobOf
   by-cents n h g = g ∙ ap (λ (p : Rate). listedBy p bytes w t out) (sym h ∙ e)
 

@@ -74,11 +74,11 @@ unfolding cutlistOf finishOf openOf stagesOf acceptOf readOf fillOf run turnOf f
 computing = tt
 
 -- in a tray that holds sevens
-pub paper : cutlistOf NoRate (job 0) LENGTH (replicate 64 7) ≡ text
+pub paper : cutlistOf NoRate (job 0) (replicate LENGTH 0) (replicate 64 7) ≡ text
 unfolding computing
 paper = refl
 
 -- with bit 1 of the settings the piece is a piece and the hole a hole
-pub paper-reversed : cutlistOf NoRate (job 2) LENGTH (replicate 64 7) ≡ reversedText
+pub paper-reversed : cutlistOf NoRate (job 2) (replicate LENGTH 0) (replicate 64 7) ≡ reversedText
 unfolding computing
 paper-reversed = refl

@@ -2,7 +2,6 @@
 use Prim.Native.Nat.{ℕ}
 use mathlib.Core.Bool.{Bool}
 use mathlib.Core.List.{List}
-use lib.ListN.{length}
 use Rattle.job.specs.Refusal.{numberOf}
 use Rattle.job.specs.declared.refusal.Refusal.the-variants.{BadRate}
 use Rattle.rates.specs.declared.Rate.{Rate}
@@ -31,9 +30,9 @@ listedAs rate (Refused x) w t = refusedLine (numberOf x)
 abbrev pub listedFrom : Rate → Finished → List ℕ
 listedFrom rate f = listedAs rate (f .answer) (f .words) (f .tray)
 
--- of the job's bytes, in a work space of n words and a tray t, at a rate that is not bad
-unfoldable pub cutlistOf : Rate → List ℕ → ℕ → List ℕ → List ℕ
-cutlistOf rate bytes n t = listedFrom rate (finishOf bytes n t)
+-- of the job's bytes, in a lent work space and a tray t, at a rate that is not bad
+unfoldable pub cutlistOf : Rate → List ℕ → List ℕ → List ℕ → List ℕ
+cutlistOf rate bytes lent t = listedFrom rate (finishOf bytes lent t)
 
 -- ---- `list_job`
 
@@ -55,8 +54,8 @@ abbrev pub badOut : List ℕ → List ℕ → List ℕ → ListedJob
 badOut w t out = listedJob (tell (refusedLine (numberOf BadRate)) out) w t
 
 abbrev pub listedBy : Rate → List ℕ → List ℕ → List ℕ → List ℕ → ListedJob
-listedBy NoRate bytes w t out = listedOut NoRate (finishOf bytes (length w) t) out
-listedBy (Cents n) bytes w t out = listedOut (Cents n) (finishOf bytes (length w) t) out
+listedBy NoRate bytes w t out = listedOut NoRate (finishOf bytes w t) out
+listedBy (Cents n) bytes w t out = listedOut (Cents n) (finishOf bytes w t) out
 listedBy Bad bytes w t out = badOut w t out
 
 -- by the rate, the job's bytes, the work space, the tray and the slice that are handed over

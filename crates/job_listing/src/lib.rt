@@ -53,7 +53,7 @@ fn list_finished(
     out: &mut [u8],
 ) -> Listed
     requires { ⌜ asked rate ≡ rate ⌝ }
-    ensures { λ r. ⌜ listedJob (told r (now (out .exit))) (now (work .exit)) (now (tray .exit)) ≡ listedOut rate (finishOf (now (bytes .entry)) (length (now (work .entry))) (now (tray .entry))) (now (out .entry)) ⌝ }
+    ensures { λ r. ⌜ listedJob (told r (now (out .exit))) (now (work .exit)) (now (tray .exit)) ≡ listedOut rate (finishOf (now (bytes .entry)) (now (work .entry)) (now (tray .entry))) (now (out .entry)) ⌝ }
 {
     let r = finish(bytes, work, tray);
     match r {

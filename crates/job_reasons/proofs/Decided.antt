@@ -7,6 +7,6 @@ use Rattle.prefix.specs.Decides.{DECIDES}
 use Rattle.prefix.proofs.Decided.{finish-decided}
 use Rattle.job_reasons.specs.Reasons.{reasonsFrom, reasonsOf}
 
-pub reasons-decided : (bytes : List ℕ) (n : ℕ) (t : List ℕ) → reasonsOf (take DECIDES bytes) n t ≡ reasonsOf bytes n t
+pub reasons-decided : (bytes lent t : List ℕ) → reasonsOf (take DECIDES bytes) lent t ≡ reasonsOf bytes lent t
 unfolding reasonsOf
-reasons-decided bytes n t = ap reasonsFrom (finish-decided bytes n t)
+reasons-decided bytes lent t = ap reasonsFrom (finish-decided bytes lent t)

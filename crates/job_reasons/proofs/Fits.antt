@@ -122,10 +122,10 @@ abbrev RefusedTo : ℕ → Written → Type 0
 RefusedTo m (Paths c o) = Unit {0}
 RefusedTo m (Refused x) = numberOf x ≤ m
 
-module _ (bytes : List ℕ) (n : ℕ) (t : List ℕ) where
-  finish-rows : RefusedTo 11 (finishOf bytes n t .answer)
+module _ (bytes lent t : List ℕ) where
+  finish-rows : RefusedTo 11 (finishOf bytes lent t .answer)
   unfolding finishOf buildPaths64
-  finish-rows = go (openOf bytes n) (open-rows bytes n)
+  finish-rows = go (openOf bytes lent) (open-rows bytes lent)
     where
       written : (w : List ℕ) (b : Bool) (c o : ℕ) (u : List ℕ) → RefusedTo 11 (afterWriting w (cond b (wrote (Paths c o) u) (wrote (Refused SmallTray) t) .answer) (cond b (wrote (Paths c o) u) (wrote (Refused SmallTray) t) .tray) .answer)
       written w true c o u = tt
@@ -139,12 +139,12 @@ module _ (bytes : List ℕ) (n : ℕ) (t : List ℕ) where
       go (end Accepted w) k = stepped (finishRings w)
       go (end (opened.Refused x) w) k = omega (arith, k)
 
-  pub reasons-fit : length (reasonsOf bytes n t) ≤ TEXT
+  pub reasons-fit : length (reasonsOf bytes lent t) ≤ TEXT
   unfolding reasonsOf
-  reasons-fit = go (finishOf bytes n t .answer) refl finish-rows
+  reasons-fit = go (finishOf bytes lent t .answer) refl finish-rows
     where
-      go : (r : Written) → finishOf bytes n t .answer ≡ r → RefusedTo 11 r → length (reasonsAs r (finishOf bytes n t .words)) ≤ TEXT
-      go (Paths c o) h k = text-le (finishOf bytes n t .words) (left-tellable bytes n t c o h)
+      go : (r : Written) → finishOf bytes lent t .answer ≡ r → RefusedTo 11 r → length (reasonsAs r (finishOf bytes lent t .words)) ≤ TEXT
+      go (Paths c o) h k = text-le (finishOf bytes lent t .words) (left-tellable bytes lent t c o h)
       go (Refused x) h k = refused-le (numberOf x) (omega (arith, k))
 
 -- a text that has room is told whole
@@ -154,6 +154,6 @@ tell-all text out h = rw (le-leb (length text) (length out) h, take-all (length 
 
 -- so `tell_job` answers how long the text is, and the slice begins with it
 pub told-whole : (bytes w t w′ t′ out out′ : List ℕ) (a : Listed) → TEXT ≤ length out → listedJob (told a out′) w′ t′ ≡ tellJobOf bytes w t out
-    → told a out′ ≡ told (Bytes (length (reasonsOf bytes (length w) t))) (reasonsOf bytes (length w) t ++ drop (length (reasonsOf bytes (length w) t)) out)
+    → told a out′ ≡ told (Bytes (length (reasonsOf bytes w t))) (reasonsOf bytes w t ++ drop (length (reasonsOf bytes w t)) out)
 unfolding tellJobOf reasonsOf
-told-whole bytes w t w′ t′ out out′ a h e = ap (λ (x : ListedJob). x .text) e ∙ tell-all (reasonsOf bytes (length w) t) out (omega (arith, reasons-fit bytes (length w) t))
+told-whole bytes w t w′ t′ out out′ a h e = ap (λ (x : ListedJob). x .text) e ∙ tell-all (reasonsOf bytes w t) out (omega (arith, reasons-fit bytes w t))

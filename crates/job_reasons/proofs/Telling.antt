@@ -7,9 +7,10 @@ use lib.ListN.{length}
 use Rattle.job.specs.Limits as limit
 use Rattle.job.specs.Refusal.{numberOf}
 use Rattle.job.specs.declared.refusal.Refusal.{Refusal}
+use Rattle.store.specs.Field.{BLOCK}
 use Rattle.store.specs.Words.{view}
 use Rattle.store.specs.Sound.{recs}
-use Rattle.audit.proofs.Agreeing.{passed-sound}
+use Rattle.audit.proofs.Handing.{handed-sound}
 use Rattle.paths.specs.declared.Written.{Written}
 use Rattle.paths.specs.declared.Written.the-variants.{Paths}
 use Rattle.paths.specs.declared.Written.the-variants as written
@@ -31,8 +32,11 @@ use Rattle.job_reasons.proofs.Finished.{call-told, tellable}
 
 -- ---- a record
 
+pub long-enough : (w : List ℕ) → Tellable w → BLOCK ≤ length w
+long-enough w h = handed-sound w (h .tested) .long
+
 pub few-records : (w : List ℕ) → Tellable w → recs (view w) ≤ limit.RECORDS
-few-records w h = passed-sound w (h .tested .passed) .few-records
+few-records w h = handed-sound w (h .tested) .sound .few-records
 
 pub known-record : (w : List ℕ) (n i : ℕ) → Tellable w → n ≡ recs (view w) → i < n → TellableAt w i
 known-record w n i h e l = record { work = h; known = omega arith }
@@ -57,9 +61,9 @@ module _ (w : List ℕ) (i : ℕ) (h : TellableAt w i) where
 
 -- ---- a job
 
-module _ (bytes w t w′ t′ : List ℕ) (r : Written) (e : finished r w′ t′ ≡ finishOf bytes (length w) t) where
+module _ (bytes w t w′ t′ : List ℕ) (r : Written) (e : finished r w′ t′ ≡ finishOf bytes w t) where
   pub may-tell : (c o : ℕ) → r ≡ Paths c o → Tellable w′
-  may-tell c o h = tellable bytes (length w) t w′ t′ c o (subst (λ (z : Written). finished z w′ t′ ≡ finishOf bytes (length w) t) h e)
+  may-tell c o h = tellable bytes w t w′ t′ c o (subst (λ (z : Written). finished z w′ t′ ≡ finishOf bytes w t) h e)
 
   module _ (out out′ : List ℕ) (a : Listed) where
     as-told : (text : List ℕ) → reasonsAs r w′ ≡ text → told a out′ ≡ tell text out → listedJob (told a out′) w′ t′ ≡ tellJobOf bytes w t out

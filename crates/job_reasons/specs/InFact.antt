@@ -13,21 +13,21 @@ use Rattle.ended.specs.Ended.{ToldRight}
 use Rattle.job_reasons.specs.Lines.{reasonsText}
 use Rattle.job_reasons.specs.Reasons.{reasonsOf}
 
--- of the job's bytes, finished in one call in a work space of n words and a tray t
-module _ (bytes : List ℕ) (n : ℕ) (t : List ℕ) where
+-- of the job's bytes, finished in one call in a lent work space and a tray t
+module _ (bytes lent t : List ℕ) where
   -- the words that are left
   abbrev pub left : List ℕ
-  left = finishOf bytes n t .words
+  left = finishOf bytes lent t .words
 
   pub record InFact : Type 0 where
     -- the text is the lines of their records
-    pub text : reasonsOf bytes n t ≡ reasonsText (view left)
+    pub text : reasonsOf bytes lent t ≡ reasonsText (view left)
     -- a line's reason is what the call tells: below the count it is never refused
     pub calls : (i : ℕ) → i < recs (view left) → reasonOf left i ≡ Because (reasonAt (view left) i)
     -- what opening left, stage by stage, and the steps since
     pub opened : List ℕ
-    pub stages : Stages bytes n opened
+    pub stages : Stages bytes lent opened
     pub steps : List ℕ
     pub words : left ≡ runOf opened steps
     -- that reason is what happened to the ring (`told`), and nothing else did (`only`)
-    pub ends : (i : ℕ) → i < recs (view left) → ToldRight bytes n opened stages steps i
+    pub ends : (i : ℕ) → i < recs (view left) → ToldRight bytes lent opened stages steps i

@@ -6,13 +6,14 @@ use Prim.Native.Nat.{ℕ, _≤_, _<_}
 use Rattle.store.specs.Words.{Store, view}
 use Rattle.store.specs.Sound.{recs}
 use Rattle.steps.specs.Live.{anyLive}
-use Rattle.finishing.specs.Tested.{Tested}
+use Rattle.audit.specs.declared.Verdict.the-variants.{Passed}
+use Rattle.audit.specs.Handed.{handedOf}
 use Rattle.listing.specs.Pour.{poured, pour}
 use Rattle.job_reasons.specs.Lines.{linesBelow}
 
 -- it passes the tests, and every closed ring is done
 pub record Tellable (w : List ℕ) : Type 0 where
-  pub tested : Tested w
+  pub tested : handedOf w ≡ Passed
   pub done : anyLive (view w) ≡ false
 
 -- and record i is one of its own

@@ -20,9 +20,9 @@ reasonsAs (Refused x) w = refusedLine (numberOf x)
 abbrev pub reasonsFrom : Finished → List ℕ
 reasonsFrom f = reasonsAs (f .answer) (f .words)
 
--- of the job's bytes, in a work space of n words and a tray t
-unfoldable pub reasonsOf : List ℕ → ℕ → List ℕ → List ℕ
-reasonsOf bytes n t = reasonsFrom (finishOf bytes n t)
+-- of the job's bytes, in a lent work space and a tray t
+unfoldable pub reasonsOf : List ℕ → List ℕ → List ℕ → List ℕ
+reasonsOf bytes lent t = reasonsFrom (finishOf bytes lent t)
 
 -- `tell_job`: words and tray are those of finishing in one call, and the text is theirs, as far as `out` has room for it
 abbrev pub toldOut : Finished → List ℕ → ListedJob
@@ -30,4 +30,4 @@ toldOut f out = listedJob (tell (reasonsFrom f) out) (f .words) (f .tray)
 
 -- by the job's bytes, the work space, the tray and the slice that are handed over
 unfoldable pub tellJobOf : List ℕ → List ℕ → List ℕ → List ℕ → ListedJob
-tellJobOf bytes w t out = toldOut (finishOf bytes (length w) t) out
+tellJobOf bytes w t out = toldOut (finishOf bytes w t) out

@@ -6,7 +6,7 @@ use mathlib.Core.List.{List, [], _∷_, _++_}
 use mathlib.Core.Option.{Option, none, some}
 use lib.Dec.{eqb}
 use lib.ListN.{replicate}
-use Rattle.store.specs.Field.{pt, rc, ct, NEXT, PREV, REC, OWNER, FIRST, POINTS, RECORDS, LENGTH, NONE}
+use Rattle.store.specs.Field.{pt, rc, ct, NEXT, PREV, REC, OWNER, FIRST, POINTS, RECORDS, BLOCK, NONE}
 use Rattle.store.specs.Words.{cell, put, Write, write, onWords, view}
 use Rattle.store.specs.Named.{ownerOf, recordsOf, keptOf, takerOf}
 use Rattle.store.specs.Reason.{JOINED}
@@ -72,7 +72,7 @@ pub record Example : Type 0 where
   pub answer : Answer
 
 unfoldable pub answered : Example → Answer
-answered e = answerOf (processHorzJoins (e .many) (e .joins) (onWords (replicate LENGTH 0) (write (ct POINTS) 0 (e .points) ∷ rings 0 (e .job))))
+answered e = answerOf (processHorzJoins (e .many) (e .joins) (onWords (replicate BLOCK 0) (write (ct POINTS) 0 (e .points) ∷ rings 0 (e .job))))
 
 abbrev pub RowsHold : List Example → Type 0
 RowsHold [] = Unit {0}

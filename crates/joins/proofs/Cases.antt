@@ -18,7 +18,7 @@ use Rattle.rings.proofs.Counting.{all-in, one-here, one-else}
 use Rattle.rings.proofs.Members.{occ-append, parted, seg-part, seg-next, whole-kept}
 use Rattle.rings.proofs.Splicing.{occ-halves, whole-cut-new}
 use Rattle.rings.proofs.Walking.{Seen, seen}
-use Rattle.store.specs.Field.{Field, pt, rc, ct, X, Y, NEXT, PREV, REC, FLAGS, OWNER, FIRST, REASON, TAKER, POINTS, RECORDS, NONE, LENGTH, same}
+use Rattle.store.specs.Field.{Field, pt, rc, ct, X, Y, NEXT, PREV, REC, FLAGS, OWNER, FIRST, REASON, TAKER, POINTS, RECORDS, NONE, BLOCK, same}
 use Rattle.store.specs.Words.{Store, view, Write, onWords}
 use Rattle.store.specs.Stores.{onStore}
 use Rattle.store.specs.Named.{nextOf, prevOf, recOf, firstOf, pointsOf, recordsOf}
@@ -109,7 +109,7 @@ module _ (w : List ℕ) (a c i j : ℕ) (t : Unknotted w a c i j) where
   pub merge-points : pointsOf (mergeOf w a c i j) ≡ pointsOf w
   merge-points = merged .points
 
-  merge-long : LENGTH ≤ length (mergeOf w a c i j)
+  merge-long : BLOCK ≤ length (mergeOf w a c i j)
   unfolding mergeOf relinkOf merges
   merge-long = omega (arith, t .ready .long, length-writes w merges)
 
@@ -174,7 +174,7 @@ module _ (w : List ℕ) (a c i k : ℕ) (t : Unknotted w a c i i) (kn : k ≡ re
   col : (g : Field) (j : ℕ) → view x g j ≡ u g j
   col g j = ap (λ (s : Store). s g j) view-x
 
-  x-long : LENGTH ≤ length x
+  x-long : BLOCK ≤ length x
   unfolding splits newOutRec relinkOf
   x-long = omega (arith, t .ready .long, length-writes w splits)
 
@@ -232,7 +232,7 @@ module _ (w : List ℕ) (a c i k : ℕ) (t : Unknotted w a c i i) (kn : k ≡ re
   abbrev y : List ℕ
   y = fixOutrecPts x k
 
-  y-long : LENGTH ≤ length y
+  y-long : BLOCK ≤ length y
   unfolding fixOutrecPts
   y-long = omega (arith, x-long, name-length k x (ringAt (view x) k))
 
@@ -267,7 +267,7 @@ module _ (w : List ℕ) (a c i k : ℕ) (t : Unknotted w a c i i) (kn : k ≡ re
   -- the words at the end, beside y: record i's first point moved to a, or not
   record Settled (z : List ℕ) : Type 0 where
     cols : (g : Field) (j : ℕ) → same (pt REC) g ≡ false → same (rc FIRST) g ≡ false → view z g j ≡ u g j
-    long : LENGTH ≤ length z
+    long : BLOCK ≤ length z
     first-own : 0 < occ (firstOf z i) (a ∷ r)
     first-is : firstOf z i ≡ firstLeft a (prevOf w c ∷ l) (firstOf w i)
     first-else : (j : ℕ) → j ≢ i → firstOf z j ≡ u (rc FIRST) j

@@ -7,7 +7,7 @@ use native.Mathlib.Omega.{arith}
 use lib.ListN.{length}
 use Rattle.job.specs.Limits as limit
 use Rattle.rings.specs.Links.{All}
-use Rattle.store.specs.Field.{NONE, LENGTH}
+use Rattle.store.specs.Field.{NONE, BLOCK}
 use Rattle.store.specs.Words.{view}
 use Rattle.store.specs.Named.{firstOf, ownerOf, recOf, recordsOf, pointsOf}
 use Rattle.joins.specs.Resolve.{getRealOutrec, homeOf}
@@ -29,7 +29,7 @@ pub record Going (w : List ℕ) (r q f : ℕ) : Type 0 where
 pub low : (w : List ℕ) (r : ℕ) → Resolving w r → r < limit.RECORDS
 low w r z = omega (arith, res-low (view w) r (z .to) (z .res), z .ready .resolved .few-records)
 
-pub long : (w : List ℕ) (r : ℕ) → Resolving w r → LENGTH ≤ length w
+pub long : (w : List ℕ) (r : ℕ) → Resolving w r → BLOCK ≤ length w
 long w r z = z .ready .long
 
 pub begun : (w : List ℕ) (r f : ℕ) → Resolving w r → f ≡ firstOf w r → Going w r r f
@@ -86,7 +86,7 @@ done w r q f g e = go (g .at .res .via) (g .at .res .path)
 pub point-low : (w : List ℕ) (p : ℕ) → Point w p → p < limit.POINTS
 point-low w p t = omega (arith, t .low, t .ready .resolved .few-points)
 
-pub point-long : (w : List ℕ) (p : ℕ) → Point w p → LENGTH ≤ length w
+pub point-long : (w : List ℕ) (p : ℕ) → Point w p → BLOCK ≤ length w
 point-long w p t = t .ready .long
 
 pub point-res : (w : List ℕ) (p r : ℕ) → Point w p → r ≡ recOf w p → Resolving w r

@@ -14,7 +14,7 @@ use Rattle.rings.proofs.Counting.{all-in, one-here, pigeon}
 use Rattle.rings.proofs.Members.{one-is}
 use Rattle.rings.proofs.Walking.{run-seg}
 use Rattle.rings.proofs.Walking as walking
-use Rattle.store.specs.Field.{pt, REC, NEXT, PREV, NONE, LENGTH}
+use Rattle.store.specs.Field.{pt, REC, NEXT, PREV, NONE, BLOCK}
 use Rattle.store.specs.Words.{Store, view}
 use Rattle.store.specs.Stores.{upd}
 use Rattle.store.specs.Named.{nextOf, prevOf, firstOf, setRec}
@@ -29,7 +29,7 @@ toGo w stop p = length (run (nextOf w) stop limit.POINTS p)
 
 pub record Naming (F w : List ℕ) (k stop p : ℕ) : Type 0 where
   pub rest : List ℕ
-  pub long : LENGTH ≤ length w
+  pub long : BLOCK ≤ length w
   pub kept : k < limit.RECORDS
   pub seg : Seg (nextOf w) (prevOf w) (p ∷ rest ++ (stop ∷ []))
   pub out : occ stop rest ≡ 0
@@ -40,7 +40,7 @@ pub record Naming (F w : List ℕ) (k stop p : ℕ) : Type 0 where
 pub ringed-low : (w : List ℕ) (k : ℕ) → Ringed w k → k < limit.RECORDS
 ringed-low w k r = r .low
 
-pub ringed-long : (w : List ℕ) (k : ℕ) → Ringed w k → LENGTH ≤ length w
+pub ringed-long : (w : List ℕ) (k : ℕ) → Ringed w k → BLOCK ≤ length w
 ringed-long w k r = r .long
 
 pub ring-is : (w : List ℕ) (k : ℕ) (r : Ringed w k) → ringAt (view w) k ≡ firstOf w k ∷ r .others
@@ -67,7 +67,7 @@ begun w k s r e =
 pub here : (F w : List ℕ) (k stop p : ℕ) → Naming F w k stop p → p < limit.POINTS
 here F w k stop p g = g .bound .0
 
-pub there : (F w : List ℕ) (k stop p : ℕ) → Naming F w k stop p → LENGTH ≤ length w
+pub there : (F w : List ℕ) (k stop p : ℕ) → Naming F w k stop p → BLOCK ≤ length w
 there F w k stop p g = g .long
 
 pub which : (F w : List ℕ) (k stop p : ℕ) → Naming F w k stop p → k < limit.RECORDS
@@ -75,26 +75,26 @@ which F w k stop p g = g .kept
 
 module _ (F w x : List ℕ) (k stop p q : ℕ) (e : x ≡ setRec w p k) where
   -- the links stay
-  cols : LENGTH ≤ length w → p < limit.POINTS → view x ≡ upd (view w) (pt REC) p k
+  cols : BLOCK ≤ length w → p < limit.POINTS → view x ≡ upd (view w) (pt REC) p k
   cols l h = rw e (view-put w l (pt REC) p k h)
 
-  next-same : LENGTH ≤ length w → p < limit.POINTS → nextOf x ≡ nextOf w
+  next-same : BLOCK ≤ length w → p < limit.POINTS → nextOf x ≡ nextOf w
   next-same l h = ap (λ (s : Store). s (pt NEXT)) (cols l h)
 
-  prev-same : LENGTH ≤ length w → p < limit.POINTS → prevOf x ≡ prevOf w
+  prev-same : BLOCK ≤ length w → p < limit.POINTS → prevOf x ≡ prevOf w
   prev-same l h = ap (λ (s : Store). s (pt PREV)) (cols l h)
 
-  seg-same : LENGTH ≤ length w → p < limit.POINTS → (c : List ℕ) → Seg (nextOf w) (prevOf w) c → Seg (nextOf x) (prevOf x) c
+  seg-same : BLOCK ≤ length w → p < limit.POINTS → (c : List ℕ) → Seg (nextOf w) (prevOf w) c → Seg (nextOf x) (prevOf x) c
   seg-same l h c s = subst (λ (f : ℕ → ℕ). Seg f (prevOf x) c) (sym (next-same l h)) (subst (λ (f : ℕ → ℕ). Seg (nextOf w) f c) (sym (prev-same l h)) s)
 
-  pub set-long : LENGTH ≤ length w → LENGTH ≤ length x
+  pub set-long : BLOCK ≤ length w → BLOCK ≤ length x
   set-long l = rw e (omega (arith, length-put (pt REC) w p k))
 
   module _ (d : q ≡ nextOf x p) where
-    moved : LENGTH ≤ length w → p < limit.POINTS → q ≡ nextOf w p
+    moved : BLOCK ≤ length w → p < limit.POINTS → q ≡ nextOf w p
     moved l h = d ∙ ap (λ (f : ℕ → ℕ). f p) (next-same l h)
 
-    go-on : (l : List ℕ) → LENGTH ≤ length w → k < limit.RECORDS → Seg (nextOf w) (prevOf w) (p ∷ l ++ (stop ∷ [])) → occ stop l ≡ 0 → All (λ i. i < limit.POINTS) (p ∷ l) → length l < limit.POINTS → nameAll w k (p ∷ l) ≡ F → q ≢ stop
+    go-on : (l : List ℕ) → BLOCK ≤ length w → k < limit.RECORDS → Seg (nextOf w) (prevOf w) (p ∷ l ++ (stop ∷ [])) → occ stop l ≡ 0 → All (λ i. i < limit.POINTS) (p ∷ l) → length l < limit.POINTS → nameAll w k (p ∷ l) ≡ F → q ≢ stop
         → Naming F x k stop q × (toGo x stop q < toGo w stop p)
     unfolding nameAll toGo
     go-on [] n m s o b h g y = absurd (y (moved n (b .0) ∙ s .0))
@@ -108,7 +108,7 @@ module _ (F w x : List ℕ) (k stop p q : ℕ) (e : x ≡ setRec w p k) where
           omega (arith, ap length u, ap length v),
         )
 
-    stop-at : (l : List ℕ) → LENGTH ≤ length w → Seg (nextOf w) (prevOf w) (p ∷ l ++ (stop ∷ [])) → occ stop l ≡ 0 → All (λ i. i < limit.POINTS) (p ∷ l) → nameAll w k (p ∷ l) ≡ F → q ≡ stop → x ≡ F
+    stop-at : (l : List ℕ) → BLOCK ≤ length w → Seg (nextOf w) (prevOf w) (p ∷ l ++ (stop ∷ [])) → occ stop l ≡ 0 → All (λ i. i < limit.POINTS) (p ∷ l) → nameAll w k (p ∷ l) ≡ F → q ≡ stop → x ≡ F
     unfolding nameAll
     stop-at [] n s o b g y = rw e g
     stop-at (z ∷ l) n s o b g y = absurd (omega (arith, o, one-is stop z (sym y ∙ moved n (b .0) ∙ s .0)))

@@ -9,7 +9,7 @@ use lib.Dec.{eqb, ltb}
 use lib.ListN.{length, getD}
 use borrow.Author.Tests.{eq-eqb, ne-eqb, eqb-true, eqb-false, lt-ltb, le-ltb, ltb-true}
 use Rattle.job.specs.Limits as limit
-use Rattle.store.specs.Field.{pt, rc, REC, OWNER, FIRST, REASON, TAKER, NONE, LENGTH}
+use Rattle.store.specs.Field.{pt, rc, REC, OWNER, FIRST, REASON, TAKER, NONE, BLOCK}
 use Rattle.store.specs.Reason.{JOINED}
 use Rattle.store.specs.Words.{put}
 use Rattle.store.specs.Named.{nextOf, recOf, firstOf, pointsOf, recordsOf}
@@ -41,7 +41,7 @@ module _ (w : List ℕ) (a c i j : ℕ) (t : Unknotted w a c i j) where
   pub pair-one : a < limit.POINTS
   pair-one = four w a c i j t .one
 
-  pub pair-long : LENGTH ≤ length w
+  pub pair-long : BLOCK ≤ length w
   pair-long = t .ready .long
 
   pub pair-next : (n : ℕ) → n ≡ nextOf w a → n < limit.POINTS
@@ -113,7 +113,7 @@ module _ (w : List ℕ) (a c : ℕ) (t : Points w a c) where
   pub points-low : a < limit.POINTS
   points-low = omega (arith, t .one, t .ready .resolved .few-points)
 
-  pub points-long : LENGTH ≤ length w
+  pub points-long : BLOCK ≤ length w
   points-long = t .ready .long
 
   pub points-pair : (n i j : ℕ) → n ≡ nextOf w a → n ≢ c → i ≡ homeOf w a → j ≡ homeOf w c → Unknotted w a c i j

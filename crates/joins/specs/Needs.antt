@@ -5,7 +5,7 @@ use mathlib.Core.List.{List, _∷_}
 use lib.ListN.{length, getD}
 use Rattle.job.specs.Limits as limit
 use Rattle.rings.specs.Whole.{Whole}
-use Rattle.store.specs.Field.{LENGTH}
+use Rattle.store.specs.Field.{BLOCK}
 use Rattle.store.specs.Words.{view}
 use Rattle.store.specs.Named.{nextOf, prevOf, firstOf, pointsOf}
 use Rattle.joins.specs.Paths.{Resolves, Lives}
@@ -30,7 +30,7 @@ pub record Points (w : List ℕ) (a c : ℕ) : Type 0 where
 
 -- the four points of a relink
 pub record Four (w : List ℕ) (a c : ℕ) : Type 0 where
-  pub long : LENGTH ≤ length w
+  pub long : BLOCK ≤ length w
   pub one : a < limit.POINTS
   pub two : c < limit.POINTS
   pub next : nextOf w a < limit.POINTS
@@ -38,7 +38,7 @@ pub record Four (w : List ℕ) (a c : ℕ) : Type 0 where
 
 -- record k has a ring
 pub record Ringed (w : List ℕ) (k : ℕ) : Type 0 where
-  pub long : LENGTH ≤ length w
+  pub long : BLOCK ≤ length w
   pub low : k < limit.RECORDS
   pub others : List ℕ
   pub whole : Whole (nextOf w) (prevOf w) limit.POINTS (firstOf w k ∷ others)

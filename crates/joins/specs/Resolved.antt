@@ -8,7 +8,7 @@ use lib.ListN.{length}
 use Rattle.job.specs.Limits as limit
 use Rattle.rings.specs.Count.{occ}
 use Rattle.rings.specs.Whole.{Whole}
-use Rattle.store.specs.Field.{pt, rc, X, Y, NEXT, PREV, REC, OWNER, REASON, TAKER, NONE, LENGTH}
+use Rattle.store.specs.Field.{pt, rc, X, Y, NEXT, PREV, REC, OWNER, REASON, TAKER, NONE, BLOCK}
 use Rattle.store.specs.Reason.{NO-RING, JOINED}
 use Rattle.store.specs.Words.{Store, view}
 use Rattle.store.specs.Sound.{pts, recs, ringless, ringAt}
@@ -32,5 +32,5 @@ pub record Resolved (s : Store) : Type 0 where
 
 -- the same of words of the fixed length or more
 pub record Ready (w : List ℕ) : Type 0 where
-  pub long : LENGTH ≤ length w
+  pub long : BLOCK ≤ length w
   pub resolved : Resolved (view w)

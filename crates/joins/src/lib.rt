@@ -9,7 +9,7 @@ ghost use mathlib.Core.Path.{_≡_};
 ghost use Prim.Native.Nat.{_+_, _<_, _≤_};
 ghost use lib.ListN.{length, getD};
 ghost use Rattle.job.specs.Limits as limit;
-ghost use Rattle.store.specs.Field.{LENGTH};
+ghost use Rattle.store.specs.Field.{BLOCK};
 ghost use Rattle.store.specs.Named.{recordsOf, firstOf};
 ghost use Rattle.joins.specs.Resolve.{getRealOutrec, homeOf};
 ghost use Rattle.joins.specs.Needs.{Resolving, Point, Points, Four, Ringed, Unknotted, Joins};
@@ -60,7 +60,7 @@ fn relink(w: &mut [u32], op1: usize, op2: usize)
 
 // Record k is new: its first point is n, its owner i.
 fn new_out_rec(w: &mut [u32], k: usize, n: usize, i: usize)
-    requires { ⌜ (LENGTH ≤ length (now w)) × (k < limit.RECORDS) × (n < limit.POINTS) × (i < limit.RECORDS) ⌝ }
+    requires { ⌜ (BLOCK ≤ length (now w)) × (k < limit.RECORDS) × (n < limit.POINTS) × (i < limit.RECORDS) ⌝ }
     ensures { λ _. ⌜ now (w .exit) ≡ newOutRec (now (w .entry)) k n i ⌝ }
 {
     set(w, Col::Records, 0, k + 1);
@@ -87,7 +87,7 @@ fn fix_outrec_pts(w: &mut [u32], k: usize)
 
 // The first point of record i, if it went to record k, is now a.
 fn move_first(w: &mut [u32], i: usize, k: usize, a: usize)
-    requires { ⌜ (LENGTH ≤ length (now w)) × (i < limit.RECORDS) × (a < limit.POINTS) × (firstOf (now w) i < limit.POINTS) ⌝ }
+    requires { ⌜ (BLOCK ≤ length (now w)) × (i < limit.RECORDS) × (a < limit.POINTS) × (firstOf (now w) i < limit.POINTS) ⌝ }
     ensures { λ _. ⌜ now (w .exit) ≡ moveFirst (now (w .entry)) i k a ⌝ }
 {
     let f = get(w, Col::First, i);

@@ -17,7 +17,7 @@ use test_text::ring::TEXT;
 use test_text::ring::put_ring;
 ghost use Prim.Native.Nat.{_≤_};
 ghost use lib.ListN.{length};
-ghost use Rattle.store.specs.Field.{LENGTH};
+ghost use Rattle.store.specs.Field.{BLOCK};
 
 fn print(n: usize) {
     io::print_decimal(STDOUT_FILENO, n as u64);
@@ -33,7 +33,7 @@ fn print_owner(o: usize) {
 
 // The ring from a record's first point on, each point by its number and value.
 fn print_ring(w: &[u32], a: usize)
-    requires { ⌜ LENGTH ≤ length (now w) ⌝ }
+    requires { ⌜ BLOCK ≤ length (now w) ⌝ }
 {
     let mut text = [0u8; TEXT];
     let n = put_ring(w, true, a, &mut text, 0);
@@ -41,7 +41,7 @@ fn print_ring(w: &[u32], a: usize)
 }
 
 fn print_record(w: &[u32], i: usize)
-    requires { ⌜ LENGTH ≤ length (now w) ⌝ }
+    requires { ⌜ BLOCK ≤ length (now w) ⌝ }
 {
     io::write_all(STDOUT_FILENO, b"record ");
     print(i);
@@ -56,7 +56,7 @@ fn print_record(w: &[u32], i: usize)
 }
 
 fn print_records(w: &[u32])
-    requires { ⌜ LENGTH ≤ length (now w) ⌝ }
+    requires { ⌜ BLOCK ≤ length (now w) ⌝ }
 {
     let n = read(w, Col::Records, 0);
     let mut i: usize = 0;
@@ -67,7 +67,7 @@ fn print_records(w: &[u32])
 }
 
 fn print_counts(w: &[u32])
-    requires { ⌜ LENGTH ≤ length (now w) ⌝ }
+    requires { ⌜ BLOCK ≤ length (now w) ⌝ }
 {
     io::write_all(STDOUT_FILENO, b"points ");
     let p = read(w, Col::Points, 0);
@@ -85,7 +85,7 @@ fn print_refusal(r: Refusal) {
 }
 
 fn open_one(job: &[u8], w: &mut [u32])
-    requires { ⌜ LENGTH ≤ length (now w) ⌝ }
+    requires { ⌜ BLOCK ≤ length (now w) ⌝ }
 {
     let a = open(job, w);
     match a {
@@ -100,7 +100,7 @@ fn open_one(job: &[u8], w: &mut [u32])
 }
 
 fn run(s: &[u8], w: &mut [u32])
-    requires { ⌜ LENGTH ≤ length (now w) ⌝ }
+    requires { ⌜ BLOCK ≤ length (now w) ⌝ }
 {
     let mut at: usize = 0;
     let mut left: u32 = 1000;

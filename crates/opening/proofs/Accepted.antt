@@ -5,18 +5,17 @@ use mathlib.Core.Bool.{Bool, true, false, cond, _&&_}
 use mathlib.Core.List.{List}
 use native.Mathlib.Omega.{arith}
 use lib.Dec.{ltb}
-use lib.ListN.{length, getD, replicate, length-replicate}
+use lib.ListN.{length, getD, drop, replicate, length-append, length-replicate}
 use borrow.Author.Tests.{ltb-false, lt-ltb}
 use Rattle.rings.specs.Count.{occ}
 use Rattle.job.specs.Limits as limit
 use Rattle.job.specs.declared.Job.{Job}
 use Rattle.job.specs.declared.refusal.Refusal.the-variants as refusal
-use Rattle.store.specs.Field.{rc, X, Y, FLAGS, LENGTH}
+use Rattle.store.specs.Field.{rc, X, Y, FLAGS, BLOCK, KEPT, LENGTH}
 use Rattle.store.specs.Words.{Store, view}
 use Rattle.store.specs.Named.{recordsOf}
 use Rattle.store.specs.Sound.{recs, ringAt, isOpen}
 use Rattle.audit.specs.Tests.{anyBelow}
-use Rattle.audit.proofs.Agreeing.{sound-passed}
 use Rattle.audit.proofs.Saying.{none-of}
 use Rattle.reading.specs.declared.fill.Outcome.the-variants as outcome
 use Rattle.reading.specs.Fill as fill
@@ -39,7 +38,7 @@ use Rattle.joins.proofs.Open.{opened-on, joins-open}
 use Rattle.joins.proofs.Turns.{words}
 use Rattle.opening.specs.declared.open.Opened.the-variants.{Accepted, Refused}
 use Rattle.opening.specs.Start.{startRings}
-use Rattle.opening.specs.Open.{JOIN-POINTS, End, end, afterJoins, afterSegments, afterRows, stagesOf, settled, openOf}
+use Rattle.opening.specs.Open.{JOIN-POINTS, End, end, afterJoins, afterSegments, afterRows, stagesOf, settled, cleared, openOf}
 use Rattle.opening.specs.After.{AfterOpening, OpenAsGiven}
 use Rattle.opening.proofs.Passing.{passed, converting, may-join, made-ready}
 use Rattle.opening.proofs.Starting.{Begun, begun-all, recs-same, pts-same, first-same, ring-same, open-same, start-ready, start-sound, start-fresh}
@@ -51,7 +50,6 @@ started w r =
     record {
       ready = start-ready w r;
       sound = start-sound w r;
-      tests = sound-passed (startRings w) (start-sound w r);
       fresh = start-fresh w r;
       marks = λ i h. b .marks i (omega (arith, recs-same (view w) (view (startRings w)) b));
       present = λ i h. b .presents i (omega (arith, recs-same (view w) (view (startRings w)) b)) ∙ sym (first-same (view w) (view (startRings w)) b i);
@@ -111,7 +109,7 @@ module _ (y : List ℕ) where
       by-joins w k ks x (may-join w ss m js n (converted.Joins k) k x ks g (sym e) refl) (o .0 .opened) (o .1) (processHorzJoins k ks x) refl f
   by-segments w ss m js n g (made converted.Full x ks) e o f = absurd (let z : _≡_ {A = ℕ} 0 1 = cc in omega arith)
 
-  by-rows : (bytes w : List ℕ) → LENGTH ≤ length w → (j : Job) (v ts ks : List ℕ) → acceptOf bytes w (replicate limit.SEGMENTS 0) (replicate JOIN-POINTS 0) ≡ fill.end (outcome.Ok j) v ts ks → afterSegments (convertHorzSegsToJoins v (j .segments) ts ks (j .joins)) ≡ end Accepted y → Both v y
+  by-rows : (bytes w : List ℕ) → BLOCK ≤ length w → (j : Job) (v ts ks : List ℕ) → acceptOf bytes w (replicate limit.SEGMENTS 0) (replicate JOIN-POINTS 0) ≡ fill.end (outcome.Ok j) v ts ks → afterSegments (convertHorzSegsToJoins v (j .segments) ts ks (j .joins)) ≡ end Accepted y → Both v y
   by-rows bytes w l j v ts ks e f =
       let a = passed bytes w v ts ks j l e in
       let c = converting bytes w v ts ks j l e in
@@ -125,25 +123,25 @@ module _ (y : List ℕ) where
   by-stages n (end (Refused x) w) f = absurd (let z : _≡_ {A = ℕ} 0 1 = cc in omega arith)
 
   -- opening accepts only a long enough work space, and a job that passed rows 1 to 8
-  pub accepts : (bytes : List ℕ) (n : ℕ) → openOf bytes n ≡ end Accepted y → (LENGTH ≤ length (replicate {A = ℕ} n 0)) × (afterRows (acceptOf bytes (replicate n 0) (replicate limit.SEGMENTS 0) (replicate JOIN-POINTS 0)) ≡ end Accepted y)
+  pub accepts : (bytes lent : List ℕ) → openOf bytes lent ≡ end Accepted y → (BLOCK ≤ length (cleared lent)) × (afterRows (acceptOf bytes (cleared lent) (replicate limit.SEGMENTS 0) (replicate JOIN-POINTS 0)) ≡ end Accepted y)
   unfolding openOf stagesOf
-  accepts bytes n f = by (ltb n LENGTH) refl f
+  accepts bytes lent f = by (ltb (length lent) LENGTH) refl f
     where
-      by : (t : Bool) → ltb n LENGTH ≡ t → cond t (end (Refused refusal.Full) (replicate n 0)) (settled n (afterRows (acceptOf bytes (replicate n 0) (replicate limit.SEGMENTS 0) (replicate JOIN-POINTS 0)))) ≡ end Accepted y → (LENGTH ≤ length (replicate {A = ℕ} n 0)) × (afterRows (acceptOf bytes (replicate n 0) (replicate limit.SEGMENTS 0) (replicate JOIN-POINTS 0)) ≡ end Accepted y)
+      by : (t : Bool) → ltb (length lent) LENGTH ≡ t → cond t (end (Refused refusal.Full) (replicate (length lent) 0)) (settled (length lent) (afterRows (acceptOf bytes (cleared lent) (replicate limit.SEGMENTS 0) (replicate JOIN-POINTS 0)))) ≡ end Accepted y → (BLOCK ≤ length (cleared lent)) × (afterRows (acceptOf bytes (cleared lent) (replicate limit.SEGMENTS 0) (replicate JOIN-POINTS 0)) ≡ end Accepted y)
       by true e d = absurd (let z : _≡_ {A = ℕ} 0 1 = cc in omega arith)
-      by false e d = (omega (arith, ltb-false n LENGTH e, length-replicate {A = ℕ} n 0), by-stages n (afterRows (acceptOf bytes (replicate n 0) (replicate limit.SEGMENTS 0) (replicate JOIN-POINTS 0))) d)
+      by false e d = (omega (arith, length-append (replicate {A = ℕ} KEPT 0) (drop KEPT lent), length-replicate {A = ℕ} KEPT 0), by-stages (length lent) (afterRows (acceptOf bytes (cleared lent) (replicate limit.SEGMENTS 0) (replicate JOIN-POINTS 0))) d)
 
-  module _ (bytes : List ℕ) (n : ℕ) (f : openOf bytes n ≡ end Accepted y) where
-    by-read : (T : fill.ReadEnd) → acceptOf bytes (replicate n 0) (replicate limit.SEGMENTS 0) (replicate JOIN-POINTS 0) ≡ T → afterRows T ≡ end Accepted y → AfterOpening y
-    by-read (fill.end (outcome.Ok j) v ts ks) e d = by-rows bytes (replicate n 0) (accepts bytes n f .0) j v ts ks e d .opened
+  module _ (bytes lent : List ℕ) (f : openOf bytes lent ≡ end Accepted y) where
+    by-read : (T : fill.ReadEnd) → acceptOf bytes (cleared lent) (replicate limit.SEGMENTS 0) (replicate JOIN-POINTS 0) ≡ T → afterRows T ≡ end Accepted y → AfterOpening y
+    by-read (fill.end (outcome.Ok j) v ts ks) e d = by-rows bytes (cleared lent) (accepts bytes lent f .0) j v ts ks e d .opened
     by-read (fill.end (outcome.Refused x) v ts ks) e d = absurd (let z : _≡_ {A = ℕ} 0 1 = cc in omega arith)
 
     -- THE LAWS: what the words are,
     pub after-opening : AfterOpening y
-    after-opening = by-read (acceptOf bytes (replicate n 0) (replicate limit.SEGMENTS 0) (replicate JOIN-POINTS 0)) refl (accepts bytes n f .1)
+    after-opening = by-read (acceptOf bytes (cleared lent) (replicate limit.SEGMENTS 0) (replicate JOIN-POINTS 0)) refl (accepts bytes lent f .1)
 
     -- and the open rings, v being the words as the job was read
-    pub open-as-given : (j : Job) (v ts ks : List ℕ) → acceptOf bytes (replicate n 0) (replicate limit.SEGMENTS 0) (replicate JOIN-POINTS 0) ≡ fill.end (outcome.Ok j) v ts ks → OpenAsGiven (view v) (view y)
+    pub open-as-given : (j : Job) (v ts ks : List ℕ) → acceptOf bytes (cleared lent) (replicate limit.SEGMENTS 0) (replicate JOIN-POINTS 0) ≡ fill.end (outcome.Ok j) v ts ks → OpenAsGiven (view v) (view y)
     open-as-given j v ts ks e =
-        let a = accepts bytes n f in
-        by-rows bytes (replicate n 0) (a .0) j v ts ks e (ap afterRows (sym e) ∙ a .1) .given
+        let a = accepts bytes lent f in
+        by-rows bytes (cleared lent) (a .0) j v ts ks e (ap afterRows (sym e) ∙ a .1) .given

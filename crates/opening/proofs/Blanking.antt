@@ -9,7 +9,7 @@ use lib.ListN.{length, getD, set, drop, replicate, length-replicate, length-set}
 use lib.Seq.{set-getD, drop-append-add, drop-drop, drop-length, drop-at}
 use borrow.Author.Fill.{fill-more}
 use borrow.Author.Tests.{eqb-true, not-true}
-use Rattle.opening.specs.Blank.{BLOCK, ZeroTo, IsBlank}
+use Rattle.opening.specs.Blank.{CHUNK, ZeroTo, IsBlank}
 
 -- ---- zeros in front
 
@@ -29,18 +29,18 @@ module _ (n : ℕ) (t u : List ℕ) (e : t ≡ replicate n 0 ++ drop n u) where
 -- ---- a block is looked through
 
 pub record Looking (t : List ℕ) (a : ℕ) (found : Bool) (k : ℕ) : Type 0 where
-  pub room : a + BLOCK ≤ length t
-  pub far : k ≤ BLOCK
+  pub room : a + CHUNK ≤ length t
+  pub far : k ≤ CHUNK
   pub zeros : found ≡ false → ZeroTo (a + k) t
 
-pub look-begun : (t : List ℕ) (a : ℕ) → a + BLOCK ≤ length t → ZeroTo a t → Looking t a false 0
+pub look-begun : (t : List ℕ) (a : ℕ) → a + CHUNK ≤ length t → ZeroTo a t → Looking t a false 0
 look-begun t a h z = let n : a ≡ a + 0 = omega arith in record { room = h; far = omega arith; zeros = λ e. subst (λ (m : ℕ). ZeroTo m t) n z }
 
 module _ (t : List ℕ) (a : ℕ) (found : Bool) (k : ℕ) (L : Looking t a found k) where
-  pub look-room : k < BLOCK → a + k < length t
+  pub look-room : k < CHUNK → a + k < length t
   look-room h = omega (arith, L .room)
 
-  pub look-on : (x : ℕ) → k < BLOCK → x ≡ getD t (a + k) 0 → Looking t a (found || not (eqb x 0)) (k + 1)
+  pub look-on : (x : ℕ) → k < CHUNK → x ≡ getD t (a + k) 0 → Looking t a (found || not (eqb x 0)) (k + 1)
   look-on x h e = record { room = L .room; far = omega arith; zeros = λ f. by found (eqb x 0) refl refl f }
     where
       by : (b c : Bool) → found ≡ b → eqb x 0 ≡ c → (b || not c) ≡ false → ZeroTo (a + (k + 1)) t
@@ -48,8 +48,8 @@ module _ (t : List ℕ) (a : ℕ) (found : Bool) (k : ℕ) (L : Looking t a foun
       by false false p q f = let y : _≡_ {A = ℕ} 0 1 = cc in absurd (omega arith)
       by true c p q f = let y : _≡_ {A = ℕ} 0 1 = cc in absurd (omega arith)
 
-  pub looked : BLOCK ≤ k → IsBlank a t (not found)
-  looked h = let e : k ≡ BLOCK = omega (arith, L .far) in record { blank = λ f. subst (λ (n : ℕ). ZeroTo (a + n) t) e (L .zeros (not-true found f)) }
+  pub looked : CHUNK ≤ k → IsBlank a t (not found)
+  looked h = let e : k ≡ CHUNK = omega (arith, L .far) in record { blank = λ f. subst (λ (n : ℕ). ZeroTo (a + n) t) e (L .zeros (not-true found f)) }
 
 -- ---- zeros are written
 
@@ -74,29 +74,39 @@ module _ (t₀ : List ℕ) (to : ℕ) (t : List ℕ) (k : ℕ) (W : Zeroing t₀
 
 -- ---- block after block
 
-pub block-written : (t : List ℕ) (a : ℕ) (r : Bool) → IsBlank a t r → r ≡ true → t ≡ replicate (a + BLOCK) 0 ++ drop (a + BLOCK) t
+pub block-written : (t : List ℕ) (a : ℕ) (r : Bool) → IsBlank a t r → r ≡ true → t ≡ replicate (a + CHUNK) 0 ++ drop (a + CHUNK) t
 block-written t a r L e = L .blank e .is
 
-pub record Clearing (w₀ w : List ℕ) (i : ℕ) : Type 0 where
-  pub far : i ≤ length w₀
+-- the first i of n words are cleared
+pub record Clearing (n : ℕ) (w₀ w : List ℕ) (i : ℕ) : Type 0 where
+  pub far : i ≤ n
+  pub end : n ≤ length w₀
   pub size : length w ≡ length w₀
   pub is : w ≡ replicate i 0 ++ drop i w₀
 
-pub clear-begun : (w : List ℕ) → Clearing w w 0
-clear-begun w = record { far = omega arith; size = refl; is = refl }
+pub clear-begun : (n : ℕ) (w : List ℕ) → n ≤ length w → Clearing n w w 0
+clear-begun n w h = record { far = omega arith; end = h; size = refl; is = refl }
 
-module _ (w₀ w : List ℕ) (i : ℕ) (C : Clearing w₀ w i) where
+module _ (n : ℕ) (w₀ w : List ℕ) (i : ℕ) (C : Clearing n w₀ w i) where
   pub clear-zeros : ZeroTo i w
   clear-zeros = zeros-of i w w₀ (C .is)
 
-  pub clear-room : BLOCK ≤ length w - i → i + BLOCK ≤ length w
-  clear-room h = omega (arith, C .size, C .far)
+  pub clear-room : CHUNK ≤ n - i → i + CHUNK ≤ length w
+  clear-room h = omega (arith, C .size, C .far, C .end)
 
-  pub clear-far : i ≤ length w
-  clear-far = omega (arith, C .size, C .far)
+  pub clear-far : i ≤ n
+  clear-far = C .far
 
-  pub clear-on : (w′ : List ℕ) → BLOCK ≤ length w - i → length w′ ≡ length w → w′ ≡ replicate (i + BLOCK) 0 ++ drop (i + BLOCK) w → Clearing w₀ w′ (i + BLOCK)
-  clear-on w′ h l e = record { far = omega (arith, C .size, C .far); size = l ∙ C .size; is = e ∙ ap (λ (t : List ℕ). replicate (i + BLOCK) 0 ++ t) (behind i w w₀ (C .is) BLOCK) }
+  pub clear-end : n ≤ length w
+  clear-end = omega (arith, C .size, C .end)
 
-  pub all-clear : (w′ : List ℕ) → w′ ≡ replicate (length w) 0 ++ drop (length w) w → w′ ≡ replicate (length w₀) 0
-  all-clear w′ e = e ∙ ap (λ (t : List ℕ). replicate (length w) 0 ++ t) (drop-length w) ∙ append-nil {A = ℕ} (replicate (length w) 0) ∙ ap (λ (n : ℕ). replicate n 0) (C .size)
+  pub clear-on : (w′ : List ℕ) → CHUNK ≤ n - i → length w′ ≡ length w → w′ ≡ replicate (i + CHUNK) 0 ++ drop (i + CHUNK) w → Clearing n w₀ w′ (i + CHUNK)
+  clear-on w′ h l e = record { far = omega (arith, C .far); end = C .end; size = l ∙ C .size; is = e ∙ ap (λ (t : List ℕ). replicate (i + CHUNK) 0 ++ t) (behind i w w₀ (C .is) CHUNK) }
+
+  pub cleared-to : (w′ : List ℕ) → w′ ≡ replicate n 0 ++ drop n w → w′ ≡ replicate n 0 ++ drop n w₀
+  cleared-to w′ e =
+      let d : i + (n - i) ≡ n = omega (arith, C .far) in
+      e ∙ ap (λ (t : List ℕ). replicate n 0 ++ t) (subst (λ (k : ℕ). drop k w ≡ drop k w₀) d (behind i w w₀ (C .is) (n - i)))
+
+pub all-clear : (w w′ : List ℕ) (n : ℕ) → n ≡ length w → w′ ≡ replicate n 0 ++ drop n w → w′ ≡ replicate (length w) 0
+all-clear w w′ n d e = e ∙ ap (λ (k : ℕ). replicate k 0 ++ drop k w) d ∙ ap (λ (t : List ℕ). replicate (length w) 0 ++ t) (drop-length w) ∙ append-nil {A = ℕ} (replicate (length w) 0)

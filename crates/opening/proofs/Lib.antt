@@ -5,3 +5,4 @@ pub mod Passing
 pub mod Growing
 pub mod Staging
 pub mod Accepted
+pub mod Behind

@@ -6,7 +6,7 @@ use native.Mathlib.Omega.{arith}
 use lib.ListN.{length, replicate, length-replicate}
 use Rattle.job.specs.Limits as limit
 use Rattle.job.specs.declared.Job.{Job}
-use Rattle.store.specs.Field.{LENGTH}
+use Rattle.store.specs.Field.{BLOCK}
 use Rattle.store.specs.Named.{recordsOf}
 use Rattle.reading.specs.declared.fill.Outcome.{Outcome}
 use Rattle.reading.specs.declared.fill.Outcome.the-variants as outcome
@@ -48,10 +48,10 @@ module _ (bytes w ss js v ts ks : List ℕ) (j : Job) where
   unfolding acceptOf readOf
   lengths e = by-fill (fillOf bytes w ss js) refl e
 
-lists : (w : List ℕ) → LENGTH ≤ length w → Space w (replicate limit.SEGMENTS 0) (replicate JOIN-POINTS 0)
+lists : (w : List ℕ) → BLOCK ≤ length w → Space w (replicate limit.SEGMENTS 0) (replicate JOIN-POINTS 0)
 lists w h = record { words = h; segments = omega (arith, length-replicate {A = ℕ} limit.SEGMENTS 0); joins = omega (arith, length-replicate {A = ℕ} JOIN-POINTS 0) }
 
-module _ (bytes w v ts ks : List ℕ) (j : Job) (long : LENGTH ≤ length w) where
+module _ (bytes w v ts ks : List ℕ) (j : Job) (long : BLOCK ≤ length w) where
   pub passed : acceptOf bytes w (replicate limit.SEGMENTS 0) (replicate JOIN-POINTS 0) ≡ fill.end (outcome.Ok j) v ts ks → Accepted j v ts ks
   passed e = accepted bytes w (replicate limit.SEGMENTS 0) (replicate JOIN-POINTS 0) (lists w long) j v ts ks e
 
@@ -81,7 +81,7 @@ pub made-ready : (k : ℕ) (js w x : List ℕ) (t : Joined) → Joins w k js →
 made-ready k js w x t g e = subst (λ (z : join.JoinEnd). Still w (words z)) (sym e) (joins-kept k js w g) .ready
 
 -- the needs of `start_rings`
-pub made-long : (k : ℕ) (js w x : List ℕ) (t : Joined) → Joins w k js → join.end t x ≡ processHorzJoins k js w → LENGTH ≤ length x
+pub made-long : (k : ℕ) (js w x : List ℕ) (t : Joined) → Joins w k js → join.end t x ≡ processHorzJoins k js w → BLOCK ≤ length x
 made-long k js w x t g e = made-ready k js w x t g e .long
 
 pub made-few : (k : ℕ) (js w x : List ℕ) (t : Joined) → Joins w k js → join.end t x ≡ processHorzJoins k js w → recordsOf x ≤ limit.RECORDS

@@ -3,13 +3,13 @@ use Prim.Native.Nat.{ℕ, _*_, _≤_, _<_}
 use mathlib.Core.Path.{_≡_, ap, _∙_, sym, subst}
 use mathlib.Core.List.{List, _++_}
 use native.Mathlib.Omega.{arith}
-use lib.ListN.{length, drop, replicate, length-replicate, replicate-append-replicate, List·getD-append}
+use lib.ListN.{length, drop, replicate, length-append, length-drop, length-replicate, replicate-append-replicate, List·getD-append}
 use borrow.Author.Tests.{lt-ltb, le-ltb}
 use Rattle.job.specs.Limits as limit
 use Rattle.job.specs.declared.Job.{Job}
 use Rattle.job.specs.declared.refusal.Refusal.{Refusal}
 use Rattle.job.specs.declared.refusal.Refusal.the-variants as refusal
-use Rattle.store.specs.Field.{LENGTH}
+use Rattle.store.specs.Field.{KEPT, LENGTH}
 use Rattle.store.specs.Named.{pointsOf}
 use Rattle.reading.specs.declared.fill.Outcome.{Outcome}
 use Rattle.reading.specs.declared.fill.Outcome.the-variants as outcome
@@ -28,7 +28,7 @@ use Rattle.joins.specs.Needs.{Joins}
 use Rattle.opening.specs.declared.open.Opened.{Opened}
 use Rattle.opening.specs.declared.open.Opened.the-variants.{Accepted, Refused}
 use Rattle.opening.specs.Start.{startRings}
-use Rattle.opening.specs.Open.{JOIN-POINTS, end, afterJoins, afterSegments, stagesOf, settled, openOf}
+use Rattle.opening.specs.Open.{JOIN-POINTS, end, afterJoins, afterSegments, stagesOf, settled, cleared, openOf}
 use Rattle.opening.proofs.Growing.{grow, accept-grown, joins-grown, laid-is}
 
 module _ (k : ℕ) (js w x : List ℕ) (t : Joined) (e : join.end t x ≡ processHorzJoins k js w) where
@@ -91,19 +91,15 @@ module _ (a : Opened) (w : List ℕ) where
   pub settle-refused : (x : Refusal) (y : List ℕ) → a ≡ Refused x → y ≡ replicate (length w) 0 → end (Refused x) y ≡ settled (length w) (end a w)
   settle-refused x y e f = rw (e, f)
 
-module _ (bytes w : List ℕ) (n : ℕ) (e : w ≡ replicate n 0) where
-  long : length w ≡ n
-  long = ap length e ∙ length-replicate {A = ℕ} n 0
+pub cleared-long : (w : List ℕ) → LENGTH ≤ length w → length (cleared w) ≡ length w
+cleared-long w l = omega (arith, length-append (replicate {A = ℕ} KEPT 0) (drop KEPT w), length-replicate {A = ℕ} KEPT 0, length-drop KEPT w)
 
-  pub too-short : length w < LENGTH → end (Refused refusal.Full) w ≡ openOf bytes n
+module _ (bytes w : List ℕ) where
+  pub too-short : (w′ : List ℕ) → length w < LENGTH → w′ ≡ replicate (length w) 0 → end (Refused refusal.Full) w′ ≡ openOf bytes w
   unfolding openOf
-  too-short h =
-      let l = long in
-      rw (lt-ltb n LENGTH (omega arith), ← e)
+  too-short w′ h e = rw (lt-ltb (length w) LENGTH h, e)
 
-  pub opened : (x y : List ℕ) (a r : Opened) → LENGTH ≤ length w → length x ≡ length w → end a x ≡ stagesOf bytes w → end r y ≡ settled (length x) (end a x) → end r y ≡ openOf bytes n
+  -- v: the words that were cleared; x: as the stages leave them
+  pub opened : (v x y : List ℕ) (a r : Opened) → LENGTH ≤ length w → v ≡ cleared w → length x ≡ length v → end a x ≡ stagesOf bytes v → end r y ≡ settled (length x) (end a x) → end r y ≡ openOf bytes w
   unfolding openOf
-  opened x y a r h k f d =
-      let l = long in
-      let s : length x ≡ n = omega arith in
-      rw (le-ltb n LENGTH (omega arith), ← e, ← f, ← s) d
+  opened v x y a r h e k f d = let l : length x ≡ length w = k ∙ ap length e ∙ cleared-long w h in rw (le-ltb (length w) LENGTH h, ← l, ← e, ← f) d

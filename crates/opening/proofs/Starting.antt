@@ -11,7 +11,7 @@ use lib.ListN.{length}
 use Rattle.job.specs.Limits as limit
 use Rattle.rings.specs.Count.{occ}
 use Rattle.rings.proofs.Counting.{sum-same}
-use Rattle.store.specs.Field.{PointCol, Count, pt, rc, ct, X, Y, NEXT, PREV, REC, FLAGS, OWNER, FIRST, MARK, PRESENT, START, CUT, REASON, TAKER, POINTS, RECORDS, NONE, LENGTH}
+use Rattle.store.specs.Field.{PointCol, Count, pt, rc, ct, X, Y, NEXT, PREV, REC, FLAGS, OWNER, FIRST, MARK, PRESENT, START, CUT, REASON, TAKER, POINTS, RECORDS, NONE, BLOCK}
 use Rattle.store.specs.Words.{Store, view}
 use Rattle.store.specs.Stores.{onStore}
 use Rattle.store.specs.Named.{firstOf, recordsOf}
@@ -86,7 +86,7 @@ unfolding startTo startRing
 length-start w zero = refl
 length-start w (suc i) = length-writes (startTo i w) (startWrites i (firstOf (startTo i w) i)) ∙ length-start w i
 
-pub begun : (w : List ℕ) → LENGTH ≤ length w → (i : ℕ) → i ≤ limit.RECORDS → Begun (view w) (view (startTo i w)) i
+pub begun : (w : List ℕ) → BLOCK ≤ length w → (i : ℕ) → i ≤ limit.RECORDS → Begun (view w) (view (startTo i w)) i
 unfolding startTo startRing
 begun w long zero h = none (view w)
 begun w long (suc i) h =
@@ -186,7 +186,7 @@ module _ (w : List ℕ) (r : Ready w) where
   unfolding startRings
   begun-all = begun w (r .long) (recordsOf w) (r .resolved .few-records)
 
-  pub start-long : LENGTH ≤ length (startRings w)
+  pub start-long : BLOCK ≤ length (startRings w)
   unfolding startRings
   start-long = omega (arith, length-start w (recordsOf w), r .long)
 

@@ -6,8 +6,8 @@ use mathlib.Core.List.{List, _++_}
 use lib.ListN.{drop, replicate}
 
 -- how many words are looked at together
-abbrev pub BLOCK : ℕ
-BLOCK = 128
+abbrev pub CHUNK : ℕ
+CHUNK = 128
 
 -- the first n words are zero
 pub record ZeroTo (n : ℕ) (t : List ℕ) : Type 0 where
@@ -15,4 +15,4 @@ pub record ZeroTo (n : ℕ) (t : List ℕ) : Type 0 where
 
 -- the block at a: if the answer is yes, zeros go on to its end
 pub record IsBlank (a : ℕ) (t : List ℕ) (r : Bool) : Type 0 where
-  pub blank : r ≡ true → ZeroTo (a + BLOCK) t
+  pub blank : r ≡ true → ZeroTo (a + CHUNK) t

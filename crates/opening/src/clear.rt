@@ -3,19 +3,19 @@ ghost use mathlib.Core.Path.{_≡_};
 ghost use mathlib.Core.List.{_++_};
 ghost use Prim.Native.Nat.{_+_, _≤_};
 ghost use lib.ListN.{length, drop, replicate};
-ghost use Rattle.opening.specs.Blank.{BLOCK, ZeroTo, IsBlank};
+ghost use Rattle.opening.specs.Blank.{CHUNK, ZeroTo, IsBlank};
 
 // How many words are looked at together.
-const BLOCK: usize = 128;
+const CHUNK: usize = 128;
 
 // Whether the block at `at` has only zeros, as all words before it.
 fn is_blank(t: &[u32], at: usize) -> bool
-    requires { ⌜ (at + BLOCK ≤ length (now t)) × ZeroTo at (now t) ⌝ }
+    requires { ⌜ (at + CHUNK ≤ length (now t)) × ZeroTo at (now t) ⌝ }
     ensures { λ r. ⌜ IsBlank at (now (t .entry)) r ⌝ }
 {
     let mut found = false;
     let mut k: usize = 0;
-    while k < BLOCK {
+    while k < CHUNK {
         found = found | (t[at + k] != 0);
         k += 1;
     }
@@ -36,25 +36,33 @@ fn write_zeros(t: &mut [u32], at: usize, to: usize)
 
 // ZeroTo in the block at `at`, after zeros.
 fn clear_block(t: &mut [u32], at: usize)
-    requires { ⌜ (at + BLOCK ≤ length (now t)) × ZeroTo at (now t) ⌝ }
-    ensures { λ _. ⌜ now (t .exit) ≡ replicate (at + BLOCK) 0 ++ drop (at + BLOCK) (now (t .entry)) ⌝ }
+    requires { ⌜ (at + CHUNK ≤ length (now t)) × ZeroTo at (now t) ⌝ }
+    ensures { λ _. ⌜ now (t .exit) ≡ replicate (at + CHUNK) 0 ++ drop (at + CHUNK) (now (t .entry)) ⌝ }
 {
     let blank = is_blank(t, at);
     if blank {
         return;
     }
-    write_zeros(t, at, at + BLOCK);
+    write_zeros(t, at, at + CHUNK);
+}
+
+// The first n words are zero.
+pub(crate) fn clear_to(work: &mut [u32], n: usize)
+    requires { ⌜ n ≤ length (now work) ⌝ }
+    ensures { λ _. ⌜ now (work .exit) ≡ replicate n 0 ++ drop n (now (work .entry)) ⌝ }
+{
+    let mut i: usize = 0;
+    while CHUNK <= n - i {
+        clear_block(work, i);
+        i += CHUNK;
+    }
+    write_zeros(work, i, n);
 }
 
 // Every word is zero.
 pub fn clear(work: &mut [u32])
     ensures { λ _. ⌜ now (work .exit) ≡ replicate (length (now (work .entry))) 0 ⌝ }
 {
-    let mut i: usize = 0;
-    while BLOCK <= work.len() - i {
-        clear_block(work, i);
-        i += BLOCK;
-    }
     let n = work.len();
-    write_zeros(work, i, n);
+    clear_to(work, n);
 }

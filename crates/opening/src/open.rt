@@ -1,5 +1,6 @@
 // Opening a job: its stages, one function for each, and zeros on a refusal.
 use crate::clear::clear;
+use crate::clear::clear_to;
 use crate::start::start_rings;
 use accepting::accept;
 use converting::convert::convert_horz_segs_to_joins;
@@ -9,13 +10,14 @@ use job::refusal::Refusal;
 use joins::Joined;
 use joins::process_horz_joins;
 use reading::fill::Outcome;
+use store::KEPT;
 use store::LENGTH;
 ghost use mathlib.Core.Path.{_≡_};
 ghost use Prim.Native.Nat.{_*_, _≤_};
 ghost use mathlib.Core.List.{_++_};
 ghost use lib.ListN.{length, drop, replicate};
 ghost use Rattle.job.specs.Limits as limit;
-ghost use Rattle.store.specs.Field.{LENGTH};
+ghost use Rattle.store.specs.Field.{BLOCK};
 ghost use Rattle.converting.specs.Make.{convertHorzSegsToJoins};
 ghost use Rattle.converting.specs.Needs.{Converting};
 ghost use Rattle.joins.specs.Join.{processHorzJoins};
@@ -83,7 +85,7 @@ fn join_all(work: &mut [u32], segments: &[u32], m: usize, own: &[u32], n: usize)
 
 // Rows 1 to 8, and then the joins. Segments and joins stand in local arrays.
 fn stages(bytes: &[u8], work: &mut [u32]) -> Opened
-    requires { ⌜ LENGTH ≤ length (now work) ⌝ }
+    requires { ⌜ BLOCK ≤ length (now work) ⌝ }
     ensures { λ r. ⌜ end r (now (work .exit)) ≡ stagesOf (now (bytes .entry)) (now (work .entry)) ⌝ }
 {
     let mut segments = [0u32; Job::SEGMENTS];
@@ -108,14 +110,16 @@ fn settle(a: Opened, work: &mut [u32]) -> Opened
     }
 }
 
-// Opens a job: it is read into the work space, tested, and joined; every ring is then at its start. The whole slice is zeroed first.
+// Opens a job: it is read into the work space, tested, and joined; every ring is then at its start. The live block and the names are zeroed first, and no more: zeros in the copies of kept states, too, would cost a
+// small job several times what the rest of it does.
 pub fn open(bytes: &[u8], work: &mut [u32]) -> Opened
-    ensures { λ r. ⌜ end r (now (work .exit)) ≡ openOf (now (bytes .entry)) (length (now (work .entry))) ⌝ }
+    ensures { λ r. ⌜ end r (now (work .exit)) ≡ openOf (now (bytes .entry)) (now (work .entry)) ⌝ }
 {
-    clear(work);
     if work.len() < LENGTH {
+        clear(work);
         return Opened::Refused(Refusal::Full);
     }
+    clear_to(work, KEPT);
     let a = stages(bytes, work);
     settle(a, work)
 }

@@ -7,13 +7,13 @@ ghost use mathlib.Core.Path.{_≡_};
 ghost use Prim.Native.Nat.{_<_, _≤_};
 ghost use lib.ListN.{length};
 ghost use Rattle.job.specs.Limits as limit;
-ghost use Rattle.store.specs.Field.{LENGTH};
+ghost use Rattle.store.specs.Field.{BLOCK};
 ghost use Rattle.store.specs.Named.{recordsOf};
 ghost use Rattle.opening.specs.Start.{startRing, startRings};
 
 // Record i is at its start: the validity test is due, its first point is its present place, and it was cut from none.
 fn start_ring(w: &mut [u32], i: usize)
-    requires { ⌜ (LENGTH ≤ length (now w)) × (i < limit.RECORDS) ⌝ }
+    requires { ⌜ (BLOCK ≤ length (now w)) × (i < limit.RECORDS) ⌝ }
     ensures { λ _. ⌜ now (w .exit) ≡ startRing (now (w .entry)) i ⌝ }
 {
     let a = get(w, Col::First, i);
@@ -25,7 +25,7 @@ fn start_ring(w: &mut [u32], i: usize)
 
 // Every record is at its start.
 pub(crate) fn start_rings(w: &mut [u32])
-    requires { ⌜ (LENGTH ≤ length (now w)) × (recordsOf (now w) ≤ limit.RECORDS) ⌝ }
+    requires { ⌜ (BLOCK ≤ length (now w)) × (recordsOf (now w) ≤ limit.RECORDS) ⌝ }
     ensures { λ _. ⌜ now (w .exit) ≡ startRings (now (w .entry)) ⌝ }
 {
     let n = get(w, Col::Records, 0);

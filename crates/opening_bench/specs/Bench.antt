@@ -4,7 +4,7 @@ use Prim.Native.Nat.{ℕ, suc, _+_, _-_, _%_, _/_}
 use mathlib.Core.Path.{_≡_}
 use mathlib.Core.List.{List, [], _∷_, _++_, map}
 use lib.IntN.{pos}
-use lib.ListN.{length}
+use lib.ListN.{length, replicate}
 use Rattle.rings.specs.Count.{table}
 use Rattle.job.specs.Refusal.{numberOf}
 use Rattle.geometry.specs.declared.Point.{Point}
@@ -109,7 +109,7 @@ row ls ss js a = record { job = jobOf ls ss js; answer = a }
 
 -- a work space of the fixed length
 unfoldable pub result : Row → Answer
-result r = answerOf (openOf (r .job) LENGTH)
+result r = answerOf (openOf (r .job) (replicate LENGTH 0))
 
 -- a join of a point with its next
 unfoldable pub knotted : Row

@@ -1,27 +1,24 @@
--- Finishing in one call leaves zeros past the fixed length: opening does, and what a step writes is within the columns.
+-- Finishing in one call leaves the names free and the words behind them as found: opening does, and a step leaves every word behind the live block.
 use Prim.Native.Nat.{ℕ, zero, suc, _≤_}
-use mathlib.Core.Path.{_≡_, refl}
-use mathlib.Core.List.{List}
+use mathlib.Core.Path.{_≡_, refl, _∙_}
+use mathlib.Core.List.{List, _++_}
 use native.Mathlib.Omega.{arith}
-use lib.ListN.{length}
+use lib.ListN.{length, drop, replicate}
 use Rattle.job.specs.Limits.{POINTS, RECORDS}
+use Rattle.job.specs.declared.refusal.Refusal.{Refusal}
 use Rattle.lone.specs.Lone.{Geo}
 use Rattle.lone.specs.Forest.{Answer, ok, full, outOfTurn}
-use Rattle.lone.specs.Act.{Act, stay, discard, dropPoint, moveOn, toFirst, double, cut}
 use Rattle.lone.specs.Rounds.{enough}
-use Rattle.store.specs.Field.{LENGTH}
+use Rattle.store.specs.Field.{BLOCK, STATES, KEPT}
 use Rattle.store.specs.Good.{Sound}
 use Rattle.store.specs.Value.{preserveCollinear}
-use Rattle.store.specs.Words.{Write, view, onWords}
-use Rattle.acts.specs.Apply.{Coding, ringWrites, offWrites, afterW}
+use Rattle.store.specs.Words.{view}
+use Rattle.acts.specs.Apply.{Coding}
 use Rattle.acts.specs.Finish.{RingsEnd, ringsDone, ringsFull, andThen, stepsByW, finishRecord, finishFromW, finishW}
 use Rattle.acts.specs.Laws.{Laws}
-use Rattle.acts.specs.Step.{Outcome, outcome, actAt, answerS, stepByW, stepW}
-use Rattle.acts.specs.Writes.{moveWrites, toFirstWrites, discardWrites, dropWrites, doubleWrites}
+use Rattle.acts.specs.Step.{Outcome, outcome, answerS, stepW}
 use Rattle.acts.proofs.Finishing.{wordsOf}
-use Rattle.acts.proofs.OnWords.{Inside, inside}
-use Rattle.acts.proofs.Readiness.{ready}
-use Rattle.acts.proofs.Stepping.{Able, able, length-step, stepW-sound}
+use Rattle.acts.proofs.Stepping.{length-step, stepW-sound}
 use Rattle.paths.specs.declared.Written.{Written}
 use Rattle.paths.specs.declared.Written.the-variants as written
 use Rattle.paths.specs.Wrote.{buildPaths64}
@@ -30,91 +27,71 @@ use Rattle.turns.proofs.Ready.{laws}
 use Rattle.opening.specs.declared.open.Opened.the-variants.{Accepted, Refused}
 use Rattle.opening.specs.Open.{End, end, openOf}
 use Rattle.opening.proofs.Accepted.{after-opening}
+use Rattle.opening.proofs.Behind.{open-rest}
 use Rattle.finishing.specs.Finish.{finishRings}
 use Rattle.finishing.specs.InOneCall.{afterWriting, afterSteps, afterOpening, finishOf}
-use Rattle.order.specs.PastLength.{Zeros}
-use Rattle.order.proofs.Zeros.{writes-zeros, all-zeros, open-zeros}
+use Rattle.finishing.proofs.Blocks.{step-behind}
 
--- ---- a step
-
-act-zeros : {P : Type 0} (f : Coding P) (w : List ℕ) (i : ℕ) → Zeros w → (act : Act P) → Inside f w i act → Zeros (afterW f w i act)
-act-zeros f w i z stay h = z
-act-zeros f w i z (discard y) h = writes-zeros w (discardWrites i y) h z
-act-zeros f w i z dropPoint h = writes-zeros w (dropWrites (view w) i) h z
-act-zeros f w i z (moveOn d) h = writes-zeros w (moveWrites (view w) i d) h z
-act-zeros f w i z (toFirst d) h = writes-zeros w (toFirstWrites (view w) i d) h z
-act-zeros f w i z (double a d) h = writes-zeros w (doubleWrites (view w) i (f .xw a) (f .yw a) d) h z
-act-zeros f w i z (cut a p off d) h =
-    let r : List Write = ringWrites f (view w) i a p d in
-    writes-zeros (onWords w r) (offWrites f (view w) (view (onWords w r)) i a off) (h .1) (writes-zeros w r (h .0) z)
-
--- a sound work space with zeros past the fixed length
-record Clean (w : List ℕ) : Type 0 where
-  long : LENGTH ≤ length w
+-- a sound work space whose words behind the live block are `rest`
+record Clean (rest w : List ℕ) : Type 0 where
+  long : BLOCK ≤ length w
   sound : Sound (view w)
-  zeros : Zeros w
+  behind : drop BLOCK w ≡ rest
 
 -- ---- the steps of finishing
 
-abbrev EndClean : RingsEnd → Type 0
-EndClean (ringsDone w) = Clean w
-EndClean (ringsFull w) = Clean w
+abbrev EndClean : List ℕ → RingsEnd → Type 0
+EndClean rest (ringsDone w) = Clean rest w
+EndClean rest (ringsFull w) = Clean rest w
 
-module _ {P : Type 0} (G : Geo P) (f : Coding P) (Λ : Laws G f) where
-  step-zeros : (w : List ℕ) (i : ℕ) → Clean w → Zeros (stepW G f w i)
-  unfolding stepW
-  step-zeros w i c = by (answerS G f (view w) i) refl
-    where
-      by : (a : Answer) → answerS G f (view w) i ≡ a → Zeros (stepByW G f w i a)
-      by ok e =
-          let a : Able G f (view w) i = able G f (view w) i e in
-          act-zeros f w i (c .zeros) (actAt G f (view w) i) (inside f w (c .long) (c .sound) i (a .closed) (actAt G f (view w) i) (ready G f Λ (view w) (c .sound) i (a .closed) (a .going)) (a .fits) (a .room))
-      by full e = c .zeros
-      by outOfTurn e = c .zeros
+module _ {P : Type 0} (G : Geo P) (f : Coding P) (Λ : Laws G f) (rest : List ℕ) where
+  step-clean : (w : List ℕ) (i : ℕ) → Clean rest w → Clean rest (stepW G f w i)
+  step-clean w i c = record { long = omega (arith, length-step G f w i, c .long); sound = stepW-sound G f Λ w i (c .long) (c .sound); behind = step-behind G f Λ w (c .long) (c .sound) i ∙ c .behind }
 
-  step-clean : (w : List ℕ) (i : ℕ) → Clean w → Clean (stepW G f w i)
-  step-clean w i c = record { long = omega (arith, length-step G f w i, c .long); sound = stepW-sound G f Λ w i (c .long) (c .sound); zeros = step-zeros w i c }
-
-  steps-clean : (n : ℕ) (a : Answer) (w : List ℕ) (i : ℕ) → Clean w → Clean (wordsOf (stepsByW G f n a w i))
+  steps-clean : (n : ℕ) (a : Answer) (w : List ℕ) (i : ℕ) → Clean rest w → Clean rest (wordsOf (stepsByW G f n a w i))
   steps-clean zero a w i c = c
   steps-clean (suc n) ok w i c = steps-clean n (answerS G f (view (stepW G f w i)) i) (stepW G f w i) i (step-clean w i c)
   steps-clean (suc n) full w i c = c
   steps-clean (suc n) outOfTurn w i c = c
 
-  record-clean : (w : List ℕ) (i : ℕ) → Clean w → Clean (wordsOf (finishRecord G f w i))
+  record-clean : (w : List ℕ) (i : ℕ) → Clean rest w → Clean rest (wordsOf (finishRecord G f w i))
   unfolding finishRecord
   record-clean w i c = steps-clean (enough POINTS) (answerS G f (view w) i) w i c
 
-  from-clean : (m : ℕ) (w : List ℕ) (i : ℕ) → Clean w → EndClean (finishFromW G f m w i)
+  from-clean : (m : ℕ) (w : List ℕ) (i : ℕ) → Clean rest w → EndClean rest (finishFromW G f m w i)
   from-clean zero w i c = c
   from-clean (suc m) w i c = go (finishRecord G f w i) (record-clean w i c) (λ x d. from-clean m x (suc i) d)
     where
-      go : (o : Outcome) → Clean (wordsOf o) → ((x : List ℕ) → Clean x → EndClean (finishFromW G f m x (suc i))) → EndClean (andThen o (λ (x : List ℕ). finishFromW G f m x (suc i)))
+      go : (o : Outcome) → Clean rest (wordsOf o) → ((x : List ℕ) → Clean rest x → EndClean rest (finishFromW G f m x (suc i))) → EndClean rest (andThen o (λ (x : List ℕ). finishFromW G f m x (suc i)))
       go (outcome ok x) d r = r x d
       go (outcome full x) d r = d
       go (outcome outOfTurn x) d r = r x d
 
-rings-clean : (w : List ℕ) → Clean w → EndClean (finishRings w)
+rings-clean : (rest w : List ℕ) → Clean rest w → EndClean rest (finishRings w)
 unfolding finishRings finishW
-rings-clean w c = from-clean (geometryOf (view w)) raised (laws (preserveCollinear (view w))) RECORDS w 0 c
+rings-clean rest w c = from-clean (geometryOf (view w)) raised (laws (preserveCollinear (view w))) rest RECORDS w 0 c
 
 -- ---- writing out, and the whole
 
-by-writing : (w : List ℕ) → Zeros w → (a : Written) (t : List ℕ) → Zeros (afterWriting w a t .words)
-by-writing w z (written.Paths c o) t = z
-by-writing w z (written.Refused x) t = λ k l. all-zeros (length w) k
+module _ (c o : ℕ) where
+  never : {A : Type 0} (x : Refusal) → written.Refused x ≡ written.Paths c o → A
+  never x e = absurd (let z : _≡_ {A = ℕ} 0 1 = cc in omega arith)
 
-by-steps : (T : RingsEnd) → EndClean T → (t : List ℕ) → Zeros (afterSteps T t .words)
-by-steps (ringsDone w) c t = by-writing w (c .zeros) (buildPaths64 (view w) t .answer) (buildPaths64 (view w) t .tray)
-by-steps (ringsFull w) c t = λ k l. all-zeros (length w) k
+  by-writing : (rest w : List ℕ) → Clean rest w → (a : Written) (t : List ℕ) → afterWriting w a t .answer ≡ written.Paths c o → drop BLOCK (afterWriting w a t .words) ≡ rest
+  by-writing rest w k (written.Paths a b) t e = k .behind
+  by-writing rest w k (written.Refused x) t e = never x e
 
--- THE LAW, whatever the answer
-pub finish-zeros : (bytes : List ℕ) (n : ℕ) (t : List ℕ) → Zeros (finishOf bytes n t .words)
+  by-steps : (rest : List ℕ) (T : RingsEnd) → EndClean rest T → (t : List ℕ) → afterSteps T t .answer ≡ written.Paths c o → drop BLOCK (afterSteps T t .words) ≡ rest
+  by-steps rest (ringsDone w) k t e = by-writing rest w k (buildPaths64 (view w) t .answer) (buildPaths64 (view w) t .tray) e
+  by-steps rest (ringsFull w) k t e = never _ e
+
+-- THE LAW
+pub finish-rest : (bytes lent t : List ℕ) (c o : ℕ) → finishOf bytes lent t .answer ≡ written.Paths c o → drop BLOCK (finishOf bytes lent t .words) ≡ replicate STATES 0 ++ drop KEPT lent
 unfolding finishOf
-finish-zeros bytes n t = go (openOf bytes n) refl
+finish-rest bytes lent t c o e = go (openOf bytes lent) refl e
   where
-    go : (T : End) → openOf bytes n ≡ T → Zeros (afterOpening T t .words)
-    go (end Accepted w) e =
-        let o = after-opening w bytes n e in
-        by-steps (finishRings w) (rings-clean w (record { long = o .ready .long; sound = o .sound; zeros = open-zeros bytes n Accepted w e })) t
-    go (end (Refused x) w) e = λ k l. all-zeros (length w) k
+    go : (T : End) → openOf bytes lent ≡ T → afterOpening T t .answer ≡ written.Paths c o → drop BLOCK (afterOpening T t .words) ≡ replicate STATES 0 ++ drop KEPT lent
+    go (end Accepted w) f h =
+        let a = after-opening w bytes lent f in
+        by-steps c o (drop BLOCK w) (finishRings w) (rings-clean (drop BLOCK w) w (record { long = a .ready .long; sound = a .sound; behind = refl })) t h ∙ open-rest bytes lent w f
+    go (end (Refused x) w) f h = never c o x h

@@ -13,7 +13,7 @@ use Rattle.rings.specs.Count.{occ}
 use Rattle.rings.specs.Links.{All}
 use Rattle.rings.specs.Walk.{walk}
 use Rattle.rings.specs.Whole.{Whole}
-use Rattle.store.specs.Field.{pt, X, Y, NEXT, PREV, LENGTH}
+use Rattle.store.specs.Field.{pt, X, Y, NEXT, PREV, BLOCK}
 use Rattle.store.specs.Words.{Store, view}
 use Rattle.store.specs.Sound.{pts, recs}
 use Rattle.store.specs.Good.{PointIn, SoundWords}
@@ -41,13 +41,13 @@ roundFrom s rev a = walk (linkOf s rev) a
 
 -- a point that may be read
 pub record Readable (w : List ℕ) (k : ℕ) : Type 0 where
-  pub long : LENGTH ≤ length w
+  pub long : BLOCK ≤ length w
   pub low : k < POINTS
   pub here : PointIn (view w) k
 
 -- a ring that may be walked round
 pub record Round (w : List ℕ) (rev : Bool) (a : ℕ) : Type 0 where
-  pub long : LENGTH ≤ length w
+  pub long : BLOCK ≤ length w
   pub few : pts (view w) ≤ POINTS
   pub whole : Whole (linkOf (view w) rev) (linkOf (view w) (not rev)) (pts (view w)) (roundFrom (view w) rev a)
   pub points-in : (k : ℕ) → 0 < occ k (roundFrom (view w) rev a) → PointIn (view w) k

@@ -18,7 +18,7 @@ ghost use lib.ListN.{length, replicate};
 ghost use Rattle.job.specs.Limits as limit;
 ghost use Rattle.lone.specs.Plane.{plane};
 ghost use Rattle.lone.specs.Path.{isSmallRing};
-ghost use Rattle.store.specs.Field.{LENGTH};
+ghost use Rattle.store.specs.Field.{BLOCK};
 ghost use Rattle.store.specs.Words.{view};
 ghost use Rattle.store.specs.Sound.{recs, isOpen};
 ghost use Rattle.store.specs.Good.{SoundWords};
@@ -104,7 +104,7 @@ fn is_small(w: &[u32], opened: bool, a: usize, n: usize) -> bool
 
 // Where a path starts.
 fn start_from(w: &[u32], rev: bool, f: usize) -> usize
-    requires { ⌜ (LENGTH ≤ length (now w)) × (f < limit.POINTS) ⌝ }
+    requires { ⌜ (BLOCK ≤ length (now w)) × (f < limit.POINTS) ⌝ }
     ensures { λ r. ⌜ r ≡ startFrom (view (now (w .entry))) rev f ⌝ }
 {
     if rev {
@@ -153,7 +153,7 @@ fn path_size(w: &[u32], rev: bool, opened: bool, i: usize) -> usize
 
 // Whether record i is open.
 pub fn is_open(w: &[u32], i: usize) -> bool
-    requires { ⌜ (LENGTH ≤ length (now w)) × (i < limit.RECORDS) ⌝ }
+    requires { ⌜ (BLOCK ≤ length (now w)) × (i < limit.RECORDS) ⌝ }
     ensures { λ r. ⌜ r ≡ isOpen (view (now (w .entry))) i ⌝ }
 {
     let flags = store::get(w, Col::Flags, i);
@@ -162,7 +162,7 @@ pub fn is_open(w: &[u32], i: usize) -> bool
 
 // The setting `reverse_solution`.
 pub fn reverse_solution(w: &[u32]) -> bool
-    requires { ⌜ LENGTH ≤ length (now w) ⌝ }
+    requires { ⌜ BLOCK ≤ length (now w) ⌝ }
     ensures { λ r. ⌜ r ≡ reverseSolution (view (now (w .entry))) ⌝ }
 {
     let bits = store::get(w, Col::Settings, 0);

@@ -8,7 +8,7 @@ ghost use Prim.Native.Nat.{_+_, _*_, _<_, _≤_};
 ghost use lib.Dec.{leb};
 ghost use lib.ListN.{length};
 ghost use Rattle.job.specs.Limits as limit;
-ghost use Rattle.store.specs.Field.{LENGTH};
+ghost use Rattle.store.specs.Field.{BLOCK};
 ghost use Rattle.store.specs.Words.{view};
 ghost use Rattle.paths.specs.Path.{pointAt};
 ghost use Rattle.paths.specs.Tray.{pathBytes};
@@ -25,7 +25,7 @@ pub fn point_at(w: &[u32], k: usize) -> Point
 
 // The point after k in a path: prev in a reversed one.
 fn link(w: &[u32], rev: bool, k: usize) -> usize
-    requires { ⌜ (LENGTH ≤ length (now w)) × (k < limit.POINTS) ⌝ }
+    requires { ⌜ (BLOCK ≤ length (now w)) × (k < limit.POINTS) ⌝ }
     ensures { λ r. ⌜ r ≡ linkOf (view (now (w .entry))) rev k ⌝ }
 {
     if rev {

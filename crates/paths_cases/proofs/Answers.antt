@@ -7,7 +7,7 @@ use native.Mathlib.Omega.{arith}
 use lib.Dec.{leb}
 use lib.ListN.{length, take, drop, length-append, length-drop, length-take}
 use borrow.Author.Tests.{leb-true}
-use Rattle.store.specs.Field.{LENGTH}
+use Rattle.store.specs.Field.{BLOCK}
 use Rattle.store.specs.Words.{view}
 use Rattle.audit.specs.declared.Verdict.{Verdict}
 use Rattle.audit.specs.declared.Verdict.the-variants.{Passed}
@@ -23,7 +23,7 @@ use Rattle.listing.specs.Told.{Told, told, tell}
 use Rattle.listing.specs.Needs.{Listable}
 use Rattle.listing.proofs.Answers.{answer-listable}
 
-pub ready : (w : List ℕ) (v : Verdict) → LENGTH ≤ length w → v ≡ testsOf w → v ≡ Passed → SoundWords w
+pub ready : (w : List ℕ) (v : Verdict) → BLOCK ≤ length w → v ≡ testsOf w → v ≡ Passed → SoundWords w
 ready w v l e f = record { long = l; sound = passed-sound w (sym e ∙ f) }
 
 pub listable : (w : List ℕ) (v : Verdict) (r : Written) (c o : ℕ) (t u : List ℕ) → v ≡ testsOf w → v ≡ Passed → r ≡ Paths c o → wrote r u ≡ buildPaths64 (view w) t → Listable c o u

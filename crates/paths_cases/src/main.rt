@@ -13,7 +13,7 @@ use store::LENGTH;
 ghost use Prim.Native.Nat.{_+_, _*_, _≤_, _<_, _^_};
 ghost use lib.ListN.{length};
 ghost use Rattle.job.specs.Limits as limit;
-ghost use Rattle.store.specs.Field.{LENGTH};
+ghost use Rattle.store.specs.Field.{BLOCK};
 
 // What stands at a place of the input, for which there is room.
 fn small(s: &[u8], at: usize) -> usize
@@ -93,7 +93,7 @@ fn set_points(work: &mut [u32; LENGTH], s: &[u8], at: usize, n: usize)
 
 // The text of the ring's path: nothing where the work space fails its tests.
 fn list(work: &[u32], tray: &mut [u8], out: &mut [u8]) -> usize
-    requires { ⌜ LENGTH ≤ length (now work) ⌝ }
+    requires { ⌜ BLOCK ≤ length (now work) ⌝ }
     ensures { λ r. ⌜ r ≤ length (now (out .exit)) ⌝ }
 {
     let Verdict::Passed = audit::tests_of(work) else {

@@ -19,7 +19,7 @@ use Rattle.job.specs.declared.field.Field.the-variants.{Settings, Point, Record
 use Rattle.job.specs.declared.field.Reading.{Reading}
 use Rattle.job.specs.declared.field.Reading.the-variants as reading
 use Rattle.job.proofs.Accepted.{passed, accepted}
-use Rattle.store.specs.Field.{pt, rc, ct, X, Y, NEXT, PREV, REC, FLAGS, FIRST, REASON, SETTINGS, POINTS, RECORDS, LENGTH}
+use Rattle.store.specs.Field.{pt, rc, ct, X, Y, NEXT, PREV, REC, FLAGS, FIRST, REASON, SETTINGS, POINTS, RECORDS, BLOCK}
 use Rattle.store.specs.Words.{Store, view, Write, write, onWords}
 use Rattle.store.specs.Stores.{onStore}
 use Rattle.store.specs.Named.{settingsOf, recordsOf}
@@ -55,7 +55,7 @@ record Tame (j : Job) (w : List ℕ) : Type 0 where
   bits : j .bits ≤ 3
   flags : (i : ℕ) → i < j .records → view w (rc FLAGS) i ≤ 3
   reasons : (i : ℕ) → i < j .records → view w (rc REASON) i ≡ reasonRead (view w (rc FIRST) i)
-  long : LENGTH ≤ length w
+  long : BLOCK ≤ length w
 
 abbrev TameEnd : ReadEnd → Type 0
 TameEnd (end (Ok j) w ss js) = Tame j w
@@ -111,7 +111,7 @@ tame-run (suc k) bytes j w ss js t = by (ltb (j .at) (length bytes)) (turnOf byt
     by true T u r = on T u r
     by false T u r = t
 
-tame-fill : (bytes w ss js : List ℕ) → LENGTH ≤ length w → TameEnd (fillOf bytes w ss js)
+tame-fill : (bytes w ss js : List ℕ) → BLOCK ≤ length w → TameEnd (fillOf bytes w ss js)
 unfolding fillOf
 tame-fill bytes w ss js l = go (eqb (length bytes) 0)
   where
@@ -119,7 +119,7 @@ tame-fill bytes w ss js l = go (eqb (length bytes) 0)
     go true = tt
     go false = tame-run (suc (length bytes)) bytes fresh w ss js (record { bits = omega arith; flags = λ i h. absurd (omega arith); reasons = λ i h. absurd (omega arith); long = l })
 
-pub fields-of : (bytes w ss js : List ℕ) → LENGTH ≤ length w → (j : Job) (v ts ks : List ℕ) → readOf bytes w ss js ≡ end (Ok j) v ts ks → Bits v × Unringed v
+pub fields-of : (bytes w ss js : List ℕ) → BLOCK ≤ length w → (j : Job) (v ts ks : List ℕ) → readOf bytes w ss js ≡ end (Ok j) v ts ks → Bits v × Unringed v
 unfolding readOf
 fields-of bytes w ss js l j v ts ks e = go (fillOf bytes w ss js) (tame-fill bytes w ss js l) e
   where

@@ -16,7 +16,7 @@ use Rattle.job.specs.declared.field.Field.{Field}
 use Rattle.job.specs.declared.field.Field.the-variants.{Settings, Point, Record, Segment, Join}
 use Rattle.job.specs.declared.field.Reading.{Reading}
 use Rattle.job.specs.declared.field.Reading.the-variants as reading
-use Rattle.store.specs.Field.{LENGTH, ct, SETTINGS, POINTS, RECORDS, pt, X, Y, NEXT, PREV, REC}
+use Rattle.store.specs.Field.{BLOCK, ct, SETTINGS, POINTS, RECORDS, pt, X, Y, NEXT, PREV, REC}
 use Rattle.store.specs.Words.{write}
 use Rattle.store.proofs.Storing.{length-writes, view-writes}
 use Rattle.reading.specs.declared.fill.Outcome.{Outcome}
@@ -90,7 +90,7 @@ module _ (bytes : List ℕ) (n : Job) (v ts ks : List ℕ) where
       by false d = run-ended (suc (length bytes)) fresh w ss js within-fresh d
 
 -- the words say the counts
-pub counts : (w : List ℕ) (j : Job) → LENGTH ≤ length w → Within j → Counts j (counted j w)
+pub counts : (w : List ℕ) (j : Job) → BLOCK ≤ length w → Within j → Counts j (counted j w)
 counts w j l i =
     let e = view-writes w (write (ct SETTINGS) 0 (j .bits) ∷ write (ct POINTS) 0 (j .points) ∷ write (ct RECORDS) 0 (j .records) ∷ []) l (omega arith, (omega arith, (omega arith, tt))) in
     record { within = i; settings = ap (λ s. s (ct SETTINGS) 0) e; points = ap (λ s. s (ct POINTS) 0) e; records = ap (λ s. s (ct RECORDS) 0) e }

@@ -18,7 +18,7 @@ use Rattle.job.specs.declared.field.Kind.the-variants as kind
 use Rattle.job.specs.declared.field.Reading.the-variants as reading
 use Rattle.reading.specs.declared.fill.Outcome.{Outcome}
 use Rattle.reading.specs.declared.fill.Outcome.the-variants.{Ok}
-use Rattle.store.specs.Field.{LENGTH}
+use Rattle.store.specs.Field.{BLOCK}
 use Rattle.reading.specs.Fill.{ReadEnd, end, putPoint, turnOf}
 use Rattle.reading.specs.Points.{pointNext, putValue, pastPoint, PointTurn, PointTurns, none, more}
 use Rattle.reading.proofs.Going.{Going, next, falls}
@@ -77,9 +77,9 @@ pub record Placed (bytes : List ℕ) (j : Job) (w₀ : List ℕ) (k : Job) (w : 
   pub turns : PointTurns bytes j w₀ k w
   pub within : Within k
   pub kept : length w ≡ length w₀
-  pub long : LENGTH ≤ length w
+  pub long : BLOCK ≤ length w
 
-pub none-placed : (bytes : List ℕ) (j : Job) (w : List ℕ) → LENGTH ≤ length w → Within j → Placed bytes j w j w
+pub none-placed : (bytes : List ℕ) (j : Job) (w : List ℕ) → BLOCK ≤ length w → Within j → Placed bytes j w j w
 none-placed bytes j w h i = record { turns = none; within = i; kept = refl; long = h }
 
 pub all-placed : (bytes : List ℕ) (j : Job) (w₀ : List ℕ) (k : Job) (w : List ℕ) → Placed bytes j w₀ k w → PointTurns bytes j w₀ k w

@@ -25,7 +25,7 @@ use Rattle.job.specs.declared.field.Reading.{Reading}
 use Rattle.job.specs.declared.field.Reading.the-variants as reading
 use Rattle.job.specs.declared.refusal.Refusal.the-variants.{Torn, Strange, Crowded}
 use Rattle.job.proofs.Accepted.{passed, accepted}
-use Rattle.store.specs.Field.{pt, ct, X, Y, NEXT, PREV, REC, SETTINGS, POINTS, RECORDS, LENGTH}
+use Rattle.store.specs.Field.{pt, ct, X, Y, NEXT, PREV, REC, SETTINGS, POINTS, RECORDS, BLOCK}
 use Rattle.store.specs.Words.{view, write, onWords}
 use Rattle.store.specs.Stores.{onStore}
 use Rattle.store.proofs.Storing.{view-writes, length-writes}
@@ -150,7 +150,7 @@ module _ (j : Job) (s : List ℕ) (l : Lay j) where
 record Stands (bytes : List ℕ) (j : Job) (w : List ℕ) : Type 0 where
   lay : Lay j
   inside : j .at ≤ length bytes
-  long : LENGTH ≤ length w
+  long : BLOCK ≤ length w
   numbers : AtBytes bytes (j .points) (view w)
 
 abbrev StandsEnd : List ℕ → ReadEnd → Type 0
@@ -236,7 +236,7 @@ stands-run (suc k) bytes j w ss js t = by (ltb (j .at) (length bytes)) (turnOf b
     by true T u r = on T u r
     by false T u r = t
 
-stands-fill : (bytes w ss js : List ℕ) → LENGTH ≤ length w → StandsEnd bytes (fillOf bytes w ss js)
+stands-fill : (bytes w ss js : List ℕ) → BLOCK ≤ length w → StandsEnd bytes (fillOf bytes w ss js)
 unfolding fillOf
 stands-fill bytes w ss js l = go (eqb (length bytes) 0)
   where
@@ -252,7 +252,7 @@ stands-fill bytes w ss js l = go (eqb (length bytes) 0)
         })
 
 -- the numbers of a job that was read stand where they were read
-pub standing : (bytes w ss js : List ℕ) → LENGTH ≤ length w → (j : Job) (v ts ks : List ℕ) → readOf bytes w ss js ≡ end (Ok j) v ts ks → Standing bytes j v
+pub standing : (bytes w ss js : List ℕ) → BLOCK ≤ length w → (j : Job) (v ts ks : List ℕ) → readOf bytes w ss js ≡ end (Ok j) v ts ks → Standing bytes j v
 unfolding readOf
 standing bytes w ss js l j v ts ks e = go (fillOf bytes w ss js) (stands-fill bytes w ss js l) e
   where

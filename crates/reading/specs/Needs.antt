@@ -7,11 +7,11 @@ use Rattle.job.specs.Job.{Within}
 use Rattle.job.specs.declared.Job.{Job}
 use Rattle.job.specs.declared.field.Field.{Field}
 use Rattle.job.specs.declared.field.Field.the-variants.{Settings, Point, Record, Segment, Join}
-use Rattle.store.specs.Field.{LENGTH}
+use Rattle.store.specs.Field.{BLOCK}
 
 -- room for every field that a job may have
 pub record Space (w ss js : List ℕ) : Type 0 where
-  pub words : LENGTH ≤ length w
+  pub words : BLOCK ≤ length w
   pub segments : SEGMENTS ≤ length ss
   pub joins : 2 * JOINS ≤ length js
 

@@ -13,7 +13,7 @@ ghost use Prim.Native.Nat.{_+_, _*_, _<_, _≤_};
 ghost use lib.ListN.{length, set};
 ghost use Rattle.job.specs.Limits as limit;
 ghost use Rattle.job.specs.Job.{Within};
-ghost use Rattle.store.specs.Field.{LENGTH, size};
+ghost use Rattle.store.specs.Field.{BLOCK, size};
 ghost use Rattle.store.specs.Words as words;
 ghost use Rattle.store.specs.Column.{columnOf};
 ghost use Rattle.reading.specs.Fill.{end, putPoint, reasonRead, putRecord, putJoin, placed, turnOf, fillOf};
@@ -27,14 +27,14 @@ pub enum Outcome {
 
 // Stores a word of a column.
 pub(crate) fn put(w: &mut [u32], c: Col, i: usize, v: u32)
-    requires { ⌜ (LENGTH ≤ length (now w)) × (i < size (columnOf c)) ⌝ }
+    requires { ⌜ (BLOCK ≤ length (now w)) × (i < size (columnOf c)) ⌝ }
     ensures { λ _. ⌜ now (w .exit) ≡ words.put (columnOf c) (now (w .entry)) i v ⌝ }
 {
     store::set(w, c, i, v as usize);
 }
 
 pub(crate) fn put_point(w: &mut [u32], i: usize, x: u32, y: u32, next: u32, prev: u32, rec: u32)
-    requires { ⌜ (LENGTH ≤ length (now w)) × (i < limit.POINTS) ⌝ }
+    requires { ⌜ (BLOCK ≤ length (now w)) × (i < limit.POINTS) ⌝ }
     ensures { λ _. ⌜ now (w .exit) ≡ putPoint i x y next prev rec (now (w .entry)) ⌝ }
 {
     put(w, Col::X, i, x);
@@ -55,7 +55,7 @@ fn reason_read(first: u32) -> u32
 }
 
 fn put_record(w: &mut [u32], i: usize, flags: u32, owner: u32, first: u32)
-    requires { ⌜ (LENGTH ≤ length (now w)) × (i < limit.RECORDS) ⌝ }
+    requires { ⌜ (BLOCK ≤ length (now w)) × (i < limit.RECORDS) ⌝ }
     ensures { λ _. ⌜ now (w .exit) ≡ putRecord i flags owner first (now (w .entry)) ⌝ }
 {
     put(w, Col::Flags, i, flags);

@@ -9,14 +9,14 @@ ghost use mathlib.Core.Path.{_≡_};
 ghost use Prim.Native.Nat.{_≤_};
 ghost use lib.ListN.{length};
 ghost use Rattle.job.specs.Job.{Within};
-ghost use Rattle.store.specs.Field.{LENGTH};
+ghost use Rattle.store.specs.Field.{BLOCK};
 ghost use Rattle.reading.specs.Fill.{end};
 ghost use Rattle.reading.specs.Needs.{Space};
 ghost use Rattle.reading.specs.Read.{counted, readOf};
 
 // The settings and the counts.
 fn put_counts(w: &mut [u32], j: Job)
-    requires { ⌜ (LENGTH ≤ length (now w)) × Within j ⌝ }
+    requires { ⌜ (BLOCK ≤ length (now w)) × Within j ⌝ }
     ensures { λ _. ⌜ now (w .exit) ≡ counted j (now (w .entry)) ⌝ }
 {
     fill::put(w, Col::Settings, 0, j.bits);

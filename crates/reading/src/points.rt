@@ -13,7 +13,7 @@ ghost use Rattle.job.specs.Limits as limit;
 ghost use Rattle.job.specs.Field.{sizeOf};
 ghost use Rattle.job.specs.Job.{Within};
 ghost use Rattle.job.specs.declared.field.Kind.the-variants as kind;
-ghost use Rattle.store.specs.Field.{LENGTH};
+ghost use Rattle.store.specs.Field.{BLOCK};
 ghost use Rattle.reading.specs.Points.{POINT-BYTES, pointNext, putValue, pastPoint, PointTurns};
 
 // The bytes of a point's field: its value has 14.
@@ -33,7 +33,7 @@ fn point_next(part: &[u8], j: Job) -> bool
 
 // Point i, by its value's bytes.
 fn put_value(v: &[u8], i: usize, w: &mut [u32])
-    requires { ⌜ (sizeOf kind.Point ≤ length (now v)) × (LENGTH ≤ length (now w)) × (i < limit.POINTS) ⌝ }
+    requires { ⌜ (sizeOf kind.Point ≤ length (now v)) × (BLOCK ≤ length (now w)) × (i < limit.POINTS) ⌝ }
     ensures { λ _. ⌜ now (w .exit) ≡ putValue (now (v .entry)) i (now (w .entry)) ⌝ }
 {
     let x = numbers::read_raised(v, 0, Job::COORDINATE);
@@ -58,7 +58,7 @@ fn past_point(j: Job) -> Job
 
 // The points from the state j on, up to a field of another kind or one that a turn would refuse.
 pub(crate) fn run_points(bytes: &[u8], j: Job, w: &mut [u32]) -> Job
-    requires { ⌜ (LENGTH ≤ length (now w)) × Within j ⌝ }
+    requires { ⌜ (BLOCK ≤ length (now w)) × Within j ⌝ }
     ensures { λ r. ⌜ PointTurns (now (bytes .entry)) j (now (w .entry)) r (now (w .exit)) ⌝ }
 {
     let mut k = j;

@@ -19,7 +19,7 @@ text-part a m text h e = sym (length-take-le m text (subst (λ (x : Listed). Who
 
 pub room : (bytes w t w′ t′ out′ : List ℕ) (a : Listed) → listedJob (told a out′) w′ t′ ≡ tellJobOf bytes w t (replicate TEXT 0) → Whole a (length out′)
 room bytes w t w′ t′ out′ a e =
-    let text : List ℕ = reasonsOf bytes (length w) t in
+    let text : List ℕ = reasonsOf bytes w t in
     let rest : List ℕ = drop (length text) (replicate TEXT 0) in
     let l : length text ≤ length (text ++ rest) = omega (arith, length-append text rest) in
     subst (λ (x : Told). Whole (x .answer) (length (x .out))) (sym (told-whole bytes w t w′ t′ (replicate TEXT 0) out′ a (omega (arith, length-replicate {A = ℕ} TEXT 0)) e)) l

@@ -60,7 +60,7 @@ module _ (bytes : List ℕ) where
       go : (o : Option Drawing) → drawingIn bytes ≡ o → omap encode o ≡ some x → rewriteOf bytes n m ≡ writtenIn x n m
       go (some d) f g =
           let z : encode d ≡ x = cc (g) in
-          long bytes n m h ∙ by-drawing (readIn bytes n) d (any-space bytes n h ∙ f) n m ∙ ap (λ (b : List ℕ). writtenIn b n m) z
+          long bytes n m h ∙ by-drawing (readIn bytes n) d (any-space bytes n (omega arith) ∙ f) n m ∙ ap (λ (b : List ℕ). writtenIn b n m) z
       go none f g = absurd (let z : _≡_ {A = ℕ} 0 1 = cc in omega arith)
 
   others : rewritten bytes ≡ none → (n : ℕ) → LENGTH ≤ n → (x : Refusal) × ((m : ℕ) → rewriteOf bytes n m ≡ notRewritten x n m)
@@ -69,7 +69,7 @@ module _ (bytes : List ℕ) where
     where
       go : (o : Option Drawing) → drawingIn bytes ≡ o → omap encode o ≡ none → (x : Refusal) × ((m : ℕ) → rewriteOf bytes n m ≡ notRewritten x n m)
       go (some d) f g = absurd (let z : _≡_ {A = ℕ} 0 1 = cc in omega arith)
-      go none f g = let r = by-refusal (readIn bytes n) (any-space bytes n h ∙ f) n in (r .0, λ m. long bytes n m h ∙ r .1 m)
+      go none f g = let r = by-refusal (readIn bytes n) (any-space bytes n (omega arith) ∙ f) n in (r .0, λ m. long bytes n m h ∙ r .1 m)
 
   suffices : (x : List ℕ) → rewritten bytes ≡ some x → (n m : ℕ) → LENGTH ≤ n → LONGEST ≤ m → rewriteOf bytes n m ≡ rewrote (Bytes (length x)) (replicate n 0) (padded m x)
   suffices x e n m h l = accepted x e n m h ∙ rw (le-leb (length x) m (omega (arith, one-way .never-longer bytes x e)))

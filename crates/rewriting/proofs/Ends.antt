@@ -13,7 +13,7 @@ use Rattle.job.specs.Limits.{POINTS}
 use Rattle.job.specs.declared.Job.{Job}
 use Rattle.job.specs.declared.refusal.Refusal.{Refusal}
 use Rattle.job.specs.declared.refusal.Refusal.the-variants.{SmallTray, Full}
-use Rattle.store.specs.Field.{LENGTH}
+use Rattle.store.specs.Field.{BLOCK, LENGTH}
 use Rattle.store.specs.Words.{view}
 use Rattle.store.specs.Named.{recordsOf}
 use Rattle.reading.specs.declared.fill.Outcome.{Outcome}
@@ -55,7 +55,7 @@ job-written w ss m js n k at r t u v e f g =
 
 -- ---- rows 1 to 8
 
-module _ (bytes w v ts ks : List ℕ) (long : LENGTH ≤ length w) (o : Outcome) (e : end o v ts ks ≡ acceptOf bytes w (replicate limit.SEGMENTS 0) (replicate JOIN-POINTS 0)) where
+module _ (bytes w v ts ks : List ℕ) (long : BLOCK ≤ length w) (o : Outcome) (e : end o v ts ks ≡ acceptOf bytes w (replicate limit.SEGMENTS 0) (replicate JOIN-POINTS 0)) where
   as-read : (j : Job) → o ≡ outcome.Ok j → Converting v ts (j .segments) ks (j .joins)
   as-read j f = may-convert bytes w v ts ks j long o e f
 

@@ -6,7 +6,7 @@ use lib.Dec.{ltb}
 use lib.ListN.{length, replicate}
 use Rattle.job.specs.Limits as limit
 use Rattle.job.specs.declared.refusal.Refusal.the-variants.{SmallTray}
-use Rattle.store.specs.Field.{LENGTH}
+use Rattle.store.specs.Field.{BLOCK}
 use Rattle.reading.specs.declared.fill.Outcome.the-variants as outcome
 use Rattle.reading.specs.Fill.{ReadEnd, end}
 use Rattle.accepting.specs.Accept.{acceptOf}
@@ -20,7 +20,7 @@ use Rattle.rewriting.specs.Rewrite.{Rewrote, rewrote}
 
 -- a job that was read, with m segments and n joins
 pub record Lists (w ss : List ℕ) (m : ℕ) (js : List ℕ) (n : ℕ) : Type 0 where
-  pub long : LENGTH ≤ length w
+  pub long : BLOCK ≤ length w
   pub segments : m ≤ length ss
   pub joins : 2 * n ≤ length js
 

@@ -20,7 +20,7 @@ use store::read;
 ghost use mathlib.Core.Path.{_≡_};
 ghost use Prim.Native.Nat.{_≤_};
 ghost use lib.ListN.{length};
-ghost use Rattle.store.specs.Field.{LENGTH};
+ghost use Rattle.store.specs.Field.{BLOCK};
 ghost use Rattle.prefix.specs.Decides as decides;
 ghost use Rattle.listing.specs.Pour.{poured, pour};
 ghost use Rattle.encoding.specs.Sheet.{allBytes};
@@ -97,7 +97,7 @@ fn write_job(
 
 // Rows 1 to 8, and then the job's bytes. Segments and joins stand in local arrays.
 fn stages(bytes: &[u8], work: &mut [u32], tray: &mut [u8]) -> Rewritten
-    requires { ⌜ LENGTH ≤ length (now work) ⌝ }
+    requires { ⌜ BLOCK ≤ length (now work) ⌝ }
     ensures { λ r. ⌜ rewrote r (now (work .exit)) (now (tray .exit)) ≡ writingOf (now (bytes .entry)) (now (work .entry)) (now (tray .entry)) ⌝ }
 {
     let mut segments = [0u32; Job::SEGMENTS];

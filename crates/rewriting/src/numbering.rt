@@ -7,7 +7,7 @@ use store::read;
 ghost use mathlib.Core.Path.{_≡_};
 ghost use Prim.Native.Nat.{_≤_, _<_, _^_};
 ghost use lib.ListN.{length, getD, set};
-ghost use Rattle.store.specs.Field.{LENGTH};
+ghost use Rattle.store.specs.Field.{BLOCK};
 ghost use Rattle.store.specs.Words.{view};
 ghost use Rattle.store.specs.Named.{recordsOf, ringOf};
 ghost use Rattle.store.specs.Sound.{ringAt};
@@ -34,7 +34,7 @@ fn set_number(numbers: &mut [usize], p: usize, k: usize)
 
 // The points of the ring from a, from k on; answers the number after them.
 fn number_ring(w: &[u32], a: usize, k: usize, numbers: &mut [usize]) -> usize
-    requires { ⌜ (LENGTH ≤ length (now w)) × (k < 2 ^ 43) ⌝ }
+    requires { ⌜ (BLOCK ≤ length (now w)) × (k < 2 ^ 43) ⌝ }
     ensures { λ r. ⌜ numberedTo r (now (numbers .exit)) ≡ numberOn (ringOf (now (w .entry)) a) k (now (numbers .entry)) ⌝ }
 {
     let mut n = k;
@@ -54,7 +54,7 @@ fn number_ring(w: &[u32], a: usize, k: usize, numbers: &mut [usize]) -> usize
 
 // The same for record i's ring, if it has one.
 fn number_record(w: &[u32], i: usize, k: usize, numbers: &mut [usize]) -> usize
-    requires { ⌜ (LENGTH ≤ length (now w)) × (k < 2 ^ 43) ⌝ }
+    requires { ⌜ (BLOCK ≤ length (now w)) × (k < 2 ^ 43) ⌝ }
     ensures { λ r. ⌜ numberedTo r (now (numbers .exit)) ≡ numberOn (ringAt (view (now (w .entry))) i) k (now (numbers .entry)) ⌝ }
 {
     let a = read(w, Col::First, i);
@@ -66,7 +66,7 @@ fn number_record(w: &[u32], i: usize, k: usize, numbers: &mut [usize]) -> usize
 
 // The same for every record's ring; answers how many points there are.
 pub(crate) fn number_rings(w: &[u32], numbers: &mut [usize]) -> usize
-    requires { ⌜ LENGTH ≤ length (now w) ⌝ }
+    requires { ⌜ BLOCK ≤ length (now w) ⌝ }
     ensures { λ r. ⌜ numberedTo r (now (numbers .exit)) ≡ numberTo (view (now (w .entry))) (recordsOf (now (w .entry))) (now (numbers .entry)) ⌝ }
 {
     let n = get(w, Col::Records, 0);

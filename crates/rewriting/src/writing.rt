@@ -15,7 +15,7 @@ ghost use mathlib.Core.List.{map};
 ghost use Prim.Native.Nat.{_*_, _≤_, _<_};
 ghost use lib.ListN.{length, getD};
 ghost use Rattle.rings.specs.Count.{table};
-ghost use Rattle.store.specs.Field.{LENGTH};
+ghost use Rattle.store.specs.Field.{BLOCK};
 ghost use Rattle.store.specs.Words.{view, cell};
 ghost use Rattle.store.specs.Named.{recordsOf, ringOf};
 ghost use Rattle.store.specs.Column.{columnOf};
@@ -28,7 +28,7 @@ ghost use Rattle.rewriting.specs.Fields.{cornerField, cornerFields, star
 
 // The number of the point that a column names.
 fn number_at(w: &[u32], numbers: &[usize], c: Col, p: usize) -> usize
-    requires { ⌜ LENGTH ≤ length (now w) ⌝ }
+    requires { ⌜ BLOCK ≤ length (now w) ⌝ }
     ensures { λ r. ⌜ r ≡ getD (now (numbers .entry)) (cell (columnOf c) (now (w .entry)) p) 0 ⌝ }
 {
     let q = read(w, c, p);
@@ -37,7 +37,7 @@ fn number_at(w: &[u32], numbers: &[usize], c: Col, p: usize) -> usize
 
 // Point p, on the ring of record i.
 fn put_corner(w: &[u32], numbers: &[usize], i: usize, p: usize, out: &mut [u8], at: usize) -> usize
-    requires { ⌜ LENGTH ≤ length (now w) ⌝ }
+    requires { ⌜ BLOCK ≤ length (now w) ⌝ }
     ensures { λ r. ⌜ poured r (now (out .exit)) ≡ pour (bytesOf (cornerField (now (w .entry)) (now (numbers .entry)) i p)) at (now (out .entry)) ⌝ }
 {
     let x = read(w, Col::X, p);
@@ -49,7 +49,7 @@ fn put_corner(w: &[u32], numbers: &[usize], i: usize, p: usize, out: &mut [u8], 
 
 // The points of the ring from a, which is record i's.
 fn put_ring(w: &[u32], numbers: &[usize], i: usize, a: usize, out: &mut [u8], at: usize) -> usize
-    requires { ⌜ LENGTH ≤ length (now w) ⌝ }
+    requires { ⌜ BLOCK ≤ length (now w) ⌝ }
     ensures { λ r. ⌜ poured r (now (out .exit)) ≡ pour (allBytes (map (cornerField (now (w .entry)) (now (numbers .entry)) i) (ringOf (now (w .entry)) a))) at (now (out .entry)) ⌝ }
 {
     let mut k = at;
@@ -68,7 +68,7 @@ fn put_ring(w: &[u32], numbers: &[usize], i: usize, a: usize, out: &mut [u8], at
 
 // The points of record i's ring, if it has one.
 fn put_corners(w: &[u32], numbers: &[usize], i: usize, out: &mut [u8], at: usize) -> usize
-    requires { ⌜ LENGTH ≤ length (now w) ⌝ }
+    requires { ⌜ BLOCK ≤ length (now w) ⌝ }
     ensures { λ r. ⌜ poured r (now (out .exit)) ≡ pour (allBytes (map (cornerField (now (w .entry)) (now (numbers .entry)) i) (ringAt (view (now (w .entry))) i))) at (now (out .entry)) ⌝ }
 {
     let a = read(w, Col::First, i);
@@ -80,7 +80,7 @@ fn put_corners(w: &[u32], numbers: &[usize], i: usize, out: &mut [u8], at: usize
 
 // The points of every ring, records in their order.
 pub(crate) fn put_points(w: &[u32], numbers: &[usize], out: &mut [u8], at: usize) -> usize
-    requires { ⌜ LENGTH ≤ length (now w) ⌝ }
+    requires { ⌜ BLOCK ≤ length (now w) ⌝ }
     ensures { λ r. ⌜ poured r (now (out .exit)) ≡ pour (allBytes (cornerFields (now (w .entry)) (now (numbers .entry)) (recordsOf (now (w .entry))))) at (now (out .entry)) ⌝ }
 {
     let n = get(w, Col::Records, 0);
@@ -97,7 +97,7 @@ pub(crate) fn put_points(w: &[u32], numbers: &[usize], out: &mut [u8], at: usize
 
 // The number of record i's first point, or none.
 fn start_number(w: &[u32], numbers: &[usize], i: usize) -> usize
-    requires { ⌜ LENGTH ≤ length (now w) ⌝ }
+    requires { ⌜ BLOCK ≤ length (now w) ⌝ }
     ensures { λ r. ⌜ r ≡ startNumber (now (w .entry)) (now (numbers .entry)) i ⌝ }
 {
     let a = read(w, Col::First, i);
@@ -109,7 +109,7 @@ fn start_number(w: &[u32], numbers: &[usize], i: usize) -> usize
 
 // Record i.
 fn put_drawn(w: &[u32], numbers: &[usize], i: usize, out: &mut [u8], at: usize) -> usize
-    requires { ⌜ LENGTH ≤ length (now w) ⌝ }
+    requires { ⌜ BLOCK ≤ length (now w) ⌝ }
     ensures { λ r. ⌜ poured r (now (out .exit)) ≡ pour (bytesOf (drawnField (now (w .entry)) (now (numbers .entry)) i)) at (now (out .entry)) ⌝ }
 {
     let flags = read(w, Col::Flags, i);
@@ -119,7 +119,7 @@ fn put_drawn(w: &[u32], numbers: &[usize], i: usize, out: &mut [u8], at: usize) 
 }
 
 pub(crate) fn put_records(w: &[u32], numbers: &[usize], out: &mut [u8], at: usize) -> usize
-    requires { ⌜ LENGTH ≤ length (now w) ⌝ }
+    requires { ⌜ BLOCK ≤ length (now w) ⌝ }
     ensures { λ r. ⌜ poured r (now (out .exit)) ≡ pour (allBytes (table (drawnField (now (w .entry)) (now (numbers .entry))) 0 (recordsOf (now (w .entry))))) at (now (out .entry)) ⌝ }
 {
     let n = get(w, Col::Records, 0);

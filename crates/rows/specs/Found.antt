@@ -6,7 +6,7 @@ use mathlib.Core.List.{List}
 use lib.ListN.{length}
 use Rattle.job.specs.Limits.{POINTS, RECORDS}
 use Rattle.job.specs.declared.refusal.Refusal.the-variants.{OffTheTable, NoSuch, Muddled, OpenEdge}
-use Rattle.store.specs.Field.{LENGTH}
+use Rattle.store.specs.Field.{BLOCK}
 use Rattle.store.specs.Named.{pointsOf, recordsOf}
 use Rattle.audit.specs.Tests.{anyBelow, offTable, noSuch, noSuchOf, loose}
 use Rattle.audit.specs.declared.Verdict.{Verdict}
@@ -31,7 +31,7 @@ lastRows w ss m js n = cond (muddled w) (Refused Muddled) (cond (openEdge w ss m
 
 -- a job that was read: counts within the limits, and the lists as long as they say
 pub record Filled (w ss : List ℕ) (m : ℕ) (js : List ℕ) (n : ℕ) : Type 0 where
-  pub long : LENGTH ≤ length w
+  pub long : BLOCK ≤ length w
   pub points : pointsOf w ≤ POINTS
   pub records : recordsOf w ≤ RECORDS
   pub segments : m ≤ length ss
@@ -47,7 +47,7 @@ pub record Clear (w ss : List ℕ) (m : ℕ) (js : List ℕ) (n : ℕ) : Type 0 
 
 -- row 7 has passed, and the first n numbers of a list name points
 pub record Named (w l : List ℕ) (n : ℕ) : Type 0 where
-  pub long : LENGTH ≤ length w
+  pub long : BLOCK ≤ length w
   pub clear : muddled w ≡ false
   pub fits : n ≤ length l
   pub named : unnamed w l n ≡ false

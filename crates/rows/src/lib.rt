@@ -19,7 +19,7 @@ ghost use mathlib.Core.Bool.{false};
 ghost use Prim.Native.Nat.{_*_, _≤_};
 ghost use lib.ListN.{length, getD, replicate};
 ghost use Rattle.job.specs.Limits.{RECORDS};
-ghost use Rattle.store.specs.Field.{LENGTH};
+ghost use Rattle.store.specs.Field.{BLOCK};
 ghost use Rattle.store.specs.Words.{view};
 ghost use Rattle.store.specs.Named.{pointsOf, recordsOf};
 ghost use Rattle.store.specs.Sound.{isOpen};
@@ -34,7 +34,7 @@ ghost use Rattle.rows.specs.Tables.{UNKNOWN, Homes};
 
 // Whether a point fails the test.
 fn any_point(w: &[u32], t: PointTest) -> bool
-    requires { ⌜ LENGTH ≤ length (now w) ⌝ }
+    requires { ⌜ BLOCK ≤ length (now w) ⌝ }
     ensures { λ r. ⌜ r ≡ anyBelow (pointsOf (now (w .entry))) (fails t (now (w .entry))) ⌝ }
 {
     let m = get(w, Col::Points, 0);
@@ -57,7 +57,7 @@ fn wide(x: u32) -> usize
 
 // Whether one of the first n numbers of a list names no point.
 fn any_unnamed(w: &[u32], list: &[u32], n: usize) -> bool
-    requires { ⌜ (LENGTH ≤ length (now w)) × (n ≤ length (now list)) ⌝ }
+    requires { ⌜ (BLOCK ≤ length (now w)) × (n ≤ length (now list)) ⌝ }
     ensures { λ r. ⌜ r ≡ unnamed (now (w .entry)) (now (list .entry)) n ⌝ }
 {
     let m = get(w, Col::Points, 0);
@@ -95,7 +95,7 @@ fn no_such_number(w: &[u32], segments: &[u32], m: usize, joins: &[u32], n: usize
 
 // Whether the point is on an open ring: its ring's record is the one it resolves to.
 fn on_open(w: &[u32], homes: &[u32], k: usize) -> bool
-    requires { ⌜ (LENGTH ≤ length (now w)) × Homes (now w) (now homes) ⌝ }
+    requires { ⌜ (BLOCK ≤ length (now w)) × Homes (now w) (now homes) ⌝ }
     ensures { λ r. ⌜ r ≡ isOpen (view (now (w .entry))) (homeOf (now (w .entry)) k) ⌝ }
 {
     let r = read(w, Col::Rec, k);

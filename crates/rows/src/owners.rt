@@ -12,7 +12,7 @@ ghost use mathlib.Core.Path.{_≡_};
 ghost use Prim.Native.Nat.{_≤_};
 ghost use lib.ListN.{length};
 ghost use Rattle.job.specs.Limits.{RECORDS};
-ghost use Rattle.store.specs.Field.{LENGTH};
+ghost use Rattle.store.specs.Field.{BLOCK};
 ghost use Rattle.store.specs.Named.{recordsOf};
 ghost use Rattle.audit.specs.Tests.{anyBelow};
 ghost use Rattle.rows.specs.Owners.{chained, circles};
@@ -20,7 +20,7 @@ ghost use Rattle.rows.specs.Tables.{Long, Lengths, Followed};
 
 // How long the owner chain from record i is, followed up to a record whose length is known; more than there may be records, if it circles.
 fn follow(w: &[u32], lengths: &[u32], i: usize) -> usize
-    requires { ⌜ (LENGTH ≤ length (now w)) × Lengths (now w) (now lengths) ⌝ }
+    requires { ⌜ (BLOCK ≤ length (now w)) × Lengths (now w) (now lengths) ⌝ }
     ensures { λ n. ⌜ Followed (now (w .entry)) i n ⌝ }
 {
     let mut q = i;
@@ -41,7 +41,7 @@ fn follow(w: &[u32], lengths: &[u32], i: usize) -> usize
 
 // Writes down the lengths along the chain from record i, whose own is n, up to a record whose length is known.
 fn note(w: &[u32], lengths: &mut [u32], i: usize, n: usize)
-    requires { ⌜ (LENGTH ≤ length (now w)) × Lengths (now w) (now lengths) × Long (now w) i n × (n ≤ RECORDS) ⌝ }
+    requires { ⌜ (BLOCK ≤ length (now w)) × Lengths (now w) (now lengths) × Long (now w) i n × (n ≤ RECORDS) ⌝ }
     ensures { λ _. ⌜ Lengths (now (w .entry)) (now (lengths .exit)) ⌝ }
 {
     let mut q = i;
@@ -59,7 +59,7 @@ fn note(w: &[u32], lengths: &mut [u32], i: usize, n: usize)
 
 // Whether an owner chain circles.
 pub fn any_circle(w: &[u32]) -> bool
-    requires { ⌜ LENGTH ≤ length (now w) ⌝ }
+    requires { ⌜ BLOCK ≤ length (now w) ⌝ }
     ensures { λ r. ⌜ r ≡ anyBelow (recordsOf (now (w .entry))) (circles (now (w .entry))) ⌝ }
 {
     let n = get(w, Col::Records, 0);
@@ -78,7 +78,7 @@ pub fn any_circle(w: &[u32]) -> bool
 
 // Whether record i has no ring, or an owner that is not before it.
 fn is_chained(w: &[u32], i: usize) -> bool
-    requires { ⌜ LENGTH ≤ length (now w) ⌝ }
+    requires { ⌜ BLOCK ≤ length (now w) ⌝ }
     ensures { λ r. ⌜ r ≡ chained (now (w .entry)) i ⌝ }
 {
     let f = read(w, Col::First, i);
@@ -88,7 +88,7 @@ fn is_chained(w: &[u32], i: usize) -> bool
 
 // Whether there is such a record.
 pub fn any_chained(w: &[u32]) -> bool
-    requires { ⌜ LENGTH ≤ length (now w) ⌝ }
+    requires { ⌜ BLOCK ≤ length (now w) ⌝ }
     ensures { λ r. ⌜ r ≡ anyBelow (recordsOf (now (w .entry))) (chained (now (w .entry))) ⌝ }
 {
     let n = get(w, Col::Records, 0);

@@ -5,14 +5,14 @@ use store::get;
 ghost use mathlib.Core.Path.{_≡_};
 ghost use Prim.Native.Nat.{_≤_};
 ghost use lib.ListN.{length};
-ghost use Rattle.store.specs.Field.{LENGTH};
+ghost use Rattle.store.specs.Field.{BLOCK};
 ghost use Rattle.store.specs.Named.{pointsOf};
 ghost use Rattle.audit.specs.Tests.{anyBelow};
 ghost use Rattle.rows.specs.Found.{faultyPoint};
 
 // Whether point k fails one of the three tests.
 fn is_faulty(w: &[u32], k: usize) -> bool
-    requires { ⌜ LENGTH ≤ length (now w) ⌝ }
+    requires { ⌜ BLOCK ≤ length (now w) ⌝ }
     ensures { λ r. ⌜ r ≡ faultyPoint (now (w .entry)) k ⌝ }
 {
     let a = audit::point_fails(w, PointTest::Table, k);
@@ -23,7 +23,7 @@ fn is_faulty(w: &[u32], k: usize) -> bool
 
 // Whether a point does.
 pub fn any_faulty(w: &[u32]) -> bool
-    requires { ⌜ LENGTH ≤ length (now w) ⌝ }
+    requires { ⌜ BLOCK ≤ length (now w) ⌝ }
     ensures { λ r. ⌜ r ≡ anyBelow (pointsOf (now (w .entry))) (faultyPoint (now (w .entry))) ⌝ }
 {
     let m = get(w, Col::Points, 0);

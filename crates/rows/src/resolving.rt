@@ -12,7 +12,7 @@ ghost use mathlib.Core.Bool.{false};
 ghost use Prim.Native.Nat.{_<_, _≤_, _^_};
 ghost use lib.ListN.{length, replicate};
 ghost use Rattle.job.specs.Limits.{RECORDS};
-ghost use Rattle.store.specs.Field.{LENGTH};
+ghost use Rattle.store.specs.Field.{BLOCK};
 ghost use Rattle.store.specs.Named.{recordsOf};
 ghost use Rattle.audit.specs.Tests.{anyBelow};
 ghost use Rattle.rows.specs.Owners.{circles};
@@ -21,7 +21,7 @@ ghost use Rattle.rows.specs.Tables.{UNKNOWN, Homes, Noted, Found};
 
 // The first with points among r and its owners, or none; followed up to a record that is known.
 fn reach(w: &[u32], homes: &[u32], r: usize) -> usize
-    requires { ⌜ (LENGTH ≤ length (now w)) × Homes (now w) (now homes) × (circles (now w) r ≡ false) × (r < 2 ^ 32) ⌝ }
+    requires { ⌜ (BLOCK ≤ length (now w)) × Homes (now w) (now homes) × (circles (now w) r ≡ false) × (r < 2 ^ 32) ⌝ }
     ensures { λ q. ⌜ (q ≡ getRealOutrec (now (w .entry)) r) × (q < 2 ^ 32) ⌝ }
 {
     let mut q = r;
@@ -46,7 +46,7 @@ fn reach(w: &[u32], homes: &[u32], r: usize) -> usize
 
 // Writes down h, what record r resolves to, along its chain, up to a record that is known or has points.
 fn note(w: &[u32], homes: &mut [u32], r: usize, h: usize)
-    requires { ⌜ (LENGTH ≤ length (now w)) × Homes (now w) (now homes) × (circles (now w) r ≡ false) × (h ≡ getRealOutrec (now w) r) × (h < 2 ^ 32) ⌝ }
+    requires { ⌜ (BLOCK ≤ length (now w)) × Homes (now w) (now homes) × (circles (now w) r ≡ false) × (h ≡ getRealOutrec (now w) r) × (h < 2 ^ 32) ⌝ }
     ensures { λ _. ⌜ Noted (now (w .entry)) (now (homes .entry)) r (now (homes .exit)) ⌝ }
 {
     let mut q = r;
@@ -71,7 +71,7 @@ fn note(w: &[u32], homes: &mut [u32], r: usize, h: usize)
 
 // The table of a job whose owner chains end.
 pub fn find_all(w: &[u32], homes: &mut [u32])
-    requires { ⌜ (LENGTH ≤ length (now w)) × (recordsOf (now w) ≤ RECORDS) × (now homes ≡ replicate RECORDS UNKNOWN) × (anyBelow (recordsOf (now w)) (circles (now w)) ≡ false) ⌝ }
+    requires { ⌜ (BLOCK ≤ length (now w)) × (recordsOf (now w) ≤ RECORDS) × (now homes ≡ replicate RECORDS UNKNOWN) × (anyBelow (recordsOf (now w)) (circles (now w)) ≡ false) ⌝ }
     ensures { λ _. ⌜ Found (now (w .entry)) (now (homes .exit)) (recordsOf (now (w .entry))) ⌝ }
 {
     let n = get(w, Col::Records, 0);
@@ -85,7 +85,7 @@ pub fn find_all(w: &[u32], homes: &mut [u32])
 
 // The first with points among r and its owners, or none.
 fn walk(w: &[u32], r: usize) -> usize
-    requires { ⌜ LENGTH ≤ length (now w) ⌝ }
+    requires { ⌜ BLOCK ≤ length (now w) ⌝ }
     ensures { λ q. ⌜ q ≡ getRealOutrec (now (w .entry)) r ⌝ }
 {
     let mut q = r;
@@ -106,7 +106,7 @@ fn walk(w: &[u32], r: usize) -> usize
 
 // The same by the table; only a number that names no record is not in it.
 pub fn find(w: &[u32], homes: &[u32], r: usize) -> usize
-    requires { ⌜ (LENGTH ≤ length (now w)) × Homes (now w) (now homes) ⌝ }
+    requires { ⌜ (BLOCK ≤ length (now w)) × Homes (now w) (now homes) ⌝ }
     ensures { λ q. ⌜ q ≡ getRealOutrec (now (w .entry)) r ⌝ }
 {
     let h = at(homes, r);

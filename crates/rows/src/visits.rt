@@ -14,7 +14,7 @@ ghost use Prim.Native.Nat.{_≤_};
 ghost use lib.Dec.{eqb};
 ghost use lib.ListN.{length};
 ghost use Rattle.marks.specs.Marks.{marked, allBelow};
-ghost use Rattle.store.specs.Field.{LENGTH, NONE};
+ghost use Rattle.store.specs.Field.{BLOCK, NONE};
 ghost use Rattle.store.specs.Named.{pointsOf, recordsOf, firstOf};
 ghost use Rattle.audit.specs.Tests.{anyBelow};
 ghost use Rattle.audit.specs.Marks.{Counted};
@@ -24,7 +24,7 @@ ghost use Rattle.rows.specs.Tables.{Homes};
 
 // Whether r is record i, and has a ring: then it resolves to itself.
 fn is_own(w: &[u32], i: usize, r: usize) -> bool
-    requires { ⌜ LENGTH ≤ length (now w) ⌝ }
+    requires { ⌜ BLOCK ≤ length (now w) ⌝ }
     ensures { λ b. ⌜ b ≡ (eqb r i && not (eqb (firstOf (now (w .entry)) i) NONE)) ⌝ }
 {
     let f = read(w, Col::First, i);
@@ -33,7 +33,7 @@ fn is_own(w: &[u32], i: usize, r: usize) -> bool
 
 // Whether point k resolves to another record than i.
 fn elsewhere(w: &[u32], homes: &[u32], i: usize, k: usize) -> bool
-    requires { ⌜ (LENGTH ≤ length (now w)) × Homes (now w) (now homes) ⌝ }
+    requires { ⌜ (BLOCK ≤ length (now w)) × Homes (now w) (now homes) ⌝ }
     ensures { λ r. ⌜ r ≡ elsewhere (now (w .entry)) i k ⌝ }
 {
     let r = read(w, Col::Rec, k);
@@ -55,7 +55,7 @@ pub struct Place {
 
 // The beginning of record i's ring; nothing is to go if it has none.
 fn place_of(w: &[u32], i: usize) -> Place
-    requires { ⌜ LENGTH ≤ length (now w) ⌝ }
+    requires { ⌜ BLOCK ≤ length (now w) ⌝ }
     ensures { λ r. ⌜ Begins (now (w .entry)) i r ⌝ }
 {
     let a = read(w, Col::First, i);
@@ -87,7 +87,7 @@ struct Stretch {
 
 // The stretch of a ring in the word, from the place c on.
 fn walk_word(w: &[u32], homes: &[u32], c: Place, word: usize) -> Stretch
-    requires { ⌜ (LENGTH ≤ length (now w)) × Homes (now w) (now homes) ⌝ }
+    requires { ⌜ (BLOCK ≤ length (now w)) × Homes (now w) (now homes) ⌝ }
     ensures { λ r. ⌜ Stretched (now (w .entry)) (c .ring) (c .first) (c .point) (c .left) word (r .found) (r .back) (r .bits) (r .point) (r .left) ⌝ }
 {
     let mut bits: u64 = 0;
@@ -145,7 +145,7 @@ pub struct Gathered {
 
 // The bits of the points that lie in the word of the next one, ring after ring: up to a point in another word, one that resolves elsewhere, or the last of the n rings' end.
 fn gather(w: &[u32], homes: &[u32], n: usize, from: Place) -> Gathered
-    requires { ⌜ (LENGTH ≤ length (now w)) × Homes (now w) (now homes) × (n ≡ recordsOf (now w)) ⌝ }
+    requires { ⌜ (BLOCK ≤ length (now w)) × Homes (now w) (now homes) × (n ≡ recordsOf (now w)) ⌝ }
     ensures { λ r. ⌜ Gathers (now (w .entry)) from r ⌝ }
 {
     let word = from.point / BITS;
@@ -188,7 +188,7 @@ fn gather(w: &[u32], homes: &[u32], n: usize, from: Place) -> Gathered
 
 // Whether a point has no mark.
 pub fn any_bare(w: &[u32], marks: Marks) -> bool
-    requires { ⌜ LENGTH ≤ length (now w) ⌝ }
+    requires { ⌜ BLOCK ≤ length (now w) ⌝ }
     ensures { λ r. ⌜ r ≡ not (allBelow (pointsOf (now (w .entry))) (marked (marks .words))) ⌝ }
 {
     let m = get(w, Col::Points, 0);

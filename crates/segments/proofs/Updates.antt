@@ -9,7 +9,7 @@ use lib.Dec.{eqb, ltb}
 use lib.ListN.{getD, set, length, length-set, replicate, length-replicate}
 use borrow.Author.Tests.{eq-eqb, ne-eqb, eqb-false, lt-ltb, le-ltb, ltb-true, ltb-false}
 use Rattle.job.specs.Limits as limit
-use Rattle.store.specs.Field.{NONE, LENGTH}
+use Rattle.store.specs.Field.{NONE, BLOCK}
 use Rattle.store.specs.Words.{view}
 use Rattle.store.specs.Named.{pointsOf}
 use Rattle.joins.specs.Resolve.{homeOf}
@@ -36,7 +36,7 @@ module _ (w : List ℕ) (p i : ℕ) (h : Home w p i) where
   pub home-point : p < limit.POINTS
   home-point = omega (arith, h .here .bound, h .ready .resolved .few-points)
 
-  pub home-long : LENGTH ≤ length w
+  pub home-long : BLOCK ≤ length w
   home-long = h .ready .long
 
   pub home-self : Together w p p

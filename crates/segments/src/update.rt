@@ -12,7 +12,7 @@ use store::get;
 ghost use mathlib.Core.Path.{_≡_};
 ghost use Prim.Native.Nat.{_+_, _<_, _≤_};
 ghost use lib.ListN.{length};
-ghost use Rattle.store.specs.Field.{LENGTH};
+ghost use Rattle.store.specs.Field.{BLOCK};
 ghost use Rattle.job.specs.Limits as limit;
 ghost use Rattle.joins.specs.Needs.{Point};
 ghost use Rattle.segments.specs.Needs.{Home};
@@ -21,7 +21,7 @@ ghost use Rattle.segments.specs.Needs.{Listed};
 
 // Bit 1 of a record's flags.
 fn has_front(w: &[u32], i: usize) -> bool
-    requires { ⌜ (LENGTH ≤ length (now w)) × (i < limit.RECORDS) ⌝ }
+    requires { ⌜ (BLOCK ≤ length (now w)) × (i < limit.RECORDS) ⌝ }
     ensures { λ r. ⌜ r ≡ hasFront (now (w .entry)) i ⌝ }
 {
     let f = get(w, Col::Flags, i);
@@ -43,7 +43,7 @@ fn ends(w: &[u32], op: usize, i: usize) -> Ends
 
 // Which end is left; a run of one x is no segment.
 fn set_horz_seg_heading_forward(w: &[u32], op: usize, p: usize, n: usize) -> HorzSegment
-    requires { ⌜ (LENGTH ≤ length (now w)) × (p < limit.POINTS) × (n < limit.POINTS) ⌝ }
+    requires { ⌜ (BLOCK ≤ length (now w)) × (p < limit.POINTS) × (n < limit.POINTS) ⌝ }
     ensures { λ r. ⌜ r ≡ headed (now (w .entry)) op p n ⌝ }
 {
     let a = get(w, Col::X, p);

@@ -7,18 +7,17 @@ use native.Mathlib.Omega.{arith}
 use lib.ListN.{length}
 use Rattle.job.specs.declared.refusal.Refusal.{Refusal}
 use Rattle.job.specs.declared.refusal.Refusal.the-variants.{OutOfTurn}
-use Rattle.store.specs.Field.{LENGTH}
 use Rattle.store.specs.Words.{view}
 use Rattle.audit.specs.declared.Verdict.{Verdict}
 use Rattle.audit.specs.declared.Verdict.the-variants as verdict
-use Rattle.audit.specs.Tests.{testsOf}
-use Rattle.audit.proofs.Agreeing.{passed-sound}
+use Rattle.audit.specs.Handed.{handedOf}
+use Rattle.audit.proofs.Handing.{handed-sound}
 use Rattle.paths.specs.declared.Written.{Written}
 use Rattle.paths.specs.declared.Written.the-variants.{Paths, Refused}
 use Rattle.paths.specs.Wrote.{Wrote, wrote, buildPaths64}
 use Rattle.steps.specs.Live.{anyLive}
 use Rattle.finishing.specs.Write.{writeBy, writeOf}
-use Rattle.finishing.proofs.Entering.{long-write}
+use Rattle.finishing.proofs.Entering.{handed-write}
 use Rattle.listing.specs.Needs.{Listable}
 use Rattle.listing.proofs.Answers.{answer-listable}
 
@@ -29,13 +28,13 @@ never c o x t u e =
     absurd (omega arith)
 
 -- what writing out leaves can be listed
-pub listable : (w t u : List ℕ) (r : Written) (c o : ℕ) → LENGTH ≤ length w → r ≡ Paths c o → wrote r u ≡ writeOf w t → Listable c o u
-listable w t u r c o l e f = go (testsOf w) refl (ap (λ (x : Written). wrote x u) (sym e) ∙ f ∙ long-write w t l)
+pub listable : (w t u : List ℕ) (r : Written) (c o : ℕ) → r ≡ Paths c o → wrote r u ≡ writeOf w t → Listable c o u
+listable w t u r c o e f = go (handedOf w) refl (ap (λ (x : Written). wrote x u) (sym e) ∙ f ∙ handed-write w t (handedOf w) refl)
   where
-    go : (v : Verdict) → testsOf w ≡ v → wrote (Paths c o) u ≡ writeBy v w t → Listable c o u
+    go : (v : Verdict) → handedOf w ≡ v → wrote (Paths c o) u ≡ writeBy v w t → Listable c o u
     go (verdict.Refused x) g h = never c o x t u h
     go verdict.Passed g h = by (anyLive (view w)) h
       where
         by : (b : Bool) → wrote (Paths c o) u ≡ cond b (wrote (Refused OutOfTurn) t) (buildPaths64 (view w) t) → Listable c o u
         by true k = never c o OutOfTurn t u k
-        by false k = answer-listable (view w) c o t u (passed-sound w g) k
+        by false k = answer-listable (view w) c o t u (handed-sound w g .sound) k

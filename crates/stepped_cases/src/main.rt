@@ -11,9 +11,9 @@ use crate::print::print_store;
 use crate::progress::due_of;
 use crate::progress::is_done;
 use crate::progress::set_all;
+use audit::Reply;
 use audit::Verdict;
-use audit::tests_of;
-use finishing::Stepped;
+use audit::handed;
 use finishing::step;
 use finishing::write_out;
 use job::Job;
@@ -37,7 +37,7 @@ use turns::Act;
 use turns::decide::decide;
 ghost use Prim.Native.Nat.{_≤_};
 ghost use lib.ListN.{length};
-ghost use Rattle.store.specs.Field.{LENGTH};
+ghost use Rattle.store.specs.Field.{BLOCK};
 ghost use Rattle.store.specs.Good.{SoundWords};
 
 // ---- a step
@@ -53,10 +53,8 @@ fn act_on(w: &[u32], i: usize) -> Act
     Act::Stay
 }
 
-fn act_of(w: &[u32], i: usize) -> Act
-    requires { ⌜ LENGTH ≤ length (now w) ⌝ }
-{
-    let v = tests_of(w);
+fn act_of(w: &[u32], i: usize) -> Act {
+    let v = handed(w);
     match v {
         Verdict::Passed => {
             return act_on(w, i);
@@ -77,7 +75,7 @@ fn tell_step(w: &mut [u32; LENGTH], i: usize) -> bool {
     let s = step(w, i as u32);
     print(i);
     match s {
-        Stepped::Done => {
+        Reply::Done => {
             let e = due_of(w, i);
             print_due(d);
             print_act(a);
@@ -86,7 +84,7 @@ fn tell_step(w: &mut [u32; LENGTH], i: usize) -> bool {
             io::write_all(STDOUT_FILENO, b"\n");
             return true;
         }
-        Stepped::Refused(r) => {
+        Reply::Refused(r) => {
             io::write_all(STDOUT_FILENO, b" ");
             print_refusal(r);
             return false;
@@ -143,7 +141,7 @@ fn listed(w: &mut [u32; LENGTH], steps: &[u8]) {
 
 // The listing of what writing out gives, in a lent slice; nothing after a refusal, which is printed.
 fn list(work: &[u32], tray: &mut [u8], out: &mut [u8]) -> usize
-    requires { ⌜ LENGTH ≤ length (now work) ⌝ }
+    requires { ⌜ BLOCK ≤ length (now work) ⌝ }
 {
     let r = write_out(work, tray);
     match r {

@@ -12,7 +12,7 @@ use turns::Act;
 use turns::Due;
 ghost use Prim.Native.Nat.{_≤_};
 ghost use lib.ListN.{length};
-ghost use Rattle.store.specs.Field.{LENGTH};
+ghost use Rattle.store.specs.Field.{BLOCK};
 
 fn say(text: &[u8]) {
     io::write_all(STDOUT_FILENO, text);
@@ -99,7 +99,7 @@ pub(crate) fn print_act(a: Act) {
 
 // The ring from a record's first point on, by value.
 fn print_ring(w: &[u32], a: usize)
-    requires { ⌜ LENGTH ≤ length (now w) ⌝ }
+    requires { ⌜ BLOCK ≤ length (now w) ⌝ }
 {
     let mut text = [0u8; TEXT];
     let n = put_ring(w, false, a, &mut text, 0);
@@ -107,7 +107,7 @@ fn print_ring(w: &[u32], a: usize)
 }
 
 fn print_record(w: &[u32], i: usize)
-    requires { ⌜ LENGTH ≤ length (now w) ⌝ }
+    requires { ⌜ BLOCK ≤ length (now w) ⌝ }
 {
     say(b"record ");
     print(i);
@@ -119,7 +119,7 @@ fn print_record(w: &[u32], i: usize)
 }
 
 fn print_records(w: &[u32], n: usize)
-    requires { ⌜ LENGTH ≤ length (now w) ⌝ }
+    requires { ⌜ BLOCK ≤ length (now w) ⌝ }
 {
     let mut i: usize = 0;
     while i < n {
@@ -130,7 +130,7 @@ fn print_records(w: &[u32], n: usize)
 
 // Both counts and each record's ring.
 pub(crate) fn print_store(w: &[u32])
-    requires { ⌜ LENGTH ≤ length (now w) ⌝ }
+    requires { ⌜ BLOCK ≤ length (now w) ⌝ }
 {
     say(b"points ");
     let p = read(w, Col::Points, 0);

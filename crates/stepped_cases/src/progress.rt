@@ -11,11 +11,11 @@ use turns::Due;
 use turns::ring::due_at;
 ghost use Prim.Native.Nat.{_≤_, _<_, _^_};
 ghost use lib.ListN.{length};
-ghost use Rattle.store.specs.Field.{LENGTH};
+ghost use Rattle.store.specs.Field.{BLOCK};
 
 // The step due; done for an open ring and for none.
 pub(crate) fn due_of(w: &[u32], i: usize) -> Due
-    requires { ⌜ LENGTH ≤ length (now w) ⌝ }
+    requires { ⌜ BLOCK ≤ length (now w) ⌝ }
 {
     if Job::RECORDS <= i {
         return Due::Done;
@@ -43,7 +43,7 @@ pub(crate) fn is_done(d: Due) -> bool {
 
 // The point k places along next from the first of record i; none for a k that is none.
 fn place(w: &[u32], i: usize, k: usize) -> usize
-    requires { ⌜ LENGTH ≤ length (now w) ⌝ }
+    requires { ⌜ BLOCK ≤ length (now w) ⌝ }
     ensures { λ r. ⌜ r < 2 ^ 32 ⌝ }
 {
     if k == NONE {

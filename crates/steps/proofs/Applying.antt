@@ -15,7 +15,7 @@ use Rattle.geometry.specs.declared.Point.{Point}
 use Rattle.lone.specs.Act.{double, cut, takesPoints}
 use Rattle.job.specs.Limits as limit
 use Rattle.store.specs.Reason.{reasonNumber}
-use Rattle.store.specs.Field.{PointCol, pt, rc, ct, NEXT, PREV, REC, OWNER, FIRST, MARK, PRESENT, START, REASON, POINTS, RECORDS, LENGTH, NONE}
+use Rattle.store.specs.Field.{PointCol, pt, rc, ct, NEXT, PREV, REC, OWNER, FIRST, MARK, PRESENT, START, REASON, POINTS, RECORDS, BLOCK, NONE}
 use Rattle.store.specs.Named.{nextOf, prevOf}
 use Rattle.store.specs.Sound.{pts, recs, markOf}
 use Rattle.store.specs.Words.{Store, view, cell, put, onWords}
@@ -148,7 +148,7 @@ pub made-offcut : (w w₁ w₂ w₃ : List ℕ) (i x y vx vy r b o : ℕ) → r 
 made-offcut w w₁ w₂ w₃ i x y vx vy r b o er eb eo e₁ e₂ e₃ = rw (e₃, e₂, e₁, er, eb, eo)
 
 -- ---- places for new points and records
-pub free-point : (w : List ℕ) (k : ℕ) (v : Point) → LENGTH ≤ length w → PointFits w v → k ≡ cell (ct POINTS) w 0 → NewPoint w k v
+pub free-point : (w : List ℕ) (k : ℕ) (v : Point) → BLOCK ≤ length w → PointFits w v → k ≡ cell (ct POINTS) w 0 → NewPoint w k v
 free-point w k v l h e = record { long = l; low = rw e (h .free); in-table = h .in-table }
 
 pub free-low : (w : List ℕ) (k : ℕ) (v : Point) → PointFits w v → k ≡ cell (ct POINTS) w 0 → k < limit.POINTS

@@ -17,7 +17,7 @@ use Rattle.geometry.specs.declared.Edges.{Edges}
 use Rattle.geometry.specs.Plane.{isCollinear, removable, segmentsIntersect}
 use Rattle.lone.specs.Act.{Act, dropPoint, discard, moveOn}
 use Rattle.lone.specs.Forest.{ok}
-use Rattle.store.specs.Field.{Field, pt, rc, NEXT, PREV, FIRST, MARK, PRESENT, START, LENGTH, size, base}
+use Rattle.store.specs.Field.{Field, pt, rc, NEXT, PREV, FIRST, MARK, PRESENT, START, BLOCK, size, base}
 use Rattle.store.specs.Words.{Store, put, cell, view}
 use Rattle.store.specs.Stores.{upd}
 use Rattle.store.specs.Sound.{recs, Closed, markOf, dueOf, dueAt}
@@ -79,7 +79,7 @@ module _ (w : List ℕ) (i : ℕ) (B : Steps w i) where
   look : (x : ℕ) → view (put (rc PRESENT) w i x) ≡ upd (view w) (rc PRESENT) i x
   look x = view-put w (B .long) (rc PRESENT) i x record-in
 
-  long-at : (x : ℕ) → LENGTH ≤ length (put (rc PRESENT) w i x)
+  long-at : (x : ℕ) → BLOCK ≤ length (put (rc PRESENT) w i x)
   long-at x = rw (length-put (rc PRESENT) w i x) (B .long)
 
   marked : (x m : ℕ) → view (put (rc MARK) (put (rc PRESENT) w i x) i m) ≡ upd (upd (view w) (rc PRESENT) i x) (rc MARK) i m

@@ -14,7 +14,7 @@ use Rattle.lone.specs.Lone.{Geo}
 use Rattle.lone.specs.Plane.{plane}
 use Rattle.lone.specs.Forest.{Answer, ok, full, outOfTurn, isOk}
 use Rattle.lone.specs.Rounds.{enough}
-use Rattle.store.specs.Field.{ct, SETTINGS, LENGTH}
+use Rattle.store.specs.Field.{ct, SETTINGS, BLOCK}
 use Rattle.store.specs.Words.{view}
 use Rattle.store.specs.Sound.{recs, isOpen, loneAt}
 use Rattle.store.specs.Good.{SoundWords}
@@ -194,7 +194,7 @@ module _ (w₀ : List ℕ) (i : ℕ) (w : List ℕ) (R : Remaining w₀ i w) whe
           go full h = refl
           go outOfTurn h = let y : _≡_ {A = ℕ} 0 1 = cc in absurd (omega arith)
 
-  pub long-all : LENGTH ≤ length w
+  pub long-all : BLOCK ≤ length w
   long-all = R .finishes .rep .long
 
   -- past the records nothing is left to do

@@ -8,14 +8,14 @@ use Rattle.job.specs.Limits as limit
 use Rattle.geometry.specs.declared.Point.{Point}
 use Rattle.geometry.specs.Table.{InTable}
 use Rattle.lone.specs.Act.{Act, stay, discard, dropPoint, moveOn, toFirst, double, cut, takesPoints}
-use Rattle.store.specs.Field.{pt, rc, ct, NEXT, PREV, PRESENT, POINTS, RECORDS, LENGTH}
+use Rattle.store.specs.Field.{pt, rc, ct, NEXT, PREV, PRESENT, POINTS, RECORDS, BLOCK}
 use Rattle.store.specs.Words.{view}
 use Rattle.store.specs.Sound.{pts, recs}
 use Rattle.acts.specs.Apply.{takesRecord}
 
 -- the record, its present place and the points about it are in their columns
 pub record Reach (w : List ℕ) (i : ℕ) : Type 0 where
-  pub long : LENGTH ≤ length w
+  pub long : BLOCK ≤ length w
   pub record-in : i < limit.RECORDS
   pub present-in : view w (rc PRESENT) i < limit.POINTS
   pub next-in : view w (pt NEXT) (view w (rc PRESENT) i) < limit.POINTS
@@ -29,7 +29,7 @@ pub record PointFits (w : List ℕ) (v : Point) : Type 0 where
 
 -- a new point k of value v
 pub record NewPoint (w : List ℕ) (k : ℕ) (v : Point) : Type 0 where
-  pub long : LENGTH ≤ length w
+  pub long : BLOCK ≤ length w
   pub low : k < limit.POINTS
   pub in-table : InTable v
 
@@ -40,7 +40,7 @@ pub record CutFits (w : List ℕ) (i : ℕ) (v : Point) (put : Bool) : Type 0 wh
 
 -- a place for a new record and its point, of value v; x and y go with it
 pub record OffcutFits (w : List ℕ) (i x y : ℕ) (v : Point) : Type 0 where
-  pub long : LENGTH ≤ length w
+  pub long : BLOCK ≤ length w
   pub record-in : i < limit.RECORDS
   pub x-in : x < limit.POINTS
   pub y-in : y < limit.POINTS

@@ -21,7 +21,7 @@ ghost use Prim.Native.Nat.{_+_, _<_, _≤_, _^_};
 ghost use lib.Dec.{eqb};
 ghost use lib.ListN.{length};
 ghost use Rattle.job.specs.Limits as limit;
-ghost use Rattle.store.specs.Field.{rc, FIRST, PRESENT, START, LENGTH};
+ghost use Rattle.store.specs.Field.{rc, FIRST, PRESENT, START, BLOCK};
 ghost use Rattle.store.specs.Sound.{markOf};
 ghost use Rattle.store.specs.Words.{cell, put, view, onWords};
 ghost use Rattle.acts.specs.Writes.{moveWrites, toFirstWrites, discardWrites, dropWrites, putWrites, doubleWrites, placeWrites, cutWrites, cutPutWrites, recordWrites, offcutWrites};
@@ -60,7 +60,7 @@ fn move_on(w: &mut [u32], i: usize, d: Due)
 
 // Present place and loop's start are n.
 fn set_loop(w: &mut [u32], i: usize, n: usize)
-    requires { ⌜ (LENGTH ≤ length (now w)) × (i < limit.RECORDS) × (n < 2 ^ 32) ⌝ }
+    requires { ⌜ (BLOCK ≤ length (now w)) × (i < limit.RECORDS) × (n < 2 ^ 32) ⌝ }
     ensures { λ _. ⌜ now (w .exit) ≡ put (rc START) (put (rc PRESENT) (now (w .entry)) i n) i n ⌝ }
 {
     set(w, Col::Present, i, n);
@@ -102,7 +102,7 @@ pub fn discard_ring(w: &mut [u32], i: usize, y: Discard)
 
 // A first point that is x is p from now on.
 fn fix_first(w: &mut [u32], i: usize, x: usize, p: usize)
-    requires { ⌜ (LENGTH ≤ length (now w)) × (i < limit.RECORDS) × (p < 2 ^ 32) ⌝ }
+    requires { ⌜ (BLOCK ≤ length (now w)) × (i < limit.RECORDS) × (p < 2 ^ 32) ⌝ }
     ensures { λ _. ⌜ now (w .exit) ≡ put (rc FIRST) (now (w .entry)) i (cond (eqb (cell (rc FIRST) (now (w .entry)) i) x) p (cell (rc FIRST) (now (w .entry)) i)) ⌝ }
 {
     let f = get(w, Col::First, i);
@@ -150,7 +150,7 @@ fn double_point(w: &mut [u32], i: usize, v: Point, d: Due)
 
 // First point and present place are p.
 fn set_place(w: &mut [u32], i: usize, p: usize, d: Due)
-    requires { ⌜ (LENGTH ≤ length (now w)) × (i < limit.RECORDS) × (p < 2 ^ 32) ⌝ }
+    requires { ⌜ (BLOCK ≤ length (now w)) × (i < limit.RECORDS) × (p < 2 ^ 32) ⌝ }
     ensures { λ _. ⌜ now (w .exit) ≡ onWords (now (w .entry)) (placeWrites i p (dueIs d)) ⌝ }
 {
     let m = mark_of(d);
@@ -189,7 +189,7 @@ fn cut_put(w: &mut [u32], i: usize, v: Point, d: Due)
 
 // A record is taken for x and y: `new_out_rec`, but for what `start_record` sets.
 fn take_record(w: &mut [u32], r: usize, x: usize, y: usize)
-    requires { ⌜ (LENGTH ≤ length (now w)) × (r < limit.RECORDS) × (x < limit.POINTS) × (y < limit.POINTS) ⌝ }
+    requires { ⌜ (BLOCK ≤ length (now w)) × (r < limit.RECORDS) × (x < limit.POINTS) × (y < limit.POINTS) ⌝ }
     ensures { λ _. ⌜ now (w .exit) ≡ onWords (now (w .entry)) (recordWrites r x y) ⌝ }
 {
     set(w, Col::Records, 0, r + 1);

@@ -19,7 +19,7 @@ ghost use lib.ListN.{length};
 ghost use Rattle.job.specs.Limits as limit;
 ghost use Rattle.rings.specs.Progress.{removal, triangle, split, done};
 ghost use Rattle.geometry.specs.Plane.{segmentsIntersect};
-ghost use Rattle.store.specs.Field.{pt, NEXT, LENGTH};
+ghost use Rattle.store.specs.Field.{pt, NEXT, BLOCK};
 ghost use Rattle.store.specs.Words.{cell, view};
 ghost use Rattle.store.specs.Value.{pointOf};
 ghost use Rattle.store.specs.Good.{SoundWords};
@@ -116,7 +116,7 @@ fn split_walk(w: &[u32], i: usize) -> WalkEnd
 
 // A walk's end is written; m is the mark past the loop's end.
 fn put_end(w: &mut [u32], i: usize, r: WalkEnd, m: usize)
-    requires { ⌜ (LENGTH ≤ length (now w)) × (i < limit.RECORDS) × (placeOf r < limit.POINTS) × (m < 2 ^ 32) ⌝ }
+    requires { ⌜ (BLOCK ≤ length (now w)) × (i < limit.RECORDS) × (placeOf r < limit.POINTS) × (m < 2 ^ 32) ⌝ }
     ensures { λ _. ⌜ now (w .exit) ≡ leaves m (now (w .entry)) i r ⌝ }
 {
     match r {

@@ -11,7 +11,7 @@ ghost use mathlib.Core.Path.{_≡_};
 ghost use Prim.Native.Nat.{_+_, _<_, _≤_};
 ghost use lib.ListN.{length};
 ghost use Rattle.lone.specs.Act.{takesPoints};
-ghost use Rattle.store.specs.Field.{LENGTH};
+ghost use Rattle.store.specs.Field.{BLOCK};
 ghost use Rattle.store.specs.Words.{view};
 ghost use Rattle.acts.specs.Apply.{takesRecord};
 ghost use Rattle.acts.specs.Step.{outcome, fits, live};
@@ -71,7 +71,7 @@ fn takes_record(act: Act) -> usize
 
 // The test of places left.
 fn has_room(w: &[u32], act: Act) -> bool
-    requires { ⌜ LENGTH ≤ length (now w) ⌝ }
+    requires { ⌜ BLOCK ≤ length (now w) ⌝ }
     ensures { λ r. ⌜ r ≡ fits (view (now (w .entry))) (actIs act) ⌝ }
 {
     let p = get(w, Col::Points, 0);

@@ -9,7 +9,7 @@ use lib.Dec.{ltb, eqb}
 use lib.ListN.{length, getD, set, length-set}
 use lib.Seq.{getD-set-same, getD-set-other}
 use borrow.Author.Tests.{ltb-true, lt-ltb, le-ltb, eqb-true, eqb-false, eq-eqb, ne-eqb}
-use Rattle.store.specs.Field.{Field, PointCol, RecordCol, Count, pt, rc, ct, X, Y, NEXT, PREV, REC, FLAGS, OWNER, FIRST, MARK, PRESENT, START, CUT, REASON, TAKER, SETTINGS, POINTS, RECORDS, pointRank, recordRank, countRank, size, base, same, LENGTH}
+use Rattle.store.specs.Field.{Field, PointCol, RecordCol, Count, pt, rc, ct, X, Y, NEXT, PREV, REC, FLAGS, OWNER, FIRST, MARK, PRESENT, START, CUT, REASON, TAKER, SETTINGS, POINTS, RECORDS, pointRank, recordRank, countRank, size, base, same, BLOCK}
 use Rattle.store.specs.declared.Col.{Col}
 use Rattle.store.specs.Column.{columnOf}
 use Rattle.store.specs.Words.{Store, cell, put, view, Write, write, onWords}
@@ -39,7 +39,7 @@ count-ranks POINTS = omega arith
 count-ranks RECORDS = omega arith
 
 -- every column ends within the fixed length
-pub ends : (f : Field) (i : ℕ) → i < size f → base f + i < LENGTH
+pub ends : (f : Field) (i : ℕ) → i < size f → base f + i < BLOCK
 ends (pt f) i h = omega (arith, point-ranks f)
 ends (rc f) i h = omega (arith, record-ranks f)
 ends (ct f) i h = omega (arith, count-ranks f)
@@ -72,7 +72,7 @@ alike (ct f) (pt g) e = let z : _≡_ {A = ℕ} 0 1 = cc in absurd (omega arith)
 alike (ct f) (rc g) e = let z : _≡_ {A = ℕ} 0 1 = cc in absurd (omega arith)
 alike (ct f) (ct g) e = let d : countRank f ≡ countRank g = eqb-true _ _ e in record { bases = cc; sizes = refl }
 
-module _ (w : List ℕ) (long : LENGTH ≤ length w) (f : Field) (i v : ℕ) (h : i < size f) where
+module _ (w : List ℕ) (long : BLOCK ≤ length w) (f : Field) (i v : ℕ) (h : i < size f) where
   cell-same : (g : Field) (j : ℕ) → Alike f g → cell g (put f w i v) j ≡ cond (eqb j i) v (cell g w j)
   unfolding cell put
   cell-same g j a = go (eqb j i) refl
@@ -114,7 +114,7 @@ pub length-writes : (w : List ℕ) (xs : List Write) → length (onWords w xs) �
 length-writes w [] = refl
 length-writes w (x ∷ xs) = length-writes (put (x .to) w (x .at) (x .is)) xs ∙ length-put (x .to) w (x .at) (x .is)
 
-pub view-writes : (w : List ℕ) (xs : List Write) → LENGTH ≤ length w → Within xs → view (onWords w xs) ≡ onStore (view w) xs
+pub view-writes : (w : List ℕ) (xs : List Write) → BLOCK ≤ length w → Within xs → view (onWords w xs) ≡ onStore (view w) xs
 view-writes w [] long h = refl
 view-writes w (x ∷ xs) long h =
     view-writes (put (x .to) w (x .at) (x .is)) xs (omega (arith, length-put (x .to) w (x .at) (x .is))) (h .1)
@@ -163,7 +163,7 @@ cell-at f w i h = rw (lt-ltb i (size f) h)
 pub by-name : (f : Field → ℕ) (c v : Col) → c ≡ v → f (columnOf v) ≡ f (columnOf c)
 by-name f c v e = ap (λ (k : Col). f (columnOf k)) (sym e)
 
-pub place-of : (f : Field) (i b r : ℕ) → i < size f → b ≡ base f → r ≡ b + i → (r ≡ base f + i) × (r < LENGTH)
+pub place-of : (f : Field) (i b r : ℕ) → i < size f → b ≡ base f → r ≡ b + i → (r ≡ base f + i) × (r < BLOCK)
 place-of f i b r h e q = (omega arith, omega (arith, ends f i h))
 
 pub got : (f : Field) (w : List ℕ) (i k r : ℕ) → i < size f → k ≡ base f + i → r ≡ getD w k 0 → r ≡ cell f w i

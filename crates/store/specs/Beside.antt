@@ -3,7 +3,7 @@ use Prim.Native.Nat.{ℕ, _≤_, _<_}
 use mathlib.Core.List.{List}
 use lib.ListN.{length}
 use Rattle.job.specs.Limits as limit
-use Rattle.store.specs.Field.{POINTS, LENGTH, NONE}
+use Rattle.store.specs.Field.{POINTS, BLOCK, NONE}
 use Rattle.store.specs.Words.{onWords}
 use Rattle.store.specs.Named.{nextOf, prevOf, setFirst}
 use Rattle.store.specs.Primitive.{unlinkWrites}
@@ -21,7 +21,7 @@ disposeOutPts w i = setFirst w i NONE
 
 -- op and its neighbours are places of points
 pub record Beside (w : List ℕ) (op : ℕ) : Type 0 where
-  pub long : LENGTH ≤ length w
+  pub long : BLOCK ≤ length w
   pub here : op < limit.POINTS
   pub next : nextOf w op < limit.POINTS
   pub prev : prevOf w op < limit.POINTS

@@ -75,6 +75,21 @@ same (ct f) (pt g) = false
 same (ct f) (rc g) = false
 same (ct f) (ct g) = eqb (countRank f) (countRank g)
 
--- the fixed length of a work space: all columns
+-- the live block: all columns. A work space begins with it
+abbrev pub BLOCK : ℕ
+BLOCK = HEAD + limit.POINTS * 5 + limit.RECORDS * 9
+
+-- how many states may be kept
+abbrev pub STATES : ℕ
+STATES = 4
+
+-- after the live block a word for each place says its name, and then a copy of the block stands for each
+abbrev pub NAMES : ℕ
+NAMES = BLOCK
+
+abbrev pub KEPT : ℕ
+KEPT = NAMES + STATES
+
+-- the fixed length of a work space
 abbrev pub LENGTH : ℕ
-LENGTH = HEAD + limit.POINTS * 5 + limit.RECORDS * 9
+LENGTH = KEPT + STATES * BLOCK

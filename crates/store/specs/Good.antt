@@ -9,7 +9,7 @@ use Rattle.job.specs.Limits as limit
 use Rattle.rings.specs.Count.{sumTo, occ}
 use Rattle.rings.specs.Links.{Linked}
 use Rattle.rings.specs.Progress.{isDone}
-use Rattle.store.specs.Field.{pt, rc, X, Y, NEXT, PREV, REC, OWNER, MARK, PRESENT, POINTS, RECORDS, NONE, LENGTH, REASON, TAKER}
+use Rattle.store.specs.Field.{pt, rc, X, Y, NEXT, PREV, REC, OWNER, MARK, PRESENT, POINTS, RECORDS, NONE, BLOCK, REASON, TAKER}
 use Rattle.store.specs.Words.{Store, view}
 use Rattle.store.specs.Sound.{Closed, dueAt, pts, recs, ringAt, ringless}
 use Rattle.store.specs.Reason.{JOINED, isKept}
@@ -47,5 +47,5 @@ pub record Sound (s : Store) : Type 0 where
 
 -- a work space that is long enough and sound
 pub record SoundWords (w : List ℕ) : Type 0 where
-  pub long : LENGTH ≤ length w
+  pub long : BLOCK ≤ length w
   pub sound : Sound (view w)

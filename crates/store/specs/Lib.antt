@@ -1,5 +1,6 @@
 -- The work space: layout, words as a store, the code's columns, soundness.
 pub mod Field
+pub mod States
 pub mod Column
 pub mod Words
 pub mod Stores

@@ -3,7 +3,7 @@ use job::Job;
 ghost use mathlib.Core.Path.{_≡_};
 ghost use Prim.Native.Nat.{_+_, _<_, _≤_, _^_};
 ghost use lib.ListN.{length, getD};
-ghost use Rattle.store.specs.Field.{size, base, LENGTH};
+ghost use Rattle.store.specs.Field.{size, base, BLOCK};
 ghost use Rattle.store.specs.Field as field;
 ghost use Rattle.store.specs.Reason.{reasonNumber};
 ghost use Rattle.store.specs.Reason as reason;
@@ -51,8 +51,19 @@ const HEAD: usize = 16;
 
 const AFTER: usize = HEAD + Job::POINTS * 5;
 
-// The fixed length of a work space, in words: all columns.
-pub const LENGTH: usize = AFTER + Job::RECORDS * 9;
+// The live block, in words: all columns. A work space begins with it.
+pub const BLOCK: usize = AFTER + Job::RECORDS * 9;
+
+// How many states may be kept.
+pub const STATES: usize = 4;
+
+// After the live block a word for each place says its name, and then a copy of the block stands for each.
+pub const NAMES: usize = BLOCK;
+
+pub const KEPT: usize = NAMES + STATES;
+
+// The fixed length of a work space, in words.
+pub const LENGTH: usize = KEPT + STATES * BLOCK;
 
 // Where a column begins.
 fn base_of(c: Col) -> usize
@@ -82,7 +93,7 @@ fn base_of(c: Col) -> usize
 // Which word is number i of a column.
 fn word_of(c: Col, i: usize) -> usize
     requires { ⌜ i < size (columnOf c) ⌝ }
-    ensures { λ r. ⌜ (r ≡ base (columnOf c) + i) × (r < LENGTH) ⌝ }
+    ensures { λ r. ⌜ (r ≡ base (columnOf c) + i) × (r < BLOCK) ⌝ }
 {
     let b = base_of(c);
     b + i
@@ -98,7 +109,7 @@ fn load(w: &[u32], k: usize) -> usize
 
 // Word i of a column.
 pub fn get(w: &[u32], c: Col, i: usize) -> usize
-    requires { ⌜ (LENGTH ≤ length (now w)) × (i < size (columnOf c)) ⌝ }
+    requires { ⌜ (BLOCK ≤ length (now w)) × (i < size (columnOf c)) ⌝ }
     ensures { λ r. ⌜ (r ≡ cell (columnOf c) (now (w .entry)) i) × (r < 2 ^ 32) ⌝ }
 {
     let k = word_of(c, i);
@@ -132,7 +143,7 @@ fn size_of(c: Col) -> usize
 
 // Word i of a column, and 0 past its end: for words that were not tested yet.
 pub fn read(w: &[u32], c: Col, i: usize) -> usize
-    requires { ⌜ LENGTH ≤ length (now w) ⌝ }
+    requires { ⌜ BLOCK ≤ length (now w) ⌝ }
     ensures { λ r. ⌜ (r ≡ cell (columnOf c) (now (w .entry)) i) × (r < 2 ^ 32) ⌝ }
 {
     let n = size_of(c);
@@ -144,7 +155,7 @@ pub fn read(w: &[u32], c: Col, i: usize) -> usize
 
 // Stores word i of a column.
 pub fn set(w: &mut [u32], c: Col, i: usize, v: usize)
-    requires { ⌜ (LENGTH ≤ length (now w)) × (i < size (columnOf c)) × (v < 2 ^ 32) ⌝ }
+    requires { ⌜ (BLOCK ≤ length (now w)) × (i < size (columnOf c)) × (v < 2 ^ 32) ⌝ }
     ensures { λ _. ⌜ now (w .exit) ≡ put (columnOf c) (now (w .entry)) i v ⌝ }
 {
     let k = word_of(c, i);
@@ -153,6 +164,10 @@ pub fn set(w: &mut [u32], c: Col, i: usize, v: usize)
 
 // The code's constants are those of the definitions.
 fn constants_agree()
+    ensures { λ _. do ⌜ (← ⟦BLOCK⟧ .entry) ≡ field.BLOCK ⌝ }
+    ensures { λ _. do ⌜ (← ⟦STATES⟧ .entry) ≡ field.STATES ⌝ }
+    ensures { λ _. do ⌜ (← ⟦NAMES⟧ .entry) ≡ field.NAMES ⌝ }
+    ensures { λ _. do ⌜ (← ⟦KEPT⟧ .entry) ≡ field.KEPT ⌝ }
     ensures { λ _. do ⌜ (← ⟦LENGTH⟧ .entry) ≡ field.LENGTH ⌝ }
     ensures { λ _. do ⌜ (← ⟦NONE⟧ .entry) ≡ field.NONE ⌝ }
     ensures { λ _. do ⌜ (← ⟦NO_RING⟧ .entry) ≡ reason.NO-RING ⌝ }
@@ -162,4 +177,5 @@ fn constants_agree()
     ensures { λ _. do ⌜ (← ⟦AT_SPLIT⟧ .entry) ≡ reasonNumber atSplit ⌝ }
 {}
 
+pub mod names;
 pub mod points;

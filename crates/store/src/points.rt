@@ -12,7 +12,7 @@ ghost use Rattle.job.specs.Limits as limit;
 ghost use Rattle.numbers.specs.Raised.{coordinate};
 ghost use Rattle.exact.specs.Num.{Within};
 ghost use Rattle.geometry.specs.Table.{InTable};
-ghost use Rattle.store.specs.Field.{pt, X, Y, LENGTH};
+ghost use Rattle.store.specs.Field.{pt, X, Y, BLOCK};
 ghost use Rattle.store.specs.Words.{view, onWords};
 ghost use Rattle.store.specs.Named.{pointsOf};
 ghost use Rattle.store.specs.Value.{pointOf, wordOf};
@@ -40,7 +40,7 @@ pub fn lower(v: usize) -> i32
 
 // Point k by value.
 pub fn point(w: &[u32], k: usize) -> Point
-    requires { ⌜ (LENGTH ≤ length (now w)) × (k < limit.POINTS) × (view (now w) (pt X) k ≤ 2 * limit.COORDINATE) × (view (now w) (pt Y) k ≤ 2 * limit.COORDINATE) ⌝ }
+    requires { ⌜ (BLOCK ≤ length (now w)) × (k < limit.POINTS) × (view (now w) (pt X) k ≤ 2 * limit.COORDINATE) × (view (now w) (pt Y) k ≤ 2 * limit.COORDINATE) ⌝ }
     ensures { λ r. ⌜ r ≡ pointOf (now (w .entry)) k ⌝ }
 {
     let vx = get(w, Col::X, k);
@@ -54,7 +54,7 @@ pub fn point(w: &[u32], k: usize) -> Point
 
 // A point's words and record go to place k, the next free one.
 pub fn take_point(w: &mut [u32], k: usize, vx: usize, vy: usize, r: usize)
-    requires { ⌜ (LENGTH ≤ length (now w)) × (k < limit.POINTS) × (vx < 2 ^ 32) × (vy < 2 ^ 32) × (r < 2 ^ 32) ⌝ }
+    requires { ⌜ (BLOCK ≤ length (now w)) × (k < limit.POINTS) × (vx < 2 ^ 32) × (vy < 2 ^ 32) × (r < 2 ^ 32) ⌝ }
     ensures { λ _. ⌜ now (w .exit) ≡ onWords (now (w .entry)) (pointWrites k vx vy r) ⌝ }
 {
     set(w, Col::Points, 0, k + 1);
@@ -65,7 +65,7 @@ pub fn take_point(w: &mut [u32], k: usize, vx: usize, vy: usize, r: usize)
 
 // Point k goes in between p and n.
 pub fn link_between(w: &mut [u32], p: usize, k: usize, n: usize)
-    requires { ⌜ (LENGTH ≤ length (now w)) × (p < limit.POINTS) × (k < limit.POINTS) × (n < limit.POINTS) ⌝ }
+    requires { ⌜ (BLOCK ≤ length (now w)) × (p < limit.POINTS) × (k < limit.POINTS) × (n < limit.POINTS) ⌝ }
     ensures { λ _. ⌜ now (w .exit) ≡ onWords (now (w .entry)) (linkWrites p k n) ⌝ }
 {
     set(w, Col::Next, k, n);
@@ -76,7 +76,7 @@ pub fn link_between(w: &mut [u32], p: usize, k: usize, n: usize)
 
 // What was between p and n goes out.
 pub fn unlink(w: &mut [u32], p: usize, n: usize)
-    requires { ⌜ (LENGTH ≤ length (now w)) × (p < limit.POINTS) × (n < limit.POINTS) ⌝ }
+    requires { ⌜ (BLOCK ≤ length (now w)) × (p < limit.POINTS) × (n < limit.POINTS) ⌝ }
     ensures { λ _. ⌜ now (w .exit) ≡ onWords (now (w .entry)) (unlinkWrites p n) ⌝ }
 {
     set(w, Col::Next, p, n);
@@ -85,7 +85,7 @@ pub fn unlink(w: &mut [u32], p: usize, n: usize)
 
 // Record k is a closed ring at its start.
 pub fn start_record(w: &mut [u32], k: usize, o: usize, b: usize, i: usize)
-    requires { ⌜ (LENGTH ≤ length (now w)) × (k < limit.RECORDS) × (o < 2 ^ 32) × (b < 2 ^ 32) × (i < 2 ^ 32) ⌝ }
+    requires { ⌜ (BLOCK ≤ length (now w)) × (k < limit.RECORDS) × (o < 2 ^ 32) × (b < 2 ^ 32) × (i < 2 ^ 32) ⌝ }
     ensures { λ _. ⌜ now (w .exit) ≡ onWords (now (w .entry)) (startWrites k o b i) ⌝ }
 {
     set(w, Col::Flags, k, 0);
@@ -109,7 +109,7 @@ pub fn raise(x: i32) -> usize
 
 // Point p goes to place k, the next free one. The Rust links it with itself; here its callers link it at once.
 pub fn new_out_pt(w: &mut [u32], k: usize, p: Point, r: usize)
-    requires { ⌜ LENGTH ≤ length (now w) ⌝ ∗ ⌜ InTable p ⌝ ∗ ⌜ k < limit.POINTS ⌝ ∗ ⌜ r < 2 ^ 32 ⌝ }
+    requires { ⌜ BLOCK ≤ length (now w) ⌝ ∗ ⌜ InTable p ⌝ ∗ ⌜ k < limit.POINTS ⌝ ∗ ⌜ r < 2 ^ 32 ⌝ }
     ensures { λ _. ⌜ now (w .exit) ≡ onWords (now (w .entry)) (pointWrites k (wordOf (p .x)) (wordOf (p .y)) r) ⌝ }
 {
     let vx = raise(p.x);
@@ -173,7 +173,7 @@ pub fn dispose_out_pt(w: &mut [u32], op: usize) -> usize
 
 // The record is emptied.
 pub fn dispose_out_pts(w: &mut [u32], i: usize)
-    requires { ⌜ (LENGTH ≤ length (now w)) × (i < limit.RECORDS) ⌝ }
+    requires { ⌜ (BLOCK ≤ length (now w)) × (i < limit.RECORDS) ⌝ }
     ensures { λ _. ⌜ now (w .exit) ≡ disposeOutPts (now (w .entry)) i ⌝ }
 {
     set(w, Col::First, i, NONE);

@@ -9,8 +9,8 @@ use native.Mathlib.Omega.{arith}
 use lib.ListN.{length}
 use borrow.Author.Tests.{eq-eqb, ne-eqb, lt-ltb, le-ltb}
 use Rattle.job.specs.declared.refusal.Refusal.{Refusal}
-use Rattle.job.specs.declared.refusal.Refusal.the-variants.{Full, OutOfTurn}
-use Rattle.store.specs.Field.{rc, FIRST, REASON, TAKER, NONE, LENGTH}
+use Rattle.job.specs.declared.refusal.Refusal.the-variants.{OutOfTurn}
+use Rattle.store.specs.Field.{rc, FIRST, REASON, TAKER, NONE}
 use Rattle.store.specs.Words.{Store, view}
 use Rattle.store.specs.Reason.{JOINED, discardOf}
 use Rattle.store.specs.Sound.{recs, isOpen}
@@ -18,8 +18,8 @@ use Rattle.store.specs.Good.{SoundWords}
 use Rattle.store.specs.Value.{reverseSolution}
 use Rattle.audit.specs.declared.Verdict.{Verdict}
 use Rattle.audit.specs.declared.Verdict.the-variants as verdict
-use Rattle.audit.specs.Tests.{testsOf}
-use Rattle.audit.proofs.Agreeing.{passed-sound}
+use Rattle.audit.specs.Handed.{handedOf}
+use Rattle.audit.proofs.Handing.{handed-sound}
 use Rattle.steps.specs.Live.{anyLive}
 use Rattle.paths.specs.declared.PathEnd.{PathEnd}
 use Rattle.paths.specs.declared.PathEnd.the-variants.{Short, Small, Points}
@@ -103,17 +103,13 @@ module _ (w : List ℕ) (i : ℕ) where
       pub told : b ≡ false → (r : Reason) → r ≡ reasonAt (view w) i → Because r ≡ reasonBy verdict.Passed w i
       told h r k = rw (lt-ltb i (recs (view w)) (omega arith), sym g ∙ h) (ap Because k)
 
-  pub too-few : length w < LENGTH → Refused Full ≡ reasonOf w i
-  unfolding reasonOf
-  too-few h = rw (lt-ltb (length w) LENGTH h)
-
-  module _ (l : LENGTH ≤ length w) (v : Verdict) (e : v ≡ testsOf w) where
+  module _ (v : Verdict) (e : v ≡ handedOf w) where
     pub sound : v ≡ verdict.Passed → SoundWords w
-    sound p = record { long = l; sound = passed-sound w (sym e ∙ p) }
+    sound p = handed-sound w (sym e ∙ p)
 
     by-tests : reasonBy v w i ≡ reasonOf w i
     unfolding reasonOf
-    by-tests = rw (le-ltb (length w) LENGTH l, e)
+    by-tests = ap (λ (u : Verdict). reasonBy u w i) e
 
     pub refused : (x : Refusal) → v ≡ verdict.Refused x → Refused x ≡ reasonOf w i
     refused x p = sym (ap (λ (u : Verdict). reasonBy u w i) p) ∙ by-tests

@@ -8,10 +8,10 @@ use native.Mathlib.Omega.{arith}
 use lib.Dec.{eqb, ltb}
 use lib.ListN.{length, length-append}
 use borrow.Author.Tests.{eqb-true, ltb-true}
-use Rattle.job.specs.declared.refusal.Refusal.the-variants.{Full, OutOfTurn}
+use Rattle.job.specs.declared.refusal.Refusal.the-variants.{OutOfTurn}
 use Rattle.geometry.specs.declared.Point.{Point}
 use Rattle.rings.specs.Progress.{Discard, atValidity, whileRemoving, atSplit}
-use Rattle.store.specs.Field.{rc, REASON, TAKER, LENGTH}
+use Rattle.store.specs.Field.{rc, REASON, TAKER}
 use Rattle.store.specs.Words.{Store, view}
 use Rattle.store.specs.Reason.{JOINED, discardOf}
 use Rattle.store.specs.Sound.{recs, ringless, isOpen}
@@ -19,8 +19,8 @@ use Rattle.store.specs.Good.{Sound}
 use Rattle.store.specs.Value.{reverseSolution}
 use Rattle.audit.specs.declared.Verdict.{Verdict}
 use Rattle.audit.specs.declared.Verdict.the-variants as verdict
-use Rattle.audit.specs.Tests.{testsOf}
-use Rattle.audit.proofs.Agreeing.{passed-sound}
+use Rattle.audit.specs.Handed.{handedOf}
+use Rattle.audit.proofs.Handing.{handed-sound}
 use Rattle.steps.specs.Live.{anyLive}
 use Rattle.paths.specs.declared.PathEnd.{PathEnd}
 use Rattle.paths.specs.declared.PathEnd.the-variants.{Short, Small, Points}
@@ -71,14 +71,13 @@ module _ (s : Store) (h : Sound s) (i : ℕ) (l : i < recs s) where
 -- THE LAW, on every work space and every number
 pub told-within : (w : List ℕ) (i : ℕ) → ToldWithin (reasonOf w i)
 unfolding reasonOf
-told-within w i = go (ltb (length w) LENGTH) (testsOf w) refl
+told-within w i = go (handedOf w) refl
   where
     asked : Sound (view w) → (a b : Bool) → ltb i (recs (view w)) ≡ a → ToldWithin (cond (not a || b) (Refused OutOfTurn) (Because (reasonAt (view w) i)))
     asked h true true e = tt
     asked h true false e = reason-within (view w) h i (ltb-true i (recs (view w)) e)
     asked h false b e = tt
 
-    go : (a : Bool) (v : Verdict) → testsOf w ≡ v → ToldWithin (cond a (Refused Full) (reasonBy v w i))
-    go true v e = tt
-    go false (verdict.Refused x) e = tt
-    go false verdict.Passed e = asked (passed-sound w e) (ltb i (recs (view w))) (anyLive (view w)) refl
+    go : (v : Verdict) → handedOf w ≡ v → ToldWithin (reasonBy v w i)
+    go (verdict.Refused x) e = tt
+    go verdict.Passed e = asked (handed-sound w e .sound) (ltb i (recs (view w))) (anyLive (view w)) refl

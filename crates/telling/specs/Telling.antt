@@ -5,16 +5,16 @@ use mathlib.Core.List.{List}
 use mathlib.Core.Option.{Option, none, some}
 use lib.Dec.{eqb, ltb}
 use lib.ListN.{length}
-use Rattle.job.specs.declared.refusal.Refusal.the-variants.{Full, OutOfTurn}
+use Rattle.job.specs.declared.refusal.Refusal.the-variants.{OutOfTurn}
 use Rattle.rings.specs.Progress.{Discard, atValidity, whileRemoving, atSplit}
-use Rattle.store.specs.Field.{rc, REASON, TAKER, LENGTH}
+use Rattle.store.specs.Field.{rc, REASON, TAKER}
 use Rattle.store.specs.Words.{Store, view}
 use Rattle.store.specs.Reason.{JOINED, discardOf}
 use Rattle.store.specs.Sound.{recs, ringless, isOpen}
 use Rattle.store.specs.Value.{reverseSolution}
 use Rattle.audit.specs.declared.Verdict.{Verdict}
 use Rattle.audit.specs.declared.Verdict.the-variants as verdict
-use Rattle.audit.specs.Tests.{testsOf}
+use Rattle.audit.specs.Handed.{handedOf}
 use Rattle.steps.specs.Live.{anyLive}
 use Rattle.paths.specs.declared.PathEnd.{PathEnd}
 use Rattle.paths.specs.declared.PathEnd.the-variants.{Short, Small, Points}
@@ -48,11 +48,11 @@ pathReason s i = endReason (isOpen s i) (length (pathsBelow i (isOpen s i) s)) (
 unfoldable pub reasonAt : Store → ℕ → Reason
 reasonAt s i = cond (ringless s i) (keptReason (s (rc REASON) i) (s (rc TAKER) i)) (pathReason s i)
 
--- on a work space that is long enough, by what its tests say: then 12, "an unknown record, or while a closed ring isn't done"
+-- by what was found out about the work space: then 12, "an unknown record, or while a closed ring isn't done"
 abbrev pub reasonBy : Verdict → List ℕ → ℕ → Told
 reasonBy (verdict.Refused r) w i = Refused r
 reasonBy verdict.Passed w i = cond (not (ltb i (recs (view w))) || anyLive (view w)) (Refused OutOfTurn) (Because (reasonAt (view w) i))
 
 -- `reason_of`
 unfoldable pub reasonOf : List ℕ → ℕ → Told
-reasonOf w i = cond (ltb (length w) LENGTH) (Refused Full) (reasonBy (testsOf w) w i)
+reasonOf w i = reasonBy (handedOf w) w i

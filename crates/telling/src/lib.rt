@@ -1,6 +1,6 @@
 // Where a record's ring went: one of eight reasons, told of a work space whose closed rings are all done. `reason_of` has no `requires`.
 use audit::Verdict;
-use audit::tests_of;
+use audit::handed;
 use job::refusal::Refusal;
 use paths::PathEnd;
 use paths::is_open;
@@ -12,7 +12,6 @@ use store::AT_SPLIT;
 use store::AT_VALIDITY;
 use store::Col;
 use store::JOINED;
-use store::LENGTH;
 use store::NONE;
 use store::WHILE_REMOVING;
 use store::get;
@@ -20,7 +19,7 @@ ghost use mathlib.Core.Path.{_≡_};
 ghost use Prim.Native.Nat.{_<_, _≤_};
 ghost use lib.ListN.{length};
 ghost use Rattle.job.specs.Limits as limit;
-ghost use Rattle.store.specs.Field.{rc, REASON, TAKER, LENGTH};
+ghost use Rattle.store.specs.Field.{rc, REASON, TAKER, BLOCK};
 ghost use Rattle.store.specs.Words.{view};
 ghost use Rattle.store.specs.Good.{SoundWords};
 ghost use Rattle.paths.specs.Walking.{Known};
@@ -48,7 +47,7 @@ pub enum Told {
 
 // Of a record without a ring: what it keeps.
 fn kept_reason(w: &[u32], i: usize) -> Reason
-    requires { ⌜ (LENGTH ≤ length (now w)) × (i < limit.RECORDS) ⌝ }
+    requires { ⌜ (BLOCK ≤ length (now w)) × (i < limit.RECORDS) ⌝ }
     ensures { λ r. ⌜ r ≡ keptReason (view (now (w .entry)) (rc REASON) i) (view (now (w .entry)) (rc TAKER) i) ⌝ }
 {
     let v = get(w, Col::Reason, i);
@@ -116,10 +115,7 @@ fn reason_tested(w: &[u32], i: usize) -> Told
 pub fn reason_of(work: &[u32], number: u32) -> Told
     ensures { λ r. ⌜ r ≡ reasonOf (now (work .entry)) number ⌝ }
 {
-    if work.len() < LENGTH {
-        return Told::Refused(Refusal::Full);
-    }
-    let verdict = tests_of(work);
+    let verdict = handed(work);
     match verdict {
         Verdict::Passed => {
             return reason_tested(work, number as usize);

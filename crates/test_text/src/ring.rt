@@ -9,7 +9,7 @@ use store::read;
 ghost use mathlib.Core.Path.{_≡_};
 ghost use Prim.Native.Nat.{_≤_};
 ghost use lib.ListN.{length};
-ghost use Rattle.store.specs.Field.{LENGTH};
+ghost use Rattle.store.specs.Field.{BLOCK};
 ghost use Rattle.store.specs.Named.{ringOf};
 ghost use Rattle.listing.specs.Pour.{poured, pour};
 ghost use Rattle.test_text.specs.Ring.{coordinateText, nameText, pairText, placeText, placesText, ringText};
@@ -52,7 +52,7 @@ fn put_pair(x: usize, y: usize, out: &mut [u8], at: usize) -> usize
 
 // A point after a space.
 fn put_place(w: &[u32], named: bool, p: usize, out: &mut [u8], at: usize) -> usize
-    requires { ⌜ LENGTH ≤ length (now w) ⌝ }
+    requires { ⌜ BLOCK ≤ length (now w) ⌝ }
     ensures { λ r. ⌜ poured r (now (out .exit)) ≡ pour (placeText named (now (w .entry)) p) at (now (out .entry)) ⌝ }
 {
     let x = read(w, Col::X, p);
@@ -64,7 +64,7 @@ fn put_place(w: &[u32], named: bool, p: usize, out: &mut [u8], at: usize) -> usi
 
 // How many points the ring from a on has.
 fn count(w: &[u32], a: usize) -> usize
-    requires { ⌜ LENGTH ≤ length (now w) ⌝ }
+    requires { ⌜ BLOCK ≤ length (now w) ⌝ }
     ensures { λ r. ⌜ r ≡ length (ringOf (now (w .entry)) a) ⌝ }
 {
     let mut p = a;
@@ -83,7 +83,7 @@ fn count(w: &[u32], a: usize) -> usize
 
 // The points of the ring from a on.
 fn put_places(w: &[u32], named: bool, a: usize, out: &mut [u8], at: usize) -> usize
-    requires { ⌜ LENGTH ≤ length (now w) ⌝ }
+    requires { ⌜ BLOCK ≤ length (now w) ⌝ }
     ensures { λ r. ⌜ poured r (now (out .exit)) ≡ pour (placesText named (now (w .entry)) (ringOf (now (w .entry)) a)) at (now (out .entry)) ⌝ }
 {
     let mut k = at;
@@ -102,7 +102,7 @@ fn put_places(w: &[u32], named: bool, a: usize, out: &mut [u8], at: usize) -> us
 
 // The ring from a record's first point a on, which may be none.
 pub fn put_ring(w: &[u32], named: bool, a: usize, out: &mut [u8], at: usize) -> usize
-    requires { ⌜ LENGTH ≤ length (now w) ⌝ }
+    requires { ⌜ BLOCK ≤ length (now w) ⌝ }
     ensures { λ r. ⌜ poured r (now (out .exit)) ≡ pour (ringText named (now (w .entry)) a) at (now (out .entry)) ⌝ }
 {
     let h = put_text(out, at, b" ring ");

@@ -8,5 +8,5 @@ use Rattle.finishing.proofs.InOneCall.{opening-left}
 use Rattle.tidied.specs.Tidied.{NothingLeft}
 use Rattle.tidied.proofs.Theorem.{nothing-left}
 
-pub of-job : (bytes : List ℕ) (n : ℕ) (w : List ℕ) → openOf bytes n ≡ end Accepted w → NothingLeft w
-of-job bytes n w e = nothing-left w (opening-left bytes n w e)
+pub of-job : (bytes lent w : List ℕ) → openOf bytes lent ≡ end Accepted w → NothingLeft w
+of-job bytes lent w e = nothing-left w (opening-left bytes lent w e)

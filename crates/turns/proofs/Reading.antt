@@ -14,7 +14,7 @@ use Rattle.rings.proofs.Counting.{occ-head, occ-turn, occ-last}
 use Rattle.rings.proofs.Linking.{prev-is}
 use Rattle.rings.proofs.Walking.{ring-is, whole-spin}
 use Rattle.geometry.specs.declared.Point.{Point}
-use Rattle.store.specs.Field.{pt, rc, X, Y, NEXT, PREV, MARK, LENGTH}
+use Rattle.store.specs.Field.{pt, rc, X, Y, NEXT, PREV, MARK, BLOCK}
 use Rattle.store.specs.Words.{view, cell}
 use Rattle.store.specs.Sound.{pts, dueOf, dueAt}
 use Rattle.store.specs.Good.{PointIn}
@@ -34,7 +34,7 @@ back-whole n p m x xs w = subst (Whole n p m) (spun ∙ spin-round (back (x ∷ 
     spun = ap (spin (length xs)) (sym (turn-back (x ∷ xs))) ∙ ap (λ (n : ℕ). spin (suc n) (back (x ∷ xs))) (sym (length-initOf x xs))
 
 -- a whole circle of points in range is a ring
-pub on-circle : (w : List ℕ) (a : ℕ) (l : List ℕ) → LENGTH ≤ length w → pts (view w) ≤ 2048 → Whole (view w (pt NEXT)) (view w (pt PREV)) (pts (view w)) (a ∷ l) → ((k : ℕ) → 0 < occ k (a ∷ l) → PointIn (view w) k) → OnRing w a
+pub on-circle : (w : List ℕ) (a : ℕ) (l : List ℕ) → BLOCK ≤ length w → pts (view w) ≤ 2048 → Whole (view w (pt NEXT)) (view w (pt PREV)) (pts (view w)) (a ∷ l) → ((k : ℕ) → 0 < occ k (a ∷ l) → PointIn (view w) k) → OnRing w a
 on-circle w a l h few c p =
     let e : ringOf w a ≡ a ∷ l = ring-is (nextOf w) (prevOf w) (pointsOf w) a l few c in
     record {

@@ -10,7 +10,7 @@ use Rattle.geometry.specs.declared.Point.{Point}
 use Rattle.geometry.specs.Table.{InTable}
 use Rattle.geometry.specs.declared.Edges.{Edges}
 use Rattle.geometry.specs.Within.{Paired}
-use Rattle.store.specs.Field.{rc, FIRST, PRESENT, LENGTH}
+use Rattle.store.specs.Field.{rc, FIRST, PRESENT, BLOCK}
 use Rattle.store.specs.Words.{view}
 use Rattle.store.specs.Sound.{Closed, dueAt}
 use Rattle.store.specs.Good.{Sound}
@@ -30,14 +30,14 @@ pub record Valued (w : List ℕ) (k : ℕ) (p : Point) : Type 0 where
 
 -- an unfinished closed ring of a sound work space
 pub record Steps (w : List ℕ) (i : ℕ) : Type 0 where
-  pub long : LENGTH ≤ length w
+  pub long : BLOCK ≤ length w
   pub sound : Sound (view w)
   pub closed : Closed (view w) i
   pub unfinished : isDone (dueAt (view w) i) ≡ false
 
 -- what its decision reads: its first point and its present place are on a ring
 pub record Going (w : List ℕ) (i : ℕ) : Type 0 where
-  pub long : LENGTH ≤ length w
+  pub long : BLOCK ≤ length w
   pub record-in : i < limit.RECORDS
   pub first-on : OnRing w (view w (rc FIRST) i)
   pub present-on : OnRing w (view w (rc PRESENT) i)

@@ -23,7 +23,7 @@ ghost use Rattle.geometry.specs.Plane.{samePoint, areaTriangle};
 ghost use Rattle.geometry.specs.Table.{InTable};
 ghost use Rattle.geometry.specs.Within.{Paired, Crossed};
 ghost use Rattle.lone.specs.Act.{dropPoint, discard};
-ghost use Rattle.store.specs.Field.{rc, FIRST, PRESENT, LENGTH};
+ghost use Rattle.store.specs.Field.{rc, FIRST, PRESENT, BLOCK};
 ghost use Rattle.store.specs.Words.{cell, view};
 ghost use Rattle.store.specs.Value.{preserveCollinear};
 ghost use Rattle.walks.specs.Ring.{OnRing};
@@ -35,7 +35,7 @@ ghost use Rattle.acts.specs.Step.{actAt};
 
 // The setting `preserve_collinear`: bit 0.
 fn preserve(w: &[u32]) -> bool
-    requires { ⌜ LENGTH ≤ length (now w) ⌝ }
+    requires { ⌜ BLOCK ≤ length (now w) ⌝ }
     ensures { λ r. ⌜ r ≡ preserveCollinear (view (now (w .entry))) ⌝ }
 {
     let s = get(w, Col::Settings, 0);
@@ -191,7 +191,7 @@ fn size_of(a: i64) -> usize
 
 // Whether the loop ends at k: it is the first point or the loop's start.
 fn due_on(w: &[u32], i: usize, k: usize) -> Due
-    requires { ⌜ (LENGTH ≤ length (now w)) × (i < limit.RECORDS) ⌝ }
+    requires { ⌜ (BLOCK ≤ length (now w)) × (i < limit.RECORDS) ⌝ }
     ensures { λ r. ⌜ dueIs r ≡ dueOn (view (now (w .entry))) i k ⌝ }
 {
     let f = get(w, Col::First, i);

@@ -8,7 +8,7 @@ ghost use mathlib.Core.Path.{_≡_};
 ghost use Prim.Native.Nat.{_<_, _≤_};
 ghost use lib.ListN.{length};
 ghost use Rattle.job.specs.Limits as limit;
-ghost use Rattle.store.specs.Field.{pt, NEXT, PREV, LENGTH};
+ghost use Rattle.store.specs.Field.{pt, NEXT, PREV, BLOCK};
 ghost use Rattle.store.specs.Words.{cell, view};
 ghost use Rattle.store.specs.Sound.{dueAt};
 ghost use Rattle.turns.specs.Code.{dueIs};
@@ -41,7 +41,7 @@ pub fn point_at(w: &[u32], k: usize) -> Point
 
 // The step due: a record's progress mark.
 pub fn due_at(w: &[u32], i: usize) -> Due
-    requires { ⌜ (LENGTH ≤ length (now w)) × (i < limit.RECORDS) ⌝ }
+    requires { ⌜ (BLOCK ≤ length (now w)) × (i < limit.RECORDS) ⌝ }
     ensures { λ r. ⌜ dueIs r ≡ dueAt (view (now (w .entry))) i ⌝ }
 {
     let m = get(w, Col::Mark, i);

@@ -25,7 +25,7 @@ use Rattle.geometry.specs.declared.Point.{Point}
 use Rattle.geometry.specs.Plane.{edgeArea, areaFrom, areaOutpt}
 use Rattle.geometry.specs.Table.{InTable}
 use Rattle.geometry.proofs.Coordinates.{edge-within}
-use Rattle.store.specs.Field.{LENGTH}
+use Rattle.store.specs.Field.{BLOCK}
 use Rattle.store.specs.Words.{view}
 use Rattle.store.specs.Named.{pointsOf, nextOf, prevOf, ringOf}
 use Rattle.store.specs.Sound.{recs, ringAt}
@@ -37,7 +37,7 @@ use Rattle.store.proofs.Soundness.{whole}
 use Rattle.walks.specs.Ring.{OnRing, Edge, valuesFrom}
 
 -- a point of a ring of a sound store is on a ring as a walk asks it
-pub on-ring : (w : List ℕ) → LENGTH ≤ length w → Sound (view w) → (i : ℕ) → i < recs (view w) → (a : ℕ) → 0 < occ a (ringAt (view w) i) → OnRing w a
+pub on-ring : (w : List ℕ) → BLOCK ≤ length w → Sound (view w) → (i : ℕ) → i < recs (view w) → (a : ℕ) → 0 < occ a (ringAt (view w) i) → OnRing w a
 on-ring w l s i h a o =
     let t : Seen (nextOf w) (prevOf w) (pointsOf w) (ringAt (view w) i) a = seen (nextOf w) (prevOf w) (pointsOf w) (ringAt (view w) i) a (s .few-points) (whole (view w) s i h) o in
     record {

@@ -10,7 +10,7 @@ use Rattle.rings.specs.Whole.{Whole}
 use Rattle.rings.specs.Table.{ringFrom}
 use Rattle.geometry.specs.declared.Point.{Point}
 use Rattle.geometry.specs.Plane.{isVerySmallTriangle}
-use Rattle.store.specs.Field.{LENGTH, NONE}
+use Rattle.store.specs.Field.{BLOCK, NONE}
 use Rattle.store.specs.Words.{view}
 use Rattle.store.specs.Named.{pointsOf, nextOf, prevOf, ringOf}
 use Rattle.store.specs.Good.{PointIn}
@@ -18,26 +18,26 @@ use Rattle.store.specs.Value.{pointOf}
 
 -- a is on a ring whose points are as a sound store has them
 pub record OnRing (w : List ℕ) (a : ℕ) : Type 0 where
-  pub long : LENGTH ≤ length w
+  pub long : BLOCK ≤ length w
   pub few : pointsOf w ≤ limit.POINTS
   pub whole : Whole (nextOf w) (prevOf w) (pointsOf w) (ringOf w a)
   pub points-in : (k : ℕ) → 0 < occ k (ringOf w a) → PointIn (view w) k
 
 -- a is none, or on such a ring
 pub record MaybeOnRing (w : List ℕ) (a : ℕ) : Type 0 where
-  pub long : LENGTH ≤ length w
+  pub long : BLOCK ≤ length w
   pub ring : a ≢ NONE → OnRing w a
 
 -- op and the point before it may be read
 pub record Edge (w : List ℕ) (op : ℕ) : Type 0 where
-  pub long : LENGTH ≤ length w
+  pub long : BLOCK ≤ length w
   pub few : pointsOf w ≤ limit.POINTS
   pub here : PointIn (view w) op
   pub before : PointIn (view w) (prevOf w op)
 
 -- three points that may be read
 pub record Neighbours (w : List ℕ) (p op n : ℕ) : Type 0 where
-  pub long : LENGTH ≤ length w
+  pub long : BLOCK ≤ length w
   pub few : pointsOf w ≤ limit.POINTS
   pub one : PointIn (view w) p
   pub two : PointIn (view w) op

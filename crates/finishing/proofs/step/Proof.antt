@@ -1,6 +1,6 @@
--- `step` meets its contract: the length, the tests, then the step.
+-- `step` meets its contract: what is found out first, then the step.
 use borrow.Author.Needs.{needs}
-use Rattle.finishing.proofs.Calls.{tested, step-short, step-refused, step-passed}
+use Rattle.finishing.proofs.Calls.{tested, step-refused, step-passed}
 use Rattle.finishing.proofs.step.Statement.{statement}
 use Rattle.finishing.proofs.step.Tie as tie
 
@@ -8,7 +8,6 @@ pub step-spec : {M : Type 1} → statement M
 step-spec =
     tie.close
     (tie.spec
-    (λ c. search step-short)
     (λ c κs. search needs)
     (λ c. search needs)
     (λ c κs. search tested)

@@ -1,6 +1,6 @@
 -- `step_tested` meets its contract.
 use borrow.Author.Needs.{needs}
-use Rattle.finishing.proofs.Calls.{sound-words, step-carried}
+use Rattle.finishing.proofs.Calls.{step-carried}
 use Rattle.finishing.proofs.step_tested.Statement.{statement}
 use Rattle.finishing.proofs.step_tested.Tie as tie
 
@@ -8,7 +8,7 @@ pub step-tested-spec : {M : Type 1} → statement M
 step-tested-spec =
     tie.close
     (tie.spec
-    (λ c κs. search (sound-words, needs))
+    (λ c κs. search needs)
     (λ c κs. search needs)
     (λ c. search needs)
     (λ c. search step-carried))

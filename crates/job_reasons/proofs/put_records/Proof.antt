@@ -4,7 +4,7 @@ use Prim.Native.Nat.{_-_}
 use Rattle.store.specs.Words.{view}
 use Rattle.job_reasons.specs.Needs.{Going}
 use Rattle.job_reasons.proofs.Lines.{going-begins, going-on, going-length, going-ends}
-use Rattle.job_reasons.proofs.Telling.{known-record}
+use Rattle.job_reasons.proofs.Telling.{long-enough, known-record}
 use Rattle.job_reasons.proofs.put_records.Statement.{statement}
 use Rattle.job_reasons.proofs.put_records.Tie as tie
 
@@ -20,7 +20,7 @@ put-records-spec =
     (tie.spec
     Inv-loop
     μ-loop
-    (λ c κs. search needs)
+    (λ c κs. search (long-enough, needs))
     (λ c. going-begins _ _)
     (λ c κs. search known-record)
     (λ c. search needs)

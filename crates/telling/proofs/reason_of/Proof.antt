@@ -1,6 +1,6 @@
--- `reason_of` meets its contract: the length, the tests, then the reason.
+-- `reason_of` meets its contract: what is found out first, then the reason.
 use borrow.Author.Needs.{needs}
-use Rattle.telling.proofs.Tells.{too-few, sound, refused, passed}
+use Rattle.telling.proofs.Tells.{sound, refused, passed}
 use Rattle.telling.proofs.reason_of.Statement.{statement}
 use Rattle.telling.proofs.reason_of.Tie as tie
 
@@ -8,7 +8,6 @@ pub reason-of-spec : {M : Type 1} → statement M
 reason-of-spec =
     tie.close
     (tie.spec
-    (λ c. search too-few)
     (λ c κs. search needs)
     (λ c. search needs)
     (λ c κs. search sound)

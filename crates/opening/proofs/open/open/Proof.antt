@@ -1,4 +1,4 @@
--- `opening::open::open` meets its contract: zeros, the length, the stages.
+-- `opening::open::open` meets its contract: the length, zeros in front, the stages.
 use borrow.Author.Needs.{needs}
 use Rattle.opening.proofs.Staging.{too-short, opened}
 use Rattle.opening.proofs.open.open.Statement.{statement}
@@ -10,8 +10,9 @@ open-spec =
     (tie.spec
     (λ c κs. search needs)
     (λ c. search needs)
-    (λ c. too-short _ _ _ (c .before .before .before .clear .ensures) (c .if1 .taken))
+    (λ c. search too-short)
+    (λ c κs. search needs)
     (λ c κs. search needs)
     (λ c κs. search needs)
     (λ c. search needs)
-    (λ c. opened _ _ _ (c .before .before .before .before .before .before .before .before .before .before .before .clear .ensures) _ _ _ _ (c .before .before .before .before .before .before .before .before .if1 .left) (search needs) (c .before .before .before .before .before .before .stages .ensures) (c .before .before .settle .ensures)))
+    (λ c. search (opened, needs)))

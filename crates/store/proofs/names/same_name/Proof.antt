@@ -1,0 +1,13 @@
+-- same_name meets its contract.
+use borrow.Author.Needs.{needs}
+use Rattle.store.proofs.names.same_name.Statement.{statement}
+use Rattle.store.proofs.names.same_name.Tie as tie
+
+pub same-name-spec : {M : Type 1} → statement M
+same-name-spec =
+    tie.close
+    (tie.spec
+    (λ c κs. search needs)
+    (λ c κs. search needs)
+    (λ c κs. search needs)
+    (λ c. cc))
