@@ -35,7 +35,7 @@ settings = 1 ∷ 1 ∷ 0 ∷ 0 ∷ []
 
 -- a point with this x's four bytes, y 0, next and prev itself, record 0
 abbrev point : ℕ → ℕ → ℕ → ℕ → List ℕ
-point a b c d = 2 ∷ 14 ∷ 0 ∷ a ∷ b ∷ c ∷ d ∷ 0 ∷ 0 ∷ 0 ∷ 0 ∷ 0 ∷ 0 ∷ 0 ∷ 0 ∷ 0 ∷ 0 ∷ []
+point a b c d = 2 ∷ 18 ∷ 0 ∷ a ∷ b ∷ c ∷ d ∷ 0 ∷ 0 ∷ 0 ∷ 0 ∷ 0 ∷ 0 ∷ 0 ∷ 0 ∷ 0 ∷ 0 ∷ 0 ∷ 0 ∷ 0 ∷ 0 ∷ []
 
 -- a closed record without owner, with this first point
 abbrev record-at : ℕ → ℕ → List ℕ
@@ -43,7 +43,7 @@ record-at a b = 3 ∷ 5 ∷ 0 ∷ 0 ∷ 255 ∷ 255 ∷ a ∷ b ∷ []
 
 -- a point at x and 0, with its next, prev and record
 abbrev at : ℕ → ℕ → ℕ → ℕ → List ℕ
-at x nx pv r = 2 ∷ 14 ∷ 0 ∷ x ∷ 0 ∷ 0 ∷ 0 ∷ 0 ∷ 0 ∷ 0 ∷ 0 ∷ nx ∷ 0 ∷ pv ∷ 0 ∷ r ∷ 0 ∷ []
+at x nx pv r = 2 ∷ 18 ∷ 0 ∷ x ∷ 0 ∷ 0 ∷ 0 ∷ 0 ∷ 0 ∷ 0 ∷ 0 ∷ nx ∷ 0 ∷ pv ∷ 0 ∷ r ∷ 0 ∷ 0 ∷ 0 ∷ 0 ∷ 0 ∷ []
 
 -- a record with these flags, owned by record 0, without points
 abbrev owned : ℕ → List ℕ

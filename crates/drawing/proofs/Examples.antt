@@ -23,7 +23,7 @@ use Rattle.drawing.proofs.Theorem.{drawing-finish}
 
 -- a point at x and y, with its next, prev and record
 abbrev at : ℕ → ℕ → ℕ → ℕ → ℕ → List ℕ
-at x y nx pv r = 2 ∷ 14 ∷ 0 ∷ x ∷ 0 ∷ 0 ∷ 0 ∷ y ∷ 0 ∷ 0 ∷ 0 ∷ nx ∷ 0 ∷ pv ∷ 0 ∷ r ∷ 0 ∷ []
+at x y nx pv r = 2 ∷ 18 ∷ 0 ∷ x ∷ 0 ∷ 0 ∷ 0 ∷ y ∷ 0 ∷ 0 ∷ 0 ∷ nx ∷ 0 ∷ pv ∷ 0 ∷ r ∷ 0 ∷ 0 ∷ 0 ∷ 0 ∷ 0 ∷ []
 
 -- record 0 with first point a; record 1 without points, owned by record 0; point b as a segment; points b and c as a join
 abbrev ending : ℕ → ℕ → ℕ → List ℕ

@@ -36,7 +36,7 @@ pub record OneWay : Type 0 where
   pub again : (a x : List ℕ) → rewritten a ≡ some x → rewritten x ≡ some x
   -- "finishing either job gives the same lists, or the same refusal": in any work space, on any tray
   pub finishing : (a x : List ℕ) → rewritten a ≡ some x → (lent t : List ℕ) → SameFinish (finishOf a lent t) (finishOf x lent t)
-  -- as many bytes as the job has, so 41,988 at most; and bytes they are
+  -- as many bytes as the job has, so 50,180 at most; and bytes they are
   pub as-long : (a x : List ℕ) → rewritten a ≡ some x → length x ≡ length a
   pub never-longer : (a x : List ℕ) → rewritten a ≡ some x → length x ≤ LONGEST
   pub bytes : (a x : List ℕ) → rewritten a ≡ some x → All (λ (r : ℕ). r < 256) x

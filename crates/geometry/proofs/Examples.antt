@@ -10,7 +10,7 @@ use Rattle.geometry.specs.Plane.{samePoint, isCollinear, dotProductThree
 use Rattle.geometry.specs.Crossing.{fractionOf, crossing, coordinateAt, getSegmentIntersectPt, crossingPoint}
 
 abbrev pt : ℕ → ℕ → Point
-pt x y = record { x = pos x; y = pos y }
+pt x y = record { x = pos x; y = pos y; z = 0 }
 
 cross-listing : segmentsIntersect (pt 0 0) (pt 10 10) (pt 10 0) (pt 0 12) ≡ true
 unfolding segmentsIntersect strictlyWithin

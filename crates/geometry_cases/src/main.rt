@@ -71,6 +71,7 @@ fn point(s: &[u8], at: usize) -> Point
     Point {
         x: coordinate(number(s, at)),
         y: coordinate(number(s, y)),
+        z: 0,
     }
 }
 

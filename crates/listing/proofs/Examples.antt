@@ -8,23 +8,23 @@ use Rattle.rates.specs.Charge.{chargeOf}
 use Rattle.geometry.specs.Plane.{areaOutpt}
 use Rattle.listing.specs.Text.{digits, PIECE, HOLE, FLAT}
 use Rattle.listing.specs.Fields.{pointIn}
-use Rattle.listing.specs.Lines.{wordOf, listingOf, refusedLine}
+use Rattle.listing.specs.Lines.{wordOf, depthText, listingOf, refusedLine}
 use Rattle.listing.specs.Charge.{chargedOf}
 
--- closed 5,5 0,12 0,0, then closed 10,10 10,0 5,5
+-- closed 5,5 0,12 0,0, then closed 10,10 10,0 5,5, all with z 0
 tray : List ℕ
 tray =
-    (6 ∷ 24 ∷ 0 ∷ 5 ∷ 0 ∷ 0 ∷ 0 ∷ 5 ∷ 0 ∷ 0 ∷ 0 ∷ 0 ∷ 0 ∷ 0 ∷ 0 ∷ 12 ∷ 0 ∷ 0 ∷ 0 ∷ 0 ∷ 0 ∷ 0 ∷ 0 ∷ 0 ∷ 0 ∷ 0 ∷ 0 ∷ [])
-    ++ (6 ∷ 24 ∷ 0 ∷ 10 ∷ 0 ∷ 0 ∷ 0 ∷ 10 ∷ 0 ∷ 0 ∷ 0 ∷ 10 ∷ 0 ∷ 0 ∷ 0 ∷ 0 ∷ 0 ∷ 0 ∷ 0 ∷ 5 ∷ 0 ∷ 0 ∷ 0 ∷ 5 ∷ 0 ∷ 0 ∷ 0 ∷ [])
+    (6 ∷ 36 ∷ 0 ∷ 5 ∷ 0 ∷ 0 ∷ 0 ∷ 5 ∷ 0 ∷ 0 ∷ 0 ∷ 0 ∷ 0 ∷ 0 ∷ 0 ∷ 0 ∷ 0 ∷ 0 ∷ 0 ∷ 12 ∷ 0 ∷ 0 ∷ 0 ∷ 0 ∷ 0 ∷ 0 ∷ 0 ∷ 0 ∷ 0 ∷ 0 ∷ 0 ∷ 0 ∷ 0 ∷ 0 ∷ 0 ∷ 0 ∷ 0 ∷ 0 ∷ 0 ∷ [])
+    ++ (6 ∷ 36 ∷ 0 ∷ 10 ∷ 0 ∷ 0 ∷ 0 ∷ 10 ∷ 0 ∷ 0 ∷ 0 ∷ 0 ∷ 0 ∷ 0 ∷ 0 ∷ 10 ∷ 0 ∷ 0 ∷ 0 ∷ 0 ∷ 0 ∷ 0 ∷ 0 ∷ 0 ∷ 0 ∷ 0 ∷ 0 ∷ 5 ∷ 0 ∷ 0 ∷ 0 ∷ 5 ∷ 0 ∷ 0 ∷ 0 ∷ 0 ∷ 0 ∷ 0 ∷ 0 ∷ [])
 
 -- closed 2 open 0
--- piece 3 60 5,5 0,12 0,0
--- hole 3 -50 10,10 10,0 5,5
+-- piece 3 60 5,5,0 0,12,0 0,0,0
+-- hole 3 -50 10,10,0 10,0,0 5,5,0
 text : List ℕ
 text =
     (99 ∷ 108 ∷ 111 ∷ 115 ∷ 101 ∷ 100 ∷ 32 ∷ 50 ∷ 32 ∷ 111 ∷ 112 ∷ 101 ∷ 110 ∷ 32 ∷ 48 ∷ 10 ∷ [])
-    ++ (112 ∷ 105 ∷ 101 ∷ 99 ∷ 101 ∷ 32 ∷ 51 ∷ 32 ∷ 54 ∷ 48 ∷ 32 ∷ 53 ∷ 44 ∷ 53 ∷ 32 ∷ 48 ∷ 44 ∷ 49 ∷ 50 ∷ 32 ∷ 48 ∷ 44 ∷ 48 ∷ 10 ∷ [])
-    ++ (104 ∷ 111 ∷ 108 ∷ 101 ∷ 32 ∷ 51 ∷ 32 ∷ 45 ∷ 53 ∷ 48 ∷ 32 ∷ 49 ∷ 48 ∷ 44 ∷ 49 ∷ 48 ∷ 32 ∷ 49 ∷ 48 ∷ 44 ∷ 48 ∷ 32 ∷ 53 ∷ 44 ∷ 53 ∷ 10 ∷ [])
+    ++ (112 ∷ 105 ∷ 101 ∷ 99 ∷ 101 ∷ 32 ∷ 51 ∷ 32 ∷ 54 ∷ 48 ∷ 32 ∷ 53 ∷ 44 ∷ 53 ∷ 44 ∷ 48 ∷ 32 ∷ 48 ∷ 44 ∷ 49 ∷ 50 ∷ 44 ∷ 48 ∷ 32 ∷ 48 ∷ 44 ∷ 48 ∷ 44 ∷ 48 ∷ 10 ∷ [])
+    ++ (104 ∷ 111 ∷ 108 ∷ 101 ∷ 32 ∷ 51 ∷ 32 ∷ 45 ∷ 53 ∷ 48 ∷ 32 ∷ 49 ∷ 48 ∷ 44 ∷ 49 ∷ 48 ∷ 44 ∷ 48 ∷ 32 ∷ 49 ∷ 48 ∷ 44 ∷ 48 ∷ 44 ∷ 48 ∷ 32 ∷ 53 ∷ 44 ∷ 53 ∷ 44 ∷ 48 ∷ 10 ∷ [])
 
 paper : listingOf false 2 0 tray ≡ text
 unfolding listingOf digits pointIn areaOutpt tray text
@@ -34,6 +34,15 @@ paper = refl
 charged : chargedOf false 1000 2 0 tray ≡ text ++ (99 ∷ 104 ∷ 97 ∷ 114 ∷ 103 ∷ 101 ∷ 32 ∷ 48 ∷ 32 ∷ 49 ∷ 48 ∷ 48 ∷ 48 ∷ 48 ∷ 10 ∷ [])
 unfolding chargedOf chargeOf listingOf digits pointIn areaOutpt tray text
 charged = refl
+
+-- z is shown with its sign: the least, and -1
+deepest : depthText 2147483648 ≡ 45 ∷ 50 ∷ 49 ∷ 52 ∷ 55 ∷ 52 ∷ 56 ∷ 51 ∷ 54 ∷ 52 ∷ 56 ∷ []
+unfolding digits
+deepest = refl
+
+just-below : depthText 4294967295 ≡ 45 ∷ 49 ∷ []
+unfolding digits
+just-below = refl
 
 -- with the setting -60 is a piece and 50 a hole; zero is flat under either
 reversed-piece : wordOf true (negsuc 59) ≡ PIECE

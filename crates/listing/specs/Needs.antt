@@ -19,12 +19,12 @@ use Rattle.listing.specs.declared.Listed.the-variants.{Bytes, NoRoom}
 
 -- a point within the tray and within the limit
 pub record Held (t : List ℕ) (at : ℕ) : Type 0 where
-  pub inside : at + 8 ≤ length t
+  pub inside : at + 12 ≤ length t
   pub small : InTable (pointIn t at)
 
 -- n points within the tray and within the limit
 pub record Run (t : List ℕ) (n at : ℕ) : Type 0 where
-  pub inside : at + 8 * n ≤ length t
+  pub inside : at + 12 * n ≤ length t
   pub small : AllInTable (pointsIn t n at)
 
 -- the same of one path: there are no more than a field's length allows

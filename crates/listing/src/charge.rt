@@ -31,7 +31,7 @@ fn net_area(t: &[u8], n: usize) -> i64
     let mut left = n;
     while 0 < left {
         let length = value_length(t, f);
-        let e = area_in(t, f + 3, length / 8);
+        let e = area_in(t, f + 3, length / 12);
         a = a + e;
         f = f + 3 + length;
         left -= 1;

@@ -16,7 +16,7 @@ use Rattle.lone.specs.Finish.{finishForest}
 use Rattle.lone.specs.Writing.{isAllDone, closedPaths}
 
 abbrev pub point : ℤ → ℤ → Point
-point a b = record { x = a; y = b }
+point a b = record { x = a; y = b; z = 0 }
 
 -- one that is nowhere left of or below the origin
 abbrev pub pt : ℕ → ℕ → Point

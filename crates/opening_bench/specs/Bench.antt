@@ -45,7 +45,7 @@ at x y = x ∷ 0 ∷ 0 ∷ 0 ∷ y ∷ 0 ∷ 0 ∷ 0 ∷ []
 abbrev pub pointFields : ℕ → ℕ → ℕ → ℕ → List (List ℕ) → List ℕ
 pointFields k n r i [] = []
 pointFields k n r i (p ∷ ps) =
-    2 ∷ 14 ∷ 0 ∷ p ++ two (k + (i + 1) % n) ++ two (k + (i + (n - 1)) % n) ++ two r ++ pointFields k n r (suc i) ps
+    2 ∷ 18 ∷ 0 ∷ p ++ two (k + (i + 1) % n) ++ two (k + (i + (n - 1)) % n) ++ two r ++ (0 ∷ 0 ∷ 0 ∷ 0 ∷ []) ++ pointFields k n r (suc i) ps
 
 abbrev pub ringFields : ℕ → ℕ → List Loop → List ℕ
 ringFields k r [] = []
@@ -81,7 +81,7 @@ pub record Left : Type 0 where
   pub ring : List Member
 
 abbrev pub on : ℕ → ℕ → ℕ → Member
-on k a b = record { number = k; value = record { x = pos a; y = pos b } }
+on k a b = record { number = k; value = record { x = pos a; y = pos b; z = 0 } }
 
 abbrev pub left : ℕ → ℕ → List Member → Left
 left f o c = record { flags = f; owner = o; ring = c }

@@ -33,7 +33,7 @@ layOver bytes t = laid (length bytes) (over bytes t)
 pub record PointsFit (w : List ℕ) (rev : Bool) (i : ℕ) (t : List ℕ) : Type 0 where
   pub of : Known w i
   pub ringed : ringless (view w) i ≡ false
-  pub room : 8 * length (pathPoints (view w) rev i) ≤ length t
+  pub room : 12 * length (pathPoints (view w) rev i) ≤ length t
 
 pub record FieldFits (w : List ℕ) (rev o : Bool) (i : ℕ) (t : List ℕ) : Type 0 where
   pub asked : Asked w rev i

@@ -33,7 +33,7 @@ ghost use Rattle.paths.specs.Wrote.{wrote, buildPaths64};
 ghost use Rattle.paths.specs.Walking.{startFrom, roundFrom, Known, Directed, Asked, ThreeOrMore, Sized, Round, laid};
 
 // A tray of so many bytes is never too small.
-pub const TRAY: usize = 3 * Job::RECORDS + 8 * Job::POINTS;
+pub const TRAY: usize = 3 * Job::RECORDS + 12 * Job::POINTS;
 
 // The number that definitions cite is the code's.
 fn tray_agrees()
@@ -231,7 +231,7 @@ fn field_size(k: usize) -> usize
     if k == 0 {
         return 0;
     }
-    3 + 8 * k
+    3 + 12 * k
 }
 
 // How many bytes the fields of the open, or the closed, paths have.

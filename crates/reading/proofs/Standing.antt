@@ -9,12 +9,12 @@ use native.Mathlib.Decide.{decLt}
 use lib.Dec.{eqb, ltb}
 use lib.ListN.{length, drop, length-drop}
 use borrow.Author.Tests.{ltb-true, ltb-false, eqb-true, eqb-false}
-use Rattle.job.specs.Field.{HEADER, Y-AT, NEXT-AT, PREV-AT, RECORD-AT, OWNER-AT, FIRST-AT, tagOf, lengthOf, valueOf, kindOf, sizeOf, fieldIn, tornHeader, strangeTag, tornValue, strangeBits, crowded, bodyOf, fieldOf}
+use Rattle.job.specs.Field.{HEADER, Y-AT, NEXT-AT, PREV-AT, RECORD-AT, Z-AT, OWNER-AT, FIRST-AT, tagOf, lengthOf, valueOf, kindOf, sizeOf, fieldIn, tornHeader, strangeTag, tornValue, strangeBits, crowded, bodyOf, fieldOf}
 use Rattle.numbers.specs.Bytes.{le}
 use Rattle.numbers.specs.Raised.{raised}
 use Rattle.numbers.proofs.Widths.{shifted}
 use Rattle.job.specs.Limits.{COORDINATE}
-use Rattle.job.specs.Coordinate.{wordAt}
+use Rattle.job.specs.Coordinate.{wordAt, depthAt}
 use Rattle.job.specs.Job.{fresh, past}
 use Rattle.job.specs.declared.Job.{Job}
 use Rattle.job.specs.declared.field.Kind.{Kind}
@@ -25,7 +25,7 @@ use Rattle.job.specs.declared.field.Reading.{Reading}
 use Rattle.job.specs.declared.field.Reading.the-variants as reading
 use Rattle.job.specs.declared.refusal.Refusal.the-variants.{Torn, Strange, Crowded}
 use Rattle.job.proofs.Accepted.{passed, accepted}
-use Rattle.store.specs.Field.{pt, ct, X, Y, NEXT, PREV, REC, SETTINGS, POINTS, RECORDS, BLOCK}
+use Rattle.store.specs.Field.{pt, ct, X, Y, NEXT, PREV, REC, Z, SETTINGS, POINTS, RECORDS, BLOCK}
 use Rattle.store.specs.Words.{view, write, onWords}
 use Rattle.store.specs.Stores.{onStore}
 use Rattle.store.proofs.Storing.{view-writes, length-writes}
@@ -190,8 +190,8 @@ module _ (bytes : List ℕ) (j : Job) (w ss js : List ℕ) (t : Stands bytes j w
           let p = j .points in
           let nz : j .last ≢ 0 = λ o. omega (arith, g .0, g .1 .first o) in
           let e : j .at ≡ fieldAt p = t .lay .early (omega (arith, nz)) (omega (arith, g .0, g .1 .rises)) in
-          let xs = write (pt X) p (wordAt 0 v) ∷ write (pt Y) p (wordAt Y-AT v) ∷ write (pt NEXT) p (le 2 NEXT-AT v) ∷ write (pt PREV) p (le 2 PREV-AT v) ∷ write (pt REC) p (le 2 RECORD-AT v) ∷ [] in
-          let q : view (onWords w xs) ≡ onStore (view w) xs = view-writes w xs (t .long) (l, (l, (l, (l, (l, tt))))) in
+          let xs = write (pt X) p (wordAt 0 v) ∷ write (pt Y) p (wordAt Y-AT v) ∷ write (pt NEXT) p (le 2 NEXT-AT v) ∷ write (pt PREV) p (le 2 PREV-AT v) ∷ write (pt REC) p (le 2 RECORD-AT v) ∷ write (pt Z) p (depthAt Z-AT v) ∷ [] in
+          let q : view (onWords w xs) ≡ onStore (view w) xs = view-writes w xs (t .long) (l, (l, (l, (l, (l, (l, tt)))))) in
           record {
             lay = y;
             inside = i;
@@ -202,6 +202,7 @@ module _ (bytes : List ℕ) (j : Job) (w ss js : List ℕ) (t : Stands bytes j w
               next = more p (le 2 NEXT-AT v) (view w (pt NEXT)) (λ k. le 2 (valueAt k + NEXT-AT) bytes) (t .numbers .next) (from-job 2 (j .at) p NEXT-AT bytes e);
               prev = more p (le 2 PREV-AT v) (view w (pt PREV)) (λ k. le 2 (valueAt k + PREV-AT) bytes) (t .numbers .prev) (from-job 2 (j .at) p PREV-AT bytes e);
               rec = more p (le 2 RECORD-AT v) (view w (pt REC)) (λ k. le 2 (valueAt k + RECORD-AT) bytes) (t .numbers .rec) (from-job 2 (j .at) p RECORD-AT bytes e);
+              z = more p (depthAt Z-AT v) (view w (pt Z)) (λ k. depthAt (valueAt k + Z-AT) bytes) (t .numbers .z) (ap (raised 0) (from-job 4 (j .at) p Z-AT bytes e));
             });
           }
       go kind.Record g i y l =
@@ -209,7 +210,7 @@ module _ (bytes : List ℕ) (j : Job) (w ss js : List ℕ) (t : Stands bytes j w
           let xs = recordRead p (le 1 0 v) (le 2 OWNER-AT v) (le 2 FIRST-AT v) in
           let q : view (onWords w xs) ≡ onStore (view w) xs = view-writes w xs (t .long) (l, (l, (l, (l, tt)))) in
           let b = t .numbers in
-          record { lay = y; inside = i; long = omega (arith, t .long, length-writes w xs); numbers = subst (AtBytes bytes (j .points)) (sym q) (record { x = b .x; y = b .y; next = b .next; prev = b .prev; rec = b .rec }) }
+          record { lay = y; inside = i; long = omega (arith, t .long, length-writes w xs); numbers = subst (AtBytes bytes (j .points)) (sym q) (record { x = b .x; y = b .y; next = b .next; prev = b .prev; rec = b .rec; z = b .z }) }
       go kind.Segment g i y l = record { lay = y; inside = i; long = t .long; numbers = t .numbers }
       go kind.Join g i y l = record { lay = y; inside = i; long = t .long; numbers = t .numbers }
 
@@ -248,7 +249,7 @@ stands-fill bytes w ss js l = go (eqb (length bytes) 0)
           lay = lay-fresh;
           inside = omega arith;
           long = l;
-          numbers = record { x = λ k h. absurd (omega arith); y = λ k h. absurd (omega arith); next = λ k h. absurd (omega arith); prev = λ k h. absurd (omega arith); rec = λ k h. absurd (omega arith) };
+          numbers = record { x = λ k h. absurd (omega arith); y = λ k h. absurd (omega arith); next = λ k h. absurd (omega arith); prev = λ k h. absurd (omega arith); rec = λ k h. absurd (omega arith); z = λ k h. absurd (omega arith) };
         })
 
 -- the numbers of a job that was read stand where they were read
@@ -274,6 +275,6 @@ standing bytes w ss js l j v ts ks e = go (fillOf bytes w ss js) (stands-fill by
         rw (← a, ← b)
         (record {
           inside = room i (t .lay) (t .inside);
-          numbers = subst (AtBytes bytes (i .points)) (sym c) (record { x = n .x; y = n .y; next = n .next; prev = n .prev; rec = n .rec });
+          numbers = subst (AtBytes bytes (i .points)) (sym c) (record { x = n .x; y = n .y; next = n .next; prev = n .prev; rec = n .rec; z = n .z });
         })
     go (end (Refused x) u us ls) t d = absurd (let z : _≡_ {A = ℕ} 0 1 = cc in omega arith)

@@ -13,5 +13,5 @@ put-header-spec =
     (λ c. search needs)
     (λ c. search needs)
     (λ c κs. search needs)
-    (λ c. header-length (c .before .before .before .before .before .args .t .now) _ (c .before .before .before .before .before .args .tag) (8 * c .before .before .before .before .before .args .k) (c .before .before .write-u16 .ensures))
+    (λ c. header-length (c .before .before .before .before .before .args .t .now) _ (c .before .before .before .before .before .args .tag) (12 * c .before .before .before .before .before .args .k) (c .before .before .write-u16 .ensures))
     (λ c. search needs))
