@@ -29,7 +29,7 @@ use Rattle.paths.specs.Tray.{lowBytes, i32Bytes, pointBytes, pathBytes, pathFie
 use Rattle.paths.proofs.Laying.{length-lowBytes, length-pointBytes, put-over}
 use Rattle.paths.proofs.Counts.{length-pathField}
 use Rattle.paths.proofs.Tables.{Fit, Each, paths-fit}
-use Rattle.listing.specs.Fields.{pointIn, pointsIn, valueLength, nextField, pathIn, pathsIn, fieldAfter}
+use Rattle.listing.specs.Fields.{pointIn, asWords, pointsIn, valueLength, nextField, pathIn, pathsIn, fieldAfter}
 use Rattle.listing.specs.Needs.{FieldIn, FieldsIn}
 use Rattle.listing.specs.Lines.{pointsText, lineOf, firstLine, linesOf, listingOf}
 use Rattle.listing.specs.Needs.{Listable, pointCount}
@@ -52,10 +52,6 @@ coordinate-in z a b h =
     let s : SFits w32 z = fits-size w32 z (omega (arith, h .size)) in
     let l : ofZ w32 z < 2 ^ 32 = ofZ-fits w32 z s .fits in
     ap signed (number-in 4 (ofZ w32 z) a b ∙ mod-eq-of-lt l) ∙ toZ-ofZ w32 z s
-
--- what twelve bytes keep of a point: its z in 32 bits
-abbrev pub asWords : Point → Point
-asWords p = record { x = p .x; y = p .y; z = p .z % 2 ^ 32 }
 
 point-in : (p : Point) (a b : List ℕ) → InTable p → pointIn (a ++ pointBytes p ++ b) (length a) ≡ asWords p
 unfolding pointIn pointBytes

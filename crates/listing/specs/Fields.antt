@@ -1,5 +1,5 @@
 -- The paths that a tray's fields hold: document 01, "Output fields: .. value x, y (i32) for each point"; document 02, Ask 9: and z, "12 bytes a point".
-use Prim.Native.Nat.{ℕ, zero, suc, _+_, _/_}
+use Prim.Native.Nat.{ℕ, zero, suc, _+_, _/_, _%_, _^_}
 use mathlib.Core.List.{List, [], _∷_}
 use Rattle.numbers.specs.Bytes.{le}
 use Rattle.numbers.specs.Raised.{signed}
@@ -8,6 +8,10 @@ use Rattle.geometry.specs.declared.Point.{Point}
 -- the point whose twelve bytes begin at `at`; z as its word
 unfoldable pub pointIn : List ℕ → ℕ → Point
 pointIn t at = record { x = signed (le 4 at t); y = signed (le 4 (at + 4) t); z = le 4 (at + 8) t }
+
+-- what twelve bytes keep of a point: its z in 32 bits
+abbrev pub asWords : Point → Point
+asWords p = record { x = p .x; y = p .y; z = p .z % 2 ^ 32 }
 
 -- n points, one after another
 abbrev pub pointsIn : List ℕ → ℕ → ℕ → List Point

@@ -120,7 +120,7 @@ fn put_word(out: &mut [u8], at: usize, a: i64, rev: bool) -> usize
 // ---- points of a tray
 
 // The point whose bytes begin at `at`.
-fn point_in(t: &[u8], at: usize) -> Point
+pub fn point_in(t: &[u8], at: usize) -> Point
     requires { ⌜ Held (now t) at ⌝ }
     ensures { λ r. ⌜ r ≡ pointIn (now (t .entry)) at ⌝ }
 {
@@ -259,7 +259,7 @@ fn put_head(
 }
 
 // The length of the value of the field at `from`.
-fn value_length(t: &[u8], from: usize) -> usize
+pub fn value_length(t: &[u8], from: usize) -> usize
     requires { ⌜ from + 3 ≤ length (now t) ⌝ }
     ensures { λ r. ⌜ (r ≡ valueLength (now (t .entry)) from) × (r < 65536) ⌝ }
 {

@@ -6,6 +6,7 @@ use mathlib.Core.List.{List, [], _∷_, _++_, reverse, reverse-reverse}
 use mathlib.Core.Option.{Option, none, some}
 use Prim.Native.Nat.{ℕ}
 use lib.Dec.{ltb}
+use lib.ListN.{length}
 use lib.IntN.{ℤ, pos, natAbs, negℤ, _-ℤ_, +ℤ-idl}
 use Rattle.exact.proofs.Size.{size-neg}
 use Rattle.exact.proofs.Poly.{var, num, _:-_, solve}
@@ -13,10 +14,10 @@ use Rattle.geometry.specs.declared.Point.{Point}
 use Rattle.geometry.specs.Plane.{ground, closeBy, ptsReallyClose, isVerySmallTriangle}
 use Rattle.geometry.proofs.Points.{same-true, true-same}
 use Rattle.rings.specs.Circle.{turn, omap}
-use Rattle.lone.specs.Path.{isSmallRing, buildPath64FromOutpt}
+use Rattle.lone.specs.Path.{inOrder, withoutEquals, isSmallRing, buildPath64FromOutpt}
 use Rattle.lone.specs.Plane.{plane}
 use Rattle.opposite.specs.Opposite.{onGround}
-use Rattle.opposite.proofs.Keyed.{Opposite, neither, each, path-opposite}
+use Rattle.opposite.proofs.Keyed.{order-turned, same-length, Opposite, neither, each, path-opposite}
 
 -- ---- close by is the same of either
 
@@ -30,7 +31,7 @@ close-swapped a b = rw (close-back (a .x) (b .x), close-back (a .y) (b .y))
 module _ (p : Bool) where
   -- ---- the small test is the same
 
-  small-turned : (c : List Point) → isSmallRing (plane p) c ≡ isSmallRing (plane p) (turn c)
+  pub small-turned : (c : List Point) → isSmallRing (plane p) c ≡ isSmallRing (plane p) (turn c)
   unfolding isVerySmallTriangle
   small-turned [] = refl
   small-turned (a ∷ []) = refl
@@ -53,6 +54,10 @@ module _ (p : Bool) where
       longer (e ∷ r) = refl
 
   -- ---- the path
+
+  -- as many points are left either way
+  pub same-order : (c : List Point) → length (withoutEquals (plane p) (inOrder true c)) ≡ length (withoutEquals (plane p) (inOrder false c))
+  same-order c = ap (λ (l : List Point). length (withoutEquals (plane p) l)) (order-turned c) ∙ same-length (plane p) ground same-true true-same (turn c)
 
   -- what is decided is the same, and the path the other way round
   pub path-turned : (isOpen : Bool) (c : List Point) → omap onGround (buildPath64FromOutpt (plane p) true isOpen c) ≡ omap reverse (omap onGround (buildPath64FromOutpt (plane p) false isOpen c))

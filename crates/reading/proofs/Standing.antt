@@ -38,7 +38,7 @@ use Rattle.reading.specs.Standing.{fieldAt, valueAt, AtBytes, Standing}
 use Rattle.reading.proofs.Placing.{has-room}
 
 -- ---- tags
-abbrev tagIs : Kind → ℕ
+abbrev pub tagIs : Kind → ℕ
 tagIs kind.Settings = 1
 tagIs kind.Point = 2
 tagIs kind.Record = 3
@@ -59,11 +59,11 @@ kind-tag (suc (suc (suc (suc (suc zero))))) h = refl
 kind-tag (suc (suc (suc (suc (suc (suc n)))))) h = absurd (omega (arith, ltb-false 5 (suc (suc (suc (suc (suc (suc n)))))) (none (eqb (suc (suc (suc (suc (suc (suc n)))))) 0) (ltb 5 (suc (suc (suc (suc (suc (suc n))))))) h .1)))
 
 -- a tag that may come after the last one
-record Tagged (last tag : ℕ) : Type 0 where
-  known : tag ≡ tagIs (kindOf tag)
-  rises : last ≤ tag
-  first : last ≡ 0 → tag ≡ 1
-  once : 0 < last → tag ≢ 1
+pub record Tagged (last tag : ℕ) : Type 0 where
+  pub known : tag ≡ tagIs (kindOf tag)
+  pub rises : last ≤ tag
+  pub first : last ≡ 0 → tag ≡ 1
+  pub once : 0 < last → tag ≢ 1
 
 tagged : (last tag : ℕ) → strangeTag last tag ≡ false → Tagged last tag
 tagged last tag h =
@@ -83,17 +83,17 @@ tagged last tag h =
     twice false y g p q l e = omega (arith, p refl)
 
 -- ---- a field that is read
-record ReadAs (j : Job) (s : List ℕ) (f : Field) (n : ℕ) (k : Kind) : Type 0 where
-  kind-is : kindOf (tagOf s) ≡ k
-  is : f ≡ fieldIn k (valueOf s)
-  size : n ≡ HEADER + sizeOf k
-  header : tornHeader s ≡ false
-  tag : strangeTag (j .last) (tagOf s) ≡ false
-  whole : tornValue k s ≡ false
-  bits : strangeBits (fieldIn k (valueOf s)) ≡ false
-  room : crowded k j ≡ false
+pub record ReadAs (j : Job) (s : List ℕ) (f : Field) (n : ℕ) (k : Kind) : Type 0 where
+  pub kind-is : kindOf (tagOf s) ≡ k
+  pub is : f ≡ fieldIn k (valueOf s)
+  pub size : n ≡ HEADER + sizeOf k
+  pub header : tornHeader s ≡ false
+  pub tag : strangeTag (j .last) (tagOf s) ≡ false
+  pub whole : tornValue k s ≡ false
+  pub bits : strangeBits (fieldIn k (valueOf s)) ≡ false
+  pub room : crowded k j ≡ false
 
-read-as : (j : Job) (s : List ℕ) (f : Field) (n : ℕ) → fieldOf j s ≡ reading.Read f n → ReadAs j s f n (kindOf (tagOf s))
+pub read-as : (j : Job) (s : List ℕ) (f : Field) (n : ℕ) → fieldOf j s ≡ reading.Read f n → ReadAs j s f n (kindOf (tagOf s))
 unfolding fieldOf bodyOf
 read-as j s f n e =
     let k : Kind = kindOf (tagOf s) in
@@ -107,26 +107,26 @@ read-as j s f n e =
     record { kind-is = refl; is = sym z; size = sym y; header = a .0; tag = b .0; whole = c .0; bits = d .0; room = g .0 }
 
 -- ---- the layout
-record Lay (j : Job) : Type 0 where
-  fresh : j .last ≡ 0 → (j .at ≡ 0) × (j .points ≡ 0)
-  early : 0 < j .last → j .last ≤ 2 → j .at ≡ fieldAt (j .points)
-  late : 2 < j .last → fieldAt (j .points) ≤ j .at
+pub record Lay (j : Job) : Type 0 where
+  pub fresh : j .last ≡ 0 → (j .at ≡ 0) × (j .points ≡ 0)
+  pub early : 0 < j .last → j .last ≤ 2 → j .at ≡ fieldAt (j .points)
+  pub late : 2 < j .last → fieldAt (j .points) ≤ j .at
 
-lay-fresh : Lay fresh
+pub lay-fresh : Lay fresh
 lay-fresh = record { fresh = λ h. (refl, refl); early = λ h l. absurd (omega arith); late = λ h. absurd (omega arith) }
 
-tag-of : (j : Job) (s : List ℕ) (f : Field) (n : ℕ) (k : Kind) → ReadAs j s f n k → (tagOf s ≡ tagIs k) × Tagged (j .last) (tagOf s)
+pub tag-of : (j : Job) (s : List ℕ) (f : Field) (n : ℕ) (k : Kind) → ReadAs j s f n k → (tagOf s ≡ tagIs k) × Tagged (j .last) (tagOf s)
 tag-of j s f n k r = let t = tagged (j .last) (tagOf s) (r .tag) in (t .known ∙ ap tagIs (r .kind-is), t)
 
 module _ (j : Job) (s : List ℕ) (l : Lay j) where
-  after-points : (k : Kind) → 3 ≤ tagIs k → (tagOf s ≡ tagIs k) × Tagged (j .last) (tagOf s) → fieldAt (j .points) ≤ j .at
+  pub after-points : (k : Kind) → 3 ≤ tagIs k → (tagOf s ≡ tagIs k) × Tagged (j .last) (tagOf s) → fieldAt (j .points) ≤ j .at
   after-points k h t = go (decLt 2 (j .last))
     where
       go : Dec (2 < j .last) → fieldAt (j .points) ≤ j .at
       go (yes g) = l .late g
       go (no g) = let nz : j .last ≢ 0 = λ z. omega (arith, h, t .0, t .1 .first z) in omega (arith, l .early (omega (arith, nz)) (omega arith))
 
-  lay-past : (f : Field) (n : ℕ) (k : Kind) → ReadAs j s f n k → Lay (past f n j)
+  pub lay-past : (f : Field) (n : ℕ) (k : Kind) → ReadAs j s f n k → Lay (past f n j)
   lay-past f n k r = subst (λ (g : Field). Lay (past g n j)) (sym (r .is)) (go k (tag-of j s f n k r) (r .size))
     where
       go : (k : Kind) → (tagOf s ≡ tagIs k) × Tagged (j .last) (tagOf s) → n ≡ HEADER + sizeOf k → Lay (past (fieldIn k (valueOf s)) n j)
@@ -166,7 +166,7 @@ more p v a d h e k l = go (eqb k p) refl
     go false q = h k (omega (arith, l, eqb-false k p q))
 
 -- a number of a value, in the job
-from-job : (n at k o : ℕ) (bytes : List ℕ) → at ≡ fieldAt k → le n o (drop HEADER (drop at bytes)) ≡ le n (valueAt k + o) bytes
+pub from-job : (n at k o : ℕ) (bytes : List ℕ) → at ≡ fieldAt k → le n o (drop HEADER (drop at bytes)) ≡ le n (valueAt k + o) bytes
 from-job n at k o bytes e = shifted n HEADER o (drop at bytes) ∙ shifted n at (HEADER + o) bytes ∙ ap (λ (x : ℕ). le n x bytes) (omega (arith, e))
 
 module _ (bytes : List ℕ) (j : Job) (w ss js : List ℕ) (t : Stands bytes j w) where
