@@ -15,30 +15,31 @@ use Rattle.store.specs.Words.{Store, view}
 use Rattle.store.specs.Good.{Sound}
 use Rattle.store.specs.Value.{preserveCollinear}
 use Rattle.audit.specs.declared.Verdict.the-variants as verdict
-use Rattle.audit.specs.Handed.{handedOf, Fit}
-use Rattle.audit.proofs.Handing.{handed-fit, fit-handed}
+use Rattle.audit.specs.Handed.{handedOf, Usable}
+use Rattle.audit.proofs.Handing.{handed-usable, usable-handed}
 use Rattle.acts.specs.Step.{answerS, stepW}
 use Rattle.acts.specs.Run.{stepS}
 use Rattle.acts.specs.InStep.{InStep}
 use Rattle.acts.proofs.Stepping.{length-step, view-step, answer-is, step-is}
 use Rattle.turns.specs.Form.{raised, geometryOf}
 use Rattle.turns.proofs.Ready.{laws}
-use Rattle.finishing.specs.Step.{Left, left, steppedAs, stepOf}
+use Rattle.audit.specs.Left.{Left, left}
+use Rattle.finishing.specs.Step.{steppedAs, stepOf}
 use Rattle.finishing.specs.Run.{runOf}
 use Rattle.finishing.proofs.Entering.{handed-step}
-use Rattle.finishing.proofs.Blocks.{call-fit}
+use Rattle.finishing.proofs.Blocks.{call-usable}
 use Rattle.order.proofs.Settings.{step-settings}
 use Rattle.altered.specs.OwnForest.{Settled}
 use Rattle.altered.specs.Altered.{HoldsForest, StepIs, Altered}
 use Rattle.altered.proofs.OwnForest.{own-forest}
 use Rattle.altered.proofs.Starts.{elsewhere, settled-step}
 
-module _ (w : List ℕ) (f : Fit w) (i : ℕ) where
+module _ (w : List ℕ) (f : Usable w) (i : ℕ) where
   l : BLOCK ≤ length w
   l = omega (arith, f .long)
 
   step-of : stepOf w i ≡ left (steppedAs (answerS (geometryOf (view w)) raised (view w) i)) (stepW (geometryOf (view w)) raised w i)
-  step-of = handed-step w i verdict.Passed (fit-handed w f)
+  step-of = handed-step w i verdict.Passed (usable-handed w f)
 
   view-of : view (stepOf w i .words) ≡ stepS (geometryOf (view w)) raised (view w) i
   view-of = ap (λ (x : Left). view (x .words)) step-of ∙ view-step (geometryOf (view w)) raised (laws (preserveCollinear (view w))) w i l (f .sound)
@@ -60,7 +61,7 @@ module _ (w : List ℕ) (f : Fit w) (i : ℕ) where
 module _ (b : Bool) where
   -- a work space on the way
   record Going (w : List ℕ) (F : Forest (Ring Point) (List Point)) : Type 0 where
-    pub fit : Fit w
+    pub fit : Usable w
     pub setting : preserveCollinear (view w) ≡ b
     pub holds : HoldsForest w F
     pub settled : Settled (view w)
@@ -68,7 +69,7 @@ module _ (b : Bool) where
   next : (w : List ℕ) (F : Forest (Ring Point) (List Point)) → Going w F → (i : ℕ) → Going (stepOf w i .words) (stepForest (loneRing b) 2048 512 F i)
   next w F g i =
       record {
-        fit = call-fit w (g .fit) i;
+        fit = call-usable w (g .fit) i;
         setting = same-settings w (g .fit) i ∙ g .setting;
         holds = subst (λ (k : Bool). HoldsForest (stepOf w i .words) (stepForest (loneRing k) 2048 512 F i)) (g .setting)
             (one-step w (g .fit) i F (g .holds) .stays (elsewhere (geometryOf (view w)) raised (laws (preserveCollinear (view w))) (view w) (g .settled) i));
@@ -84,7 +85,7 @@ module _ (b : Bool) where
 
 pub altered : (w : List ℕ) → handedOf w ≡ verdict.Passed → Altered w
 altered w e =
-    let f : Fit w = handed-fit w e in
+    let f : Usable w = handed-usable w e in
     record {
       has-one = own-forest (raised .of) (view w) (f .sound);
       one-step = λ F r i. one-step w f i F r;

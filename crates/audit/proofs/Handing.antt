@@ -2,7 +2,7 @@
 use Prim.Native.Nat.{ℕ, _≤_, _<_}
 use mathlib.Core.Path.{_≡_, refl, sym, ap, _∙_}
 use mathlib.Core.Logic.{_↔_}
-use mathlib.Core.Bool.{Bool, true, false, cond, _&&_}
+use mathlib.Core.Bool.{Bool, true, false, cond, _&&_, _||_}
 use mathlib.Core.List.{List}
 use native.Mathlib.Omega.{arith}
 use native.Mathlib.Decide.{decLt}
@@ -17,33 +17,40 @@ use Rattle.store.specs.States.{isName, nameAt, sameName, Apart}
 use Rattle.audit.specs.declared.Verdict.{Verdict}
 use Rattle.audit.specs.declared.Verdict.the-variants.{Passed, Refused}
 use Rattle.audit.specs.Tests.{anyBelow, testsOf}
-use Rattle.audit.specs.Handed.{keptTwice, namesTested, handedOf, Fit}
+use Rattle.audit.specs.Handed.{keptTwice, namesTested, testedOf, handedOf, Usable}
 use Rattle.audit.proofs.Saying.{none-of, all-none}
 use Rattle.audit.proofs.Agreeing.{passed-sound, sound-passed}
 
 -- ---- for the code
 
+pub six-pairs : (w : List ℕ) (a b c d e f : Bool) → a ≡ sameName w 0 1 → b ≡ sameName w 0 2 → c ≡ sameName w 1 2 → d ≡ sameName w 0 3 → e ≡ sameName w 1 3 → f ≡ sameName w 2 3
+    → ((a || (b || c)) || ((d || e) || f)) ≡ keptTwice w
+unfolding keptTwice anyBelow
+six-pairs w a b c d e f ha hb hc hd he hf = rw (ha, hb, hc, hd, he, hf)
+
+module _ (w : List ℕ) (b : Bool) (f : b ≡ keptTwice w) where
+  pub says-apart : b ≡ false → Passed ≡ namesTested w Passed
+  says-apart h = ap (λ (x : Bool). cond x (Refused Muddled) Passed) (sym h ∙ f)
+
+  pub says-twice : b ≡ true → Refused Muddled ≡ namesTested w Passed
+  says-twice h = ap (λ (x : Bool). cond x (Refused Muddled) Passed) (sym h ∙ f)
+
+module _ (w : List ℕ) (v : Verdict) (e : v ≡ testsOf w) where
+  pub says-refused : (x : Refusal) → v ≡ Refused x → Refused x ≡ testedOf w
+  unfolding testedOf
+  says-refused x f = ap (namesTested w) (sym f ∙ e)
+
+  pub says-named : (r : Verdict) → v ≡ Passed → r ≡ namesTested w Passed → r ≡ testedOf w
+  unfolding testedOf
+  says-named r f g = g ∙ ap (namesTested w) (sym f ∙ e)
+
 pub says-short : (w : List ℕ) → length w < LENGTH → Refused Full ≡ handedOf w
 unfolding handedOf
 says-short w h = rw (lt-ltb (length w) LENGTH h)
 
-module _ (w : List ℕ) (l : LENGTH ≤ length w) (v : Verdict) (e : v ≡ testsOf w) where
-  tested : namesTested w v ≡ handedOf w
-  unfolding handedOf
-  tested = rw (le-ltb (length w) LENGTH l) (ap (namesTested w) e)
-
-  pub says-refused : (x : Refusal) → v ≡ Refused x → Refused x ≡ handedOf w
-  says-refused x f = sym (ap (namesTested w) f) ∙ tested
-
-  module _ (b : Bool) (f : b ≡ keptTwice w) (p : v ≡ Passed) where
-    by-names : cond b (Refused Muddled) Passed ≡ handedOf w
-    by-names = ap (λ (x : Bool). cond x (Refused Muddled) Passed) f ∙ sym (ap (namesTested w) p) ∙ tested
-
-    pub says-twice : b ≡ true → Refused Muddled ≡ handedOf w
-    says-twice h = sym (ap (λ (x : Bool). cond x (Refused Muddled) Passed) h) ∙ by-names
-
-    pub says-passed : b ≡ false → Passed ≡ handedOf w
-    says-passed h = sym (ap (λ (x : Bool). cond x (Refused Muddled) Passed) h) ∙ by-names
+pub says-tested : (w : List ℕ) (v : Verdict) → LENGTH ≤ length w → v ≡ testedOf w → v ≡ handedOf w
+unfolding handedOf
+says-tested w v l e = rw (le-ltb (length w) LENGTH l) e
 
 -- ---- the names
 
@@ -64,27 +71,27 @@ apart-once w a = all-none STATES (λ q. anyBelow q (λ p. sameName w p q)) (λ q
 
 -- ---- what it decides
 
-pub handed-fit : (w : List ℕ) → handedOf w ≡ Passed → Fit w
-unfolding handedOf
-handed-fit w e = go (ltb (length w) LENGTH) refl (testsOf w) refl e
+pub handed-usable : (w : List ℕ) → handedOf w ≡ Passed → Usable w
+unfolding handedOf testedOf
+handed-usable w e = go (ltb (length w) LENGTH) refl (testsOf w) refl e
   where
     names : (b : Bool) → keptTwice w ≡ b → cond b (Refused Muddled) Passed ≡ Passed → keptTwice w ≡ false
     names true h f = absurd (let z : _≡_ {A = ℕ} 0 1 = cc in omega arith)
     names false h f = h
 
-    go : (b : Bool) → ltb (length w) LENGTH ≡ b → (v : Verdict) → testsOf w ≡ v → cond b (Refused Full) (namesTested w v) ≡ Passed → Fit w
+    go : (b : Bool) → ltb (length w) LENGTH ≡ b → (v : Verdict) → testsOf w ≡ v → cond b (Refused Full) (namesTested w v) ≡ Passed → Usable w
     go true h v t f = absurd (let z : _≡_ {A = ℕ} 0 1 = cc in omega arith)
     go false h (Refused r) t f = absurd (let z : _≡_ {A = ℕ} 0 1 = cc in omega arith)
     go false h Passed t f = record { long = ltb-false (length w) LENGTH h; sound = passed-sound w t; apart = twice-apart w (names (keptTwice w) refl f) }
 
-pub fit-handed : (w : List ℕ) → Fit w → handedOf w ≡ Passed
-unfolding handedOf
-fit-handed w f = rw (le-ltb (length w) LENGTH (f .long), sound-passed w (f .sound), apart-once w (f .apart))
+pub usable-handed : (w : List ℕ) → Usable w → handedOf w ≡ Passed
+unfolding handedOf testedOf
+usable-handed w f = rw (le-ltb (length w) LENGTH (f .long), sound-passed w (f .sound), apart-once w (f .apart))
 
 -- THE LAW
-pub handed-decides : (w : List ℕ) → (handedOf w ≡ Passed) ↔ Fit w
-handed-decides w = (handed-fit w, fit-handed w)
+pub handed-decides : (w : List ℕ) → (handedOf w ≡ Passed) ↔ Usable w
+handed-decides w = (handed-usable w, usable-handed w)
 
 -- so the live block may be worked on
 pub handed-sound : (w : List ℕ) → handedOf w ≡ Passed → SoundWords w
-handed-sound w e = let f : Fit w = handed-fit w e in record { long = omega (arith, f .long); sound = f .sound }
+handed-sound w e = let f : Usable w = handed-usable w e in record { long = omega (arith, f .long); sound = f .sound }

@@ -23,12 +23,16 @@ abbrev pub namesTested : List ℕ → Verdict → Verdict
 namesTested w (Refused r) = Refused r
 namesTested w Passed = cond (keptTwice w) (Refused Muddled) Passed
 
+-- `tested`: without the length, for a call that is lent two work spaces and asks both lengths first
+unfoldable pub testedOf : List ℕ → Verdict
+testedOf w = namesTested w (testsOf w)
+
 -- `handed`
 unfoldable pub handedOf : List ℕ → Verdict
-handedOf w = cond (ltb (length w) LENGTH) (Refused Full) (namesTested w (testsOf w))
+handedOf w = cond (ltb (length w) LENGTH) (Refused Full) (testedOf w)
 
 -- what it decides: long enough, the live block sound, no name kept twice
-pub record Fit (w : List ℕ) : Type 0 where
+pub record Usable (w : List ℕ) : Type 0 where
   pub long : LENGTH ≤ length w
   pub sound : Sound (view w)
   pub apart : Apart w

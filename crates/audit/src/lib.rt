@@ -1,8 +1,10 @@
 // The tests of a handed work space: read only, linear in points and records.
+mod names;
 mod points;
 mod records;
 mod walks;
 
+use crate::names::names_tested;
 use crate::points::loose;
 use crate::points::no_such;
 use crate::points::off_table;
@@ -17,19 +19,16 @@ use job::Job;
 use job::refusal::Refusal;
 use store::Col;
 use store::LENGTH;
-use store::STATES;
 use store::get;
-use store::names::same_name;
 ghost use mathlib.Core.Path.{_≡_};
 ghost use mathlib.Core.Bool.{_||_};
-ghost use Prim.Native.Nat.{_<_, _≤_};
+ghost use Prim.Native.Nat.{_≤_};
 ghost use lib.ListN.{length};
-ghost use Rattle.store.specs.Field.{STATES, KEPT, BLOCK};
-ghost use Rattle.store.specs.States.{sameName};
+ghost use Rattle.store.specs.Field.{BLOCK, LENGTH};
 ghost use Rattle.store.specs.Named.{recordsOf};
 ghost use Rattle.audit.specs.Tests.{anyBelow, noSuchOf, lostTaker, misplaced, untold, crowded, anyRecord, testsOf};
 ghost use Rattle.audit.specs.declared.PointTest.the-variants.{Numbers};
-ghost use Rattle.audit.specs.Handed.{keptTwice, handedOf};
+ghost use Rattle.audit.specs.Handed.{testedOf, handedOf};
 ghost use Rattle.audit.specs.Marks.{Counted, Clear, Looked, fails, failsOf, anyMarked, linksOf, passesOf};
 
 // As many points as a small array has marks for: zeros for all that a job may have would cost a small one more than its tests.
@@ -38,6 +37,12 @@ const FEW: usize = 64;
 // What the tests of a work space say.
 pub enum Verdict {
     Passed,
+    Refused(Refusal),
+}
+
+// What a call answers that changes what it is lent: done, or a refusal.
+pub enum Reply {
+    Done,
     Refused(Refusal),
 }
 
@@ -235,60 +240,30 @@ pub fn tests_of(w: &[u32]) -> Verdict
     in_order(w)
 }
 
-// ---- the names of kept states
-
-// Whether a place before q keeps its name too.
-fn named_before(w: &[u32], q: usize) -> bool
-    requires { ⌜ (KEPT ≤ length (now w)) × (q < STATES) ⌝ }
-    ensures { λ r. ⌜ r ≡ anyBelow q (λ p. sameName (now (w .entry)) p q) ⌝ }
-{
-    let mut p: usize = 0;
-    while p < q {
-        let found = same_name(w, p, q);
-        if found {
-            return true;
-        }
-        p += 1;
-    }
-    false
-}
-
-// Whether one name is kept twice.
-fn kept_twice(w: &[u32]) -> bool
-    requires { ⌜ KEPT ≤ length (now w) ⌝ }
-    ensures { λ r. ⌜ r ≡ keptTwice (now (w .entry)) ⌝ }
-{
-    let mut q: usize = 0;
-    while q < STATES {
-        let found = named_before(w, q);
-        if found {
-            return true;
-        }
-        q += 1;
-    }
-    false
-}
-
 // ---- what a call asks first
 
-// What every call on an opened work space asks first: its length, then the tests of its live block, then its names.
+// The tests of a work space that is long enough: of its live block, then of its names.
+pub fn tested(w: &[u32]) -> Verdict
+    requires { ⌜ LENGTH ≤ length (now w) ⌝ }
+    ensures { λ r. ⌜ r ≡ testedOf (now (w .entry)) ⌝ }
+{
+    let verdict = tests_of(w);
+    match verdict {
+        Verdict::Passed => {
+            return names_tested(w);
+        }
+        Verdict::Refused(r) => {
+            return Verdict::Refused(r);
+        }
+    }
+}
+
+// What every call on an opened work space asks first: its length, then its tests.
 pub fn handed(w: &[u32]) -> Verdict
     ensures { λ r. ⌜ r ≡ handedOf (now (w .entry)) ⌝ }
 {
     if w.len() < LENGTH {
         return Verdict::Refused(Refusal::Full);
     }
-    let verdict = tests_of(w);
-    match verdict {
-        Verdict::Passed => {
-            let twice = kept_twice(w);
-            if twice {
-                return Verdict::Refused(Refusal::Muddled);
-            }
-            return Verdict::Passed;
-        }
-        Verdict::Refused(r) => {
-            return Verdict::Refused(r);
-        }
-    }
+    tested(w)
 }

@@ -18,7 +18,7 @@ use Rattle.opening.specs.declared.open.Opened.the-variants.{Accepted, Refused}
 use Rattle.opening.specs.Open.{End, end, openOf}
 use Rattle.finishing.specs.Write.{writeOf}
 use Rattle.finishing.specs.Run.{runOf}
-use Rattle.finishing.specs.Opened.{OpeningLeft}
+use Rattle.finishing.specs.Start.{Start}
 use Rattle.finishing.specs.InOneCall.{Finished, refused, afterWriting, finishOf}
 use Rattle.order.specs.Demand3.{Lone, inTray, lones, AllDoneAfter, RingsFit, RingsNeverEnd}
 use Rattle.order.proofs.Theorem.{F, lones-are, after-list, GoesThrough, where-fits}
@@ -30,7 +30,7 @@ use Rattle.drawing.proofs.Opening.{acceptedAs, SameOpening, opening-ali
 
 -- ---- two opened work spaces with the same forest, after the same steps
 
-module _ (w w′ : List ℕ) (o : OpeningLeft w) (o′ : OpeningLeft w′) (f : SameForest w w′) (is : List ℕ) where
+module _ (w w′ : List ℕ) (o : Start w) (o′ : Start w′) (f : SameForest w w′) (is : List ℕ) where
   entries-same : F w′ o′ is .entries ≡ F w o is .entries
   entries-same = rw (f .settings, f .forest, f .as-many-points)
 
@@ -65,10 +65,10 @@ same-from : (f f′ g g′ : Finished) → f ≡ g → f′ ≡ g′ → SameFin
 same-from f f′ g g′ e e′ s = rw (e, e′) s
 
 module _ (bytes bytes′ lent w w′ : List ℕ) (e : openOf bytes lent ≡ end Accepted w) (e′ : openOf bytes′ lent ≡ end Accepted w′) (f : SameForest w w′) (t : List ℕ) where
-  abbrev o : OpeningLeft w
+  abbrev o : Start w
   o = left bytes lent w e
 
-  abbrev o′ : OpeningLeft w′
+  abbrev o′ : Start w′
   o′ = left bytes′ lent w′ e′
 
   through : GoesThrough w o → GoesThrough w′ o′ → SameFinish (finishOf bytes lent t) (finishOf bytes′ lent t)

@@ -18,7 +18,7 @@ use Rattle.paths.specs.Path as paths
 use Rattle.paths.specs.Path.{pathAt, smallBy}
 use Rattle.telling.specs.Telling.{keptReason, pathReason, reasonAt}
 use Rattle.finishing.specs.Run.{runOf}
-use Rattle.finishing.specs.Opened.{OpeningLeft}
+use Rattle.finishing.specs.Start.{Start}
 use Rattle.order.specs.Demand3.{fed, lones, AllDoneAfter, Same, none-left, same, SameEnd, whyAt, HasRing, Has}
 use Rattle.order.proofs.Theorem.{follows, lones-are, after-list, demand-3}
 use Rattle.ended.specs.Alike.{kindOf, SameReasons}
@@ -70,7 +70,7 @@ module _ (s t : Store) (e : s (ct SETTINGS) 0 ≡ t (ct SETTINGS) 0) (a b : ℕ)
 
 -- ---- after two lists
 
-module _ (w : List ℕ) (o : OpeningLeft w) (is js : List ℕ) where
+module _ (w : List ℕ) (o : Start w) (is js : List ℕ) where
   abbrev s : Store
   s = view (runOf w is)
 

@@ -24,7 +24,7 @@ use Rattle.store.specs.Reason.{discardOf}
 use Rattle.store.specs.Sound.{ringless}
 use Rattle.store.specs.Value.{pointAt, preserveCollinear}
 use Rattle.finishing.specs.Run.{runOf}
-use Rattle.finishing.specs.Opened.{OpeningLeft}
+use Rattle.finishing.specs.Start.{Start}
 use Rattle.order.specs.Demand3.{Has, HasRing}
 use Rattle.order.proofs.Theorem.{F₀, F, rings-are}
 use Rattle.order.proofs.Beginning.{offcut-begins, count, opened-begins}
@@ -32,7 +32,7 @@ use Rattle.ended.specs.Discarded.{DiscardedBy}
 use Rattle.ended.proofs.Gone.{empty-gone, discarded-by}
 use Rattle.ended.proofs.Joining.{no-ring}
 
-module _ (w : List ℕ) (o : OpeningLeft w) where
+module _ (w : List ℕ) (o : Start w) where
   abbrev p : Bool
   p = preserveCollinear (view w)
 

@@ -22,7 +22,7 @@ use Rattle.turns.specs.Form.{raised}
 use Rattle.turns.proofs.Ready.{laws}
 use Rattle.finishing.specs.Step.{stepOf}
 use Rattle.finishing.specs.Run.{runOf}
-use Rattle.finishing.specs.Opened.{OpeningLeft}
+use Rattle.finishing.specs.Start.{Start}
 use Rattle.order.proofs.Following.{M, Follows, follows-step, view-of}
 use Rattle.order.proofs.Theorem.{F₀, follows}
 
@@ -54,5 +54,5 @@ bare-run k (i ∷ is) w F h j l e =
     record { low = b .low; words = λ f. b .words f ∙ a .words f }
 
 -- of every work space as opening leaves it
-pub bare-stays : (w : List ℕ) → OpeningLeft w → (is : List ℕ) (j : ℕ) → j < recs (view w) → ringless (view w) j ≡ true → StillBare (view w) (view (runOf w is)) j
+pub bare-stays : (w : List ℕ) → Start w → (is : List ℕ) (j : ℕ) → j < recs (view w) → ringless (view w) j ≡ true → StillBare (view w) (view (runOf w is)) j
 bare-stays w o is j l e = bare-run (view w (ct SETTINGS) 0) is w (F₀ w o) (follows w o []) j l e

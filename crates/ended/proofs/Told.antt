@@ -33,7 +33,7 @@ use Rattle.opening.specs.Open.{end, openOf}
 use Rattle.opening.specs.After.{OpenAsGiven}
 use Rattle.opening.proofs.Accepted.{accepts, open-as-given}
 use Rattle.finishing.specs.Run.{runOf, granted}
-use Rattle.finishing.specs.Opened.{OpeningLeft}
+use Rattle.finishing.specs.Start.{Start}
 use Rattle.finishing.proofs.InOneCall.{opening-left}
 use Rattle.order.specs.Demand3.{M, G, Lone, lones, HasRing, Has}
 use Rattle.order.proofs.Table.{opened-is}
@@ -53,7 +53,7 @@ use Rattle.ended.proofs.Telling.{tells-none, tells-joined, tells-rule, 
 
 -- ---- a record: opening left it without a ring, or open, or it has a lone ring
 
-module _ (w : List ℕ) (o : OpeningLeft w) (is : List ℕ) (j : ℕ) where
+module _ (w : List ℕ) (o : Start w) (is : List ℕ) (j : ℕ) where
   alone : Alone (M w) (os w o) (lones w is) (granted w is)
   alone = subst (λ (l : List (Fed (Ring Point) (List Point))). Alone (M w) l (lones w is) (granted w is)) (opened-is w) (after-list w o is .alone)
 
@@ -110,7 +110,7 @@ module _ (bytes lent w : List ℕ) (f : openOf bytes lent ≡ end Accepted w) (i
   abbrev t : Stages bytes lent w
   t = stages bytes lent w f
 
-  abbrev o : OpeningLeft w
+  abbrev o : Start w
   o = opening-left bytes lent w f
 
   -- a record that opening left without a ring, after the steps

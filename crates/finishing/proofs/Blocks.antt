@@ -15,8 +15,8 @@ use Rattle.store.specs.States.{isName, nameAt, Apart, blockOf}
 use Rattle.store.specs.Value.{preserveCollinear}
 use Rattle.audit.specs.declared.Verdict.{Verdict}
 use Rattle.audit.specs.declared.Verdict.the-variants as verdict
-use Rattle.audit.specs.Handed.{handedOf, Fit}
-use Rattle.audit.proofs.Handing.{fit-handed, handed-fit}
+use Rattle.audit.specs.Handed.{handedOf, Usable}
+use Rattle.audit.proofs.Handing.{usable-handed, handed-usable}
 use Rattle.acts.specs.Apply.{Coding}
 use Rattle.acts.specs.Laws.{Laws}
 use Rattle.acts.specs.Step.{answerS, stepW}
@@ -27,7 +27,8 @@ use Rattle.turns.proofs.Ready.{laws}
 use Rattle.steps.specs.Live.{anyLive}
 use Rattle.paths.specs.declared.Written.the-variants as written
 use Rattle.paths.specs.Wrote.{Wrote, wrote, buildPaths64}
-use Rattle.finishing.specs.Step.{Left, left, steppedAs, stepBy, stepOf}
+use Rattle.audit.specs.Left.{Left, left}
+use Rattle.finishing.specs.Step.{steppedAs, stepBy, stepOf}
 use Rattle.finishing.specs.Write.{writeBy, writeOf}
 use Rattle.finishing.proofs.Entering.{handed-step, handed-write}
 
@@ -73,12 +74,12 @@ module _ {P : Type 0} (G : Geo P) (f : Coding P) (Λ : Laws G f) (w : List ℕ) 
 
 -- ---- the calls
 
-module _ (w : List ℕ) (f : Fit w) (i : ℕ) where
+module _ (w : List ℕ) (f : Usable w) (i : ℕ) where
   fit-long : BLOCK ≤ length w
   fit-long = omega (arith, f .long)
 
   step-is : stepOf w i ≡ left (steppedAs (answerS (geometryOf (view w)) raised (view w) i)) (stepW (geometryOf (view w)) raised w i)
-  step-is = handed-step w i verdict.Passed (fit-handed w f)
+  step-is = handed-step w i verdict.Passed (usable-handed w f)
 
   words-are : stepOf w i .words ≡ stepW (geometryOf (view w)) raised w i
   words-are = ap (λ (x : Left). x .words) step-is
@@ -90,9 +91,9 @@ module _ (w : List ℕ) (f : Fit w) (i : ℕ) where
   live-is = ap blockOf words-are ∙ step-live (geometryOf (view w)) raised (laws (preserveCollinear (view w))) w fit-long (f .sound) i
 
   -- it passes still
-  pub call-fit : Fit (stepOf w i .words)
-  call-fit =
-      subst Fit (sym words-are)
+  pub call-usable : Usable (stepOf w i .words)
+  call-usable =
+      subst Usable (sym words-are)
       (record {
         long = omega (arith, f .long, length-step (geometryOf (view w)) raised w i);
         sound = stepW-sound (geometryOf (view w)) raised (laws (preserveCollinear (view w))) w i fit-long (f .sound);
@@ -105,10 +106,10 @@ call-behind w i = go (handedOf w) refl
   where
     go : (v : Verdict) → handedOf w ≡ v → drop BLOCK (stepOf w i .words) ≡ drop BLOCK w
     go (verdict.Refused r) e = ap (λ (x : Left). drop BLOCK (x .words)) (handed-step w i (verdict.Refused r) e)
-    go verdict.Passed e = fit-behind w (handed-fit w e) i
+    go verdict.Passed e = fit-behind w (handed-usable w e) i
 
 -- two work spaces with one live block
-module _ (w v : List ℕ) (f : Fit w) (g : Fit v) (e : blockOf w ≡ blockOf v) where
+module _ (w v : List ℕ) (f : Usable w) (g : Usable v) (e : blockOf w ≡ blockOf v) where
   shown : view w ≡ view v
   shown = same-view w v (omega (arith, f .long)) (omega (arith, g .long)) e
 
@@ -127,6 +128,6 @@ module _ (w v : List ℕ) (f : Fit w) (g : Fit v) (e : blockOf w ≡ blockOf v) 
 
   pub same-write : (t : List ℕ) → writeOf w t ≡ writeOf v t
   same-write t =
-      handed-write w t verdict.Passed (fit-handed w f)
+      handed-write w t verdict.Passed (usable-handed w f)
       ∙ ap (λ (s : Store). cond (anyLive s) (wrote (written.Refused OutOfTurn) t) (buildPaths64 s t)) shown
-      ∙ sym (handed-write v t verdict.Passed (fit-handed v g))
+      ∙ sym (handed-write v t verdict.Passed (usable-handed v g))

@@ -22,9 +22,10 @@ use Rattle.steps.specs.Live.{anyLive}
 use Rattle.paths.specs.declared.Written.{Written}
 use Rattle.paths.specs.declared.Written.the-variants as written
 use Rattle.paths.specs.Wrote.{wrote, buildPaths64}
-use Rattle.finishing.specs.declared.Stepped.{Stepped}
-use Rattle.finishing.specs.declared.Stepped.the-variants.{Refused}
-use Rattle.finishing.specs.Step.{left, steppedAs, stepBy, stepOf}
+use Rattle.audit.specs.declared.Reply.{Reply}
+use Rattle.audit.specs.declared.Reply.the-variants.{Refused}
+use Rattle.audit.specs.Left.{left}
+use Rattle.finishing.specs.Step.{steppedAs, stepBy, stepOf}
 use Rattle.finishing.specs.Write.{writeBy, writeOf}
 use Rattle.finishing.proofs.Entering.{handed-step, handed-write}
 
@@ -45,16 +46,16 @@ module _ (w : List ℕ) (i : ℕ) where
   pub step-refused : (v : Verdict) (x : Refusal) → v ≡ handedOf w → v ≡ verdict.Refused x → left (Refused x) w ≡ stepOf w i
   step-refused v x e p = sym (handed-step w i (verdict.Refused x) (sym e ∙ p))
 
-  pub step-passed : (v : Verdict) (r : Stepped) (w′ : List ℕ) → v ≡ handedOf w → v ≡ verdict.Passed → left r w′ ≡ stepBy verdict.Passed w i → left r w′ ≡ stepOf w i
+  pub step-passed : (v : Verdict) (r : Reply) (w′ : List ℕ) → v ≡ handedOf w → v ≡ verdict.Passed → left r w′ ≡ stepBy verdict.Passed w i → left r w′ ≡ stepOf w i
   step-passed v r w′ e p h = h ∙ sym (handed-step w i verdict.Passed (sym e ∙ p))
 
   -- the answer by the code's name
-  pub step-carried : (a : code.Answer) (r : Stepped) (w′ : List ℕ) → outcome (answerIs a) w′ ≡ acts.stepWords (geometryOf (view w)) raised w i → r ≡ steppedAs (answerIs a) → left r w′ ≡ stepBy verdict.Passed w i
+  pub step-carried : (a : code.Answer) (r : Reply) (w′ : List ℕ) → outcome (answerIs a) w′ ≡ acts.stepWords (geometryOf (view w)) raised w i → r ≡ steppedAs (answerIs a) → left r w′ ≡ stepBy verdict.Passed w i
   unfolding acts.stepWords
   step-carried a r w′ h e =
       let p : answerIs a ≡ answerS (geometryOf (view w)) raised (view w) i = cc in
       let q : w′ ≡ stepW (geometryOf (view w)) raised w i = cc in
-      ap (λ (z : Stepped). left z w′) (e ∙ ap steppedAs p) ∙ ap (left (steppedAs (answerS (geometryOf (view w)) raised (view w) i))) q
+      ap (λ (z : Reply). left z w′) (e ∙ ap steppedAs p) ∙ ap (left (steppedAs (answerS (geometryOf (view w)) raised (view w) i))) q
 
 -- ---- writing out
 

@@ -13,7 +13,7 @@ use Rattle.audit.specs.declared.Verdict.the-variants as verdict
 use Rattle.audit.specs.Handed.{handedOf}
 use Rattle.acts.specs.Step.{answerS, stepByW, stepW}
 use Rattle.turns.specs.Form.{raised, geometryOf}
-use Rattle.finishing.specs.declared.Stepped.the-variants.{Refused}
+use Rattle.audit.specs.declared.Reply.the-variants.{Refused}
 use Rattle.finishing.specs.Step.{steppedAs, stepBy, stepOf}
 use Rattle.finishing.specs.Write.{writeBy, writeOf}
 

@@ -18,7 +18,7 @@ use Rattle.acts.specs.Finish.{RingsEnd, ringsDone, finishW}
 use Rattle.paths.specs.declared.Written.{Written}
 use Rattle.paths.specs.declared.Written.the-variants.{Paths, Refused}
 use Rattle.paths.specs.Wrote.{Wrote, wrote, buildPaths64}
-use Rattle.finishing.specs.Opened.{OpeningLeft}
+use Rattle.finishing.specs.Start.{Start}
 use Rattle.finishing.specs.Finish.{finishRings}
 use Rattle.finishing.specs.InOneCall.{finished, refused, afterWriting, afterSteps, afterOpening, finishOf}
 use Rattle.opening.specs.declared.open.Opened.{Opened}
@@ -47,7 +47,7 @@ module _ (w t t₁ : List ℕ) (r : Written) (e : wrote r t₁ ≡ buildPaths64 
 -- ---- the rings are finished
 
 -- rings that are done may be written out
-pub done-ready : (w w₁ : List ℕ) → OpeningLeft w → finishRings w ≡ ringsDone w₁ → SoundWords w₁
+pub done-ready : (w w₁ : List ℕ) → Start w → finishRings w ≡ ringsDone w₁ → SoundWords w₁
 unfolding finishRings
 done-ready w w₁ o e =
     let r = finish-done (geometryOf (view w)) raised (laws (preserveCollinear (view w))) w _ w₁ (start-rep w o) e in
@@ -58,7 +58,7 @@ module _ (w w₁ t : List ℕ) (a : code.RingsEnd) (e : endIs a w₁ ≡ finishW
   unfolding finishRings
   stepped-as = ap (λ (o : RingsEnd). afterSteps o t) e
 
-  pub may-write : OpeningLeft w → a ≡ Done → SoundWords w₁
+  pub may-write : Start w → a ≡ Done → SoundWords w₁
   unfolding finishRings
   may-write o h = done-ready w w₁ o (sym e ∙ ap (λ (b : code.RingsEnd). endIs b w₁) h)
 
@@ -70,11 +70,11 @@ module _ (w w₁ t : List ℕ) (a : code.RingsEnd) (e : endIs a w₁ ≡ finishW
 
 -- ---- a job is opened
 
-pub opening-left : (bytes lent w : List ℕ) → openOf bytes lent ≡ end Accepted w → OpeningLeft w
+pub opening-left : (bytes lent w : List ℕ) → openOf bytes lent ≡ end Accepted w → Start w
 opening-left bytes lent w e = let a = after-opening w bytes lent e in record { long = open-long bytes lent w e; sound = a .sound; apart = open-apart bytes lent w e; fresh = a .fresh }
 
 module _ (bytes lent w₁ t : List ℕ) (o : Opened) (e : end o w₁ ≡ openOf bytes lent) where
-  pub may-finish : o ≡ Accepted → OpeningLeft w₁
+  pub may-finish : o ≡ Accepted → Start w₁
   may-finish h = opening-left bytes lent w₁ (sym e ∙ ap (λ (a : Opened). end a w₁) h)
 
   opened-as : afterOpening (end o w₁) t ≡ finishOf bytes lent t

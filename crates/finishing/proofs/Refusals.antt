@@ -47,7 +47,7 @@ use Rattle.paths.specs.Tray.{TRAY}
 use Rattle.paths.specs.Wrote.{Wrote, wrote, buildPaths64}
 use Rattle.paths.proofs.Bound.{never-small}
 use Rattle.store.specs.Good.{Sound}
-use Rattle.finishing.specs.Opened.{OpeningLeft}
+use Rattle.finishing.specs.Start.{Start}
 use Rattle.steps.specs.Live.{anyLive}
 use Rattle.finishing.specs.Write.{writeBy, writeOf}
 use Rattle.finishing.specs.Finish.{finishRings}
@@ -235,7 +235,7 @@ module _ (t : List ℕ) (long : TRAY ≤ length t) where
   after-writing w (written.Paths c o) u h = tt
   after-writing w (written.Refused x) u h = h
 
-  after-steps : (w : List ℕ) → OpeningLeft w → (r : RingsEnd) → finishRings w ≡ r → NotSmall (afterSteps r t .answer)
+  after-steps : (w : List ℕ) → Start w → (r : RingsEnd) → finishRings w ≡ r → NotSmall (afterSteps r t .answer)
   after-steps w o (ringsDone w₁) e = after-writing w₁ (buildPaths64 (view w₁) t .answer) (buildPaths64 (view w₁) t .tray) (written-not-small w₁ (done-ready w w₁ o e .sound))
   after-steps w o (ringsFull w₁) e = λ z. omega (arith, z)
 

@@ -26,9 +26,9 @@ use Rattle.acts.specs.Value.{value}
 use Rattle.acts.specs.Finishable.{MayFinish}
 use Rattle.acts.proofs.Opening.{opening-rep}
 use Rattle.turns.specs.Form.{raised, geometryOf}
-use Rattle.finishing.specs.Opened.{OpeningLeft}
+use Rattle.finishing.specs.Start.{Start}
 
-module _ (w : List ℕ) (o : OpeningLeft w) where
+module _ (w : List ℕ) (o : Start w) where
   -- the forest that opening makes
   abbrev F₀ : Forest (Ring Point) (List Point)
   F₀ = opening (records (raised .of) (view w)) (pts (view w))

@@ -3,5 +3,5 @@ pub mod Step
 pub mod Write
 pub mod Run
 pub mod Finish
-pub mod Opened
+pub mod Start
 pub mod InOneCall

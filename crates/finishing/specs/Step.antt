@@ -7,21 +7,14 @@ use Rattle.store.specs.Words.{view}
 use Rattle.audit.specs.declared.Verdict.{Verdict}
 use Rattle.audit.specs.declared.Verdict.the-variants as verdict
 use Rattle.audit.specs.Handed.{handedOf}
+use Rattle.audit.specs.Left.{Left, left}
 use Rattle.acts.specs.Step.{answerS, stepW}
 use Rattle.turns.specs.Form.{raised, geometryOf}
-use Rattle.finishing.specs.declared.Stepped.{Stepped}
-use Rattle.finishing.specs.declared.Stepped.the-variants.{Done, Refused}
-
--- the answer, and the words left
-pub record Left : Type 0 where
-  pub answer : Stepped
-  pub words : List ℕ
-
-abbrev pub left : Stepped → List ℕ → Left
-left a w = record { answer = a; words = w }
+use Rattle.audit.specs.declared.Reply.{Reply}
+use Rattle.audit.specs.declared.Reply.the-variants.{Done, Refused}
 
 -- which of the table's rows each answer is: carried out, 10, 12. ("12 precedes it in a step": `answerS` has that order)
-abbrev pub steppedAs : Answer → Stepped
+abbrev pub steppedAs : Answer → Reply
 steppedAs ok = Done
 steppedAs full = Refused Full
 steppedAs outOfTurn = Refused OutOfTurn

@@ -12,7 +12,7 @@ ghost use lib.ListN.{length};
 ghost use Rattle.store.specs.Words.{view};
 ghost use Rattle.store.specs.Good.{SoundWords};
 ghost use Rattle.paths.specs.Wrote.{buildPaths64};
-ghost use Rattle.finishing.specs.Opened.{OpeningLeft};
+ghost use Rattle.finishing.specs.Start.{Start};
 ghost use Rattle.finishing.specs.Finish.{finishRings};
 ghost use Rattle.finishing.specs.InOneCall.{finished, refused, afterWriting, afterSteps, finishOf};
 
@@ -39,7 +39,7 @@ fn write_finished(work: &mut [u32], tray: &mut [u8]) -> Written
 
 // Every ring stepped until it is done, in rising record order, and then the paths.
 fn finish_opened(work: &mut [u32], tray: &mut [u8]) -> Written
-    requires { ⌜ OpeningLeft (now work) ⌝ }
+    requires { ⌜ Start (now work) ⌝ }
     ensures { λ r. ⌜ finished r (now (work .exit)) (now (tray .exit)) ≡ afterSteps (finishRings (now (work .entry))) (now (tray .entry)) ⌝ }
 {
     let e = finish_records(work);

@@ -1,6 +1,7 @@
 // The public entry points: opening, a step, and writing out. No function of this file that is `pub` has a `requires`.
 pub mod finish;
 
+use audit::Reply;
 use audit::Verdict;
 use audit::handed;
 use job::refusal::Refusal;
@@ -17,14 +18,9 @@ ghost use Rattle.audit.specs.declared.Verdict.the-variants.{Passed};
 ghost use Rattle.steps.specs.Code.{answerIs};
 ghost use Rattle.paths.specs.Wrote.{wrote};
 ghost use Rattle.opening.specs.Open.{end, openOf};
-ghost use Rattle.finishing.specs.Step.{left, steppedAs, stepBy, stepOf};
+ghost use Rattle.audit.specs.Left.{left};
+ghost use Rattle.finishing.specs.Step.{steppedAs, stepBy, stepOf};
 ghost use Rattle.finishing.specs.Write.{writeBy, writeOf};
-
-// What a step answers: carried out, or a refusal.
-pub enum Stepped {
-    Done,
-    Refused(Refusal),
-}
 
 // ---- opening
 
@@ -37,18 +33,18 @@ pub fn open(bytes: &[u8], work: &mut [u32]) -> Opened
 
 // ---- a step
 
-fn answered(a: Answer) -> Stepped
+fn answered(a: Answer) -> Reply
     ensures { λ r. ⌜ r ≡ steppedAs (answerIs a) ⌝ }
 {
     match a {
-        Answer::Ok => Stepped::Done,
-        Answer::Full => Stepped::Refused(Refusal::Full),
-        Answer::OutOfTurn => Stepped::Refused(Refusal::OutOfTurn),
+        Answer::Ok => Reply::Done,
+        Answer::Full => Reply::Refused(Refusal::Full),
+        Answer::OutOfTurn => Reply::Refused(Refusal::OutOfTurn),
     }
 }
 
 // A step on a work space that passed the tests.
-fn step_tested(work: &mut [u32], i: usize) -> Stepped
+fn step_tested(work: &mut [u32], i: usize) -> Reply
     requires { ⌜ SoundWords (now work) ⌝ }
     ensures { λ r. ⌜ left r (now (work .exit)) ≡ stepBy Passed (now (work .entry)) i ⌝ }
 {
@@ -57,7 +53,7 @@ fn step_tested(work: &mut [u32], i: usize) -> Stepped
 }
 
 // A step on a record number: its answer, and every word left.
-pub fn step(work: &mut [u32], number: u32) -> Stepped
+pub fn step(work: &mut [u32], number: u32) -> Reply
     ensures { λ r. ⌜ left r (now (work .exit)) ≡ stepOf (now (work .entry)) number ⌝ }
 {
     let verdict = handed(work);
@@ -66,7 +62,7 @@ pub fn step(work: &mut [u32], number: u32) -> Stepped
             return step_tested(work, number as usize);
         }
         Verdict::Refused(r) => {
-            return Stepped::Refused(r);
+            return Reply::Refused(r);
         }
     }
 }

@@ -21,7 +21,7 @@ use Rattle.paths.specs.Wrote.{wrote, buildPaths64}
 use Rattle.opening.specs.declared.open.Opened.the-variants.{Accepted}
 use Rattle.opening.specs.declared.open.Opened.the-variants as opened
 use Rattle.opening.specs.Open.{End, end, openOf}
-use Rattle.finishing.specs.Opened.{OpeningLeft}
+use Rattle.finishing.specs.Start.{Start}
 use Rattle.finishing.specs.Finish.{finishRings}
 use Rattle.finishing.specs.InOneCall.{afterWriting, afterSteps, afterOpening, finishOf}
 use Rattle.finishing.proofs.InOneCall.{done-ready, opening-left}
@@ -44,7 +44,7 @@ module _ (rate : Rate) (t : List ℕ) where
   after-writing w s (Paths c o) u e = at-rate rate (reverseSolution (view w)) c o w u s e
   after-writing w s (Refused x) u e = refusal-le (numberOf x)
 
-  after-steps : (w : List ℕ) → OpeningLeft w → (r : RingsEnd) → finishRings w ≡ r → length (listedFrom rate (afterSteps r t)) ≤ TEXT
+  after-steps : (w : List ℕ) → Start w → (r : RingsEnd) → finishRings w ≡ r → length (listedFrom rate (afterSteps r t)) ≤ TEXT
   after-steps w l (ringsDone w₁) e = after-writing w₁ (done-ready w w₁ l e .sound) (buildPaths64 (view w₁) t .answer) (buildPaths64 (view w₁) t .tray) refl
   after-steps w l (ringsFull w₁) e = refusal-le 10
 

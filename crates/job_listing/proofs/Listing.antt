@@ -23,7 +23,7 @@ use Rattle.paths.specs.Wrote.{Wrote, wrote, buildPaths64}
 use Rattle.opening.specs.declared.open.Opened.the-variants.{Accepted}
 use Rattle.opening.specs.declared.open.Opened.the-variants as opened
 use Rattle.opening.specs.Open.{End, end, openOf}
-use Rattle.finishing.specs.Opened.{OpeningLeft}
+use Rattle.finishing.specs.Start.{Start}
 use Rattle.finishing.specs.Finish.{finishRings}
 use Rattle.finishing.specs.InOneCall.{Finished, finished, afterWriting, afterSteps, afterOpening, finishOf}
 use Rattle.finishing.proofs.InOneCall.{done-ready, opening-left}
@@ -59,7 +59,7 @@ module _ (c o : ℕ) (w′ t′ t : List ℕ) where
           subst (λ (u : List ℕ). From c o u t′) (sym (ap (λ (z : Finished). z .words) g)) (record { ready = d; before = t; is = y ∙ sym h })
       go (Refused x) f g = never c o x _ _ _ _ g
 
-  after-steps : (w : List ℕ) → OpeningLeft w → (r : RingsEnd) → finishRings w ≡ r → finished (Paths c o) w′ t′ ≡ afterSteps r t → From c o w′ t′
+  after-steps : (w : List ℕ) → Start w → (r : RingsEnd) → finishRings w ≡ r → finished (Paths c o) w′ t′ ≡ afterSteps r t → From c o w′ t′
   after-steps w l (ringsDone w₁) h e = after-writing w₁ (done-ready w w₁ l h) (buildPaths64 (view w₁) t) refl e
   after-steps w l (ringsFull w₁) h e = never c o _ _ _ _ _ e
 

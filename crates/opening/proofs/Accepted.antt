@@ -16,7 +16,6 @@ use Rattle.store.specs.Words.{Store, view}
 use Rattle.store.specs.Named.{recordsOf}
 use Rattle.store.specs.Sound.{recs, ringAt, isOpen}
 use Rattle.audit.specs.Tests.{anyBelow}
-use Rattle.audit.proofs.Agreeing.{sound-passed}
 use Rattle.audit.proofs.Saying.{none-of}
 use Rattle.reading.specs.declared.fill.Outcome.the-variants as outcome
 use Rattle.reading.specs.Fill as fill
@@ -51,7 +50,6 @@ started w r =
     record {
       ready = start-ready w r;
       sound = start-sound w r;
-      tests = sound-passed (startRings w) (start-sound w r);
       fresh = start-fresh w r;
       marks = λ i h. b .marks i (omega (arith, recs-same (view w) (view (startRings w)) b));
       present = λ i h. b .presents i (omega (arith, recs-same (view w) (view (startRings w)) b)) ∙ sym (first-same (view w) (view (startRings w)) b i);

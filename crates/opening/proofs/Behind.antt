@@ -7,7 +7,7 @@ use mathlib.Core.List.{List, [], _∷_, _++_, map, append-assoc}
 use native.Mathlib.Omega.{arith}
 use lib.Dec.{ltb, eqb}
 use lib.ListN.{length, getD, set, take, drop, replicate, length-append, length-drop, length-replicate, replicate-append-replicate, List·getD-append}
-use lib.Seq.{drop-set-lt, drop-at, drop-drop, getD-drop}
+use lib.Seq.{drop-set-lt, drop-at, getD-drop}
 use borrow.Author.Tests.{ltb-true, ltb-false, eqb-true, eqb-false}
 use Rattle.job.specs.Limits as limit
 use Rattle.job.specs.Field.{fieldOf}
@@ -32,6 +32,7 @@ use Rattle.store.specs.declared.points.Room.the-variants as room
 use Rattle.store.specs.Primitive.{Taken, taken, afterWrites, beforeWrites, duplicateOp}
 use Rattle.store.specs.Beside.{Beside}
 use Rattle.store.proofs.Storing.{ends}
+use Rattle.audit.proofs.Handing.{usable-handed}
 use Rattle.reading.specs.declared.fill.Outcome.the-variants as outcome
 use Rattle.reading.specs.Fill as fill
 use Rattle.reading.specs.Read.{withCounts, readOf}
@@ -57,31 +58,32 @@ use Rattle.opening.specs.declared.open.Opened.{Opened}
 use Rattle.opening.specs.declared.open.Opened.the-variants.{Accepted, Refused}
 use Rattle.opening.specs.Start.{startWrites, startRing, startTo, startRings}
 use Rattle.opening.specs.Open.{JOIN-POINTS, End, end, afterJoins, afterSegments, afterRows, stagesOf, settled, cleared, openOf}
+use Rattle.opening.specs.After.{OpenedOver}
 use Rattle.opening.proofs.Accepted.{after-opening}
 use Rattle.opening.proofs.Passing.{converting, may-join, made-few}
 use Rattle.opening.proofs.Staging.{cleared-long}
 
 -- the words behind the live block are `rest`
 module _ (rest : List ℕ) where
-  abbrev Behind : List ℕ → Type 0
-  Behind w = drop BLOCK w ≡ rest
+  abbrev RestSame : List ℕ → Type 0
+  RestSame w = drop BLOCK w ≡ rest
 
   -- ---- writes
 
-  put-behind : (f : Field) (w : List ℕ) (i v : ℕ) → i < size f → Behind w → Behind (put f w i v)
+  put-behind : (f : Field) (w : List ℕ) (i v : ℕ) → i < size f → RestSame w → RestSame (put f w i v)
   unfolding put
   put-behind f w i v h z = drop-set-lt BLOCK w (base f + i) v (omega (arith, ends f i h)) ∙ z
 
-  pub writes-behind : (w : List ℕ) (xs : List Write) → Within xs → Behind w → Behind (onWords w xs)
+  pub writes-behind : (w : List ℕ) (xs : List Write) → Within xs → RestSame w → RestSame (onWords w xs)
   writes-behind w [] h z = z
   writes-behind w (x ∷ xs) h z = writes-behind (put (x .to) w (x .at) (x .is)) xs (h .1) (put-behind (x .to) w (x .at) (x .is) (h .0) z)
 
   -- ---- reading: a field goes to a place below its limit
 
   abbrev FilledBehind : fill.ReadEnd → Type 0
-  FilledBehind (fill.end o w ss js) = Behind w
+  FilledBehind (fill.end o w ss js) = RestSame w
 
-  module _ (j : Job) (w ss js : List ℕ) (z : Behind w) where
+  module _ (j : Job) (w ss js : List ℕ) (z : RestSame w) where
     placed-behind : (f : job.Field) (n : ℕ) → Room f j → FilledBehind (fill.placed f n j w ss js)
     placed-behind (Settings b) n h = z
     placed-behind (Point x y nx pv r d) n h =
@@ -99,20 +101,20 @@ module _ (rest : List ℕ) where
     unfolding fill.turnOf
     turn-behind bytes = taken-behind (drop (j .at) bytes) (fieldOf j (drop (j .at) bytes)) refl
 
-  run-behind : (k : ℕ) (bytes : List ℕ) (j : Job) (w ss js : List ℕ) → Behind w → FilledBehind (fill.run k bytes j w ss js)
+  run-behind : (k : ℕ) (bytes : List ℕ) (j : Job) (w ss js : List ℕ) → RestSame w → FilledBehind (fill.run k bytes j w ss js)
   unfolding fill.run
   run-behind zero bytes j w ss js z = z
   run-behind (suc k) bytes j w ss js z = by (ltb (j .at) (length bytes)) (fill.turnOf bytes j w ss js) (turn-behind j w ss js z bytes) (λ m u us ls q. run-behind k bytes m u us ls q)
     where
-      on : (T : fill.ReadEnd) → FilledBehind T → ((m : Job) (u us ls : List ℕ) → Behind u → FilledBehind (fill.run k bytes m u us ls)) → FilledBehind (fill.follow (fill.run k bytes) T)
+      on : (T : fill.ReadEnd) → FilledBehind T → ((m : Job) (u us ls : List ℕ) → RestSame u → FilledBehind (fill.run k bytes m u us ls)) → FilledBehind (fill.follow (fill.run k bytes) T)
       on (fill.end (outcome.Ok m) u us ls) q f = f m u us ls q
       on (fill.end (outcome.Refused x) u us ls) q f = q
 
-      by : (t : Bool) (T : fill.ReadEnd) → FilledBehind T → ((m : Job) (u us ls : List ℕ) → Behind u → FilledBehind (fill.run k bytes m u us ls)) → FilledBehind (cond t (fill.follow (fill.run k bytes) T) (fill.end (outcome.Ok j) w ss js))
+      by : (t : Bool) (T : fill.ReadEnd) → FilledBehind T → ((m : Job) (u us ls : List ℕ) → RestSame u → FilledBehind (fill.run k bytes m u us ls)) → FilledBehind (cond t (fill.follow (fill.run k bytes) T) (fill.end (outcome.Ok j) w ss js))
       by true T q f = on T q f
       by false T q f = z
 
-  module _ (bytes w ss js : List ℕ) (z : Behind w) where
+  module _ (bytes w ss js : List ℕ) (z : RestSame w) where
     fill-behind : FilledBehind (fill.fillOf bytes w ss js)
     unfolding fill.fillOf
     fill-behind = by (eqb (length bytes) 0)
@@ -133,15 +135,15 @@ module _ (rest : List ℕ) where
   -- ---- the segments: a copy goes to the next free place, between two points
 
   abbrev TakenBehind : Taken → Type 0
-  TakenBehind (taken r w) = Behind w
+  TakenBehind (taken r w) = RestSame w
 
   abbrev MadeBehind : Made → Type 0
-  MadeBehind (made r w js) = Behind w
+  MadeBehind (made r w js) = RestSame w
 
   abbrev OutBehind : Out → Type 0
-  OutBehind (out r w ls js) = Behind w
+  OutBehind (out r w ls js) = RestSame w
 
-  double-behind : (w : List ℕ) (p : ℕ) (after : Bool) → need.Point w p → Behind w → TakenBehind (duplicateOp w p after)
+  double-behind : (w : List ℕ) (p : ℕ) (after : Bool) → need.Point w p → RestSame w → TakenBehind (duplicateOp w p after)
   unfolding duplicateOp
   double-behind w p after t z = go (ltb (pointsOf w) limit.POINTS) after refl
     where
@@ -157,7 +159,7 @@ module _ (rest : List ℕ) where
           writes-behind w (beforeWrites (view w) p) (omega arith, (h, (h, (h, (h, (h, (h, (b .prev, (b .here, tt))))))))) z
       go false s e = z
 
-  make-behind : (w js : List ℕ) (m a b : ℕ) → Making w js m a b → Behind w → MadeBehind (makeJoin w js m a b)
+  make-behind : (w js : List ℕ) (m a b : ℕ) → Making w js m a b → RestSame w → MadeBehind (makeJoin w js m a b)
   unfolding makeJoin
   make-behind w js m a b t z = go (duplicateOp w a true) (doubles w a true p) (double-behind w a true p z)
     where
@@ -172,7 +174,7 @@ module _ (rest : List ℕ) where
       go (taken (room.At k) x) g q = next k (duplicateOp x b false) (double-behind x b false (record { ready = g .keeps .ready; low = omega (arith, g .keeps .more, t .two) }) q)
       go (taken room.Full x) g q = q
 
-  pair-behind : (w ls rs fs js : List ℕ) (m i j : ℕ) → PairAt w ls rs fs js m i j → Behind w → OutBehind (pairOf rs fs js i j w ls m)
+  pair-behind : (w ls rs fs js : List ℕ) (m i j : ℕ) → PairAt w ls rs fs js m i j → RestSame w → OutBehind (pairOf rs fs js i j w ls m)
   unfolding pairOf movedPair joinPair
   pair-behind w ls rs fs js m i j t z = go (apartOf w ls rs fs i j) refl
     where
@@ -189,33 +191,33 @@ module _ (rest : List ℕ) where
       go false e = side (pair-overlaps w ls rs fs js m i j t e) (eqb (getD fs i 0) 1)
 
   after-behind : (rs fs : List ℕ) (g : List ℕ → List ℕ → List ℕ → ℕ → Out) (c : Out) → PairingOf rs fs c → OutBehind c
-      → ((x ls js : List ℕ) (k : ℕ) → Pairing x ls rs fs js k → Behind x → OutBehind (g x ls js k)) → OutBehind (andThen g c)
+      → ((x ls js : List ℕ) (k : ℕ) → Pairing x ls rs fs js k → RestSame x → OutBehind (g x ls js k)) → OutBehind (andThen g c)
   after-behind rs fs g (out (converted.Joins k) x ls js) p q f = f x ls js k p q
   after-behind rs fs g (out converted.Full x ls js) p q f = q
 
-  inner-behind : (f : ℕ) (rs fs : List ℕ) (i j : ℕ) (w ls js : List ℕ) (m : ℕ) → Pairing w ls rs fs js m → getD rs i 0 ≢ NONE → i < j → j + f ≡ limit.SEGMENTS → Behind w → OutBehind (innerFrom f rs fs i j w ls js m)
+  inner-behind : (f : ℕ) (rs fs : List ℕ) (i j : ℕ) (w ls js : List ℕ) (m : ℕ) → Pairing w ls rs fs js m → getD rs i 0 ≢ NONE → i < j → j + f ≡ limit.SEGMENTS → RestSame w → OutBehind (innerFrom f rs fs i j w ls js m)
   unfolding innerFrom
   inner-behind zero rs fs i j w ls js m p v b e z = z
   inner-behind (suc f) rs fs i j w ls js m p v b e z = go (eqb (getD rs j 0) NONE) refl (λ x ls′ js′ k q u. inner-behind f rs fs i (j + 1) x ls′ js′ k q v (omega arith) (omega arith) u)
     where
-      go : (y : Bool) → eqb (getD rs j 0) NONE ≡ y → ((x ls′ js′ : List ℕ) (k : ℕ) → Pairing x ls′ rs fs js′ k → Behind x → OutBehind (innerFrom f rs fs i (j + 1) x ls′ js′ k)) → OutBehind (cond y (out (converted.Joins m) w ls js) (andThen (innerFrom f rs fs i (j + 1)) (pairOf rs fs js i j w ls m)))
+      go : (y : Bool) → eqb (getD rs j 0) NONE ≡ y → ((x ls′ js′ : List ℕ) (k : ℕ) → Pairing x ls′ rs fs js′ k → RestSame x → OutBehind (innerFrom f rs fs i (j + 1) x ls′ js′ k)) → OutBehind (cond y (out (converted.Joins m) w ls js) (andThen (innerFrom f rs fs i (j + 1)) (pairOf rs fs js i j w ls m)))
       go true d r = z
       go false d r =
           let t : PairAt w ls rs fs js m i j = record { pairing = p; before = b; low = omega arith; one = v; two = eqb-false _ _ d } in
           after-behind rs fs (innerFrom f rs fs i (j + 1)) (pairOf rs fs js i j w ls m) (pair-kept w ls rs fs js m i j t) (pair-behind w ls rs fs js m i j t z) r
 
-  outer-behind : (f : ℕ) (rs fs : List ℕ) (i : ℕ) (w ls js : List ℕ) (m : ℕ) → Pairing w ls rs fs js m → i + f ≡ limit.SEGMENTS → Behind w → OutBehind (outerFrom f rs fs i w ls js m)
+  outer-behind : (f : ℕ) (rs fs : List ℕ) (i : ℕ) (w ls js : List ℕ) (m : ℕ) → Pairing w ls rs fs js m → i + f ≡ limit.SEGMENTS → RestSame w → OutBehind (outerFrom f rs fs i w ls js m)
   unfolding outerFrom
   outer-behind zero rs fs i w ls js m p e z = z
   outer-behind (suc f) rs fs i w ls js m p e z = go (eqb (getD rs i 0) NONE) refl (λ x ls′ js′ k q u. outer-behind f rs fs (i + 1) x ls′ js′ k q (omega arith) u)
     where
-      go : (y : Bool) → eqb (getD rs i 0) NONE ≡ y → ((x ls′ js′ : List ℕ) (k : ℕ) → Pairing x ls′ rs fs js′ k → Behind x → OutBehind (outerFrom f rs fs (i + 1) x ls′ js′ k)) → OutBehind (cond y (out (converted.Joins m) w ls js) (andThen (outerFrom f rs fs (i + 1)) (innerFrom f rs fs i (i + 1) w ls js m)))
+      go : (y : Bool) → eqb (getD rs i 0) NONE ≡ y → ((x ls′ js′ : List ℕ) (k : ℕ) → Pairing x ls′ rs fs js′ k → RestSame x → OutBehind (outerFrom f rs fs (i + 1) x ls′ js′ k)) → OutBehind (cond y (out (converted.Joins m) w ls js) (andThen (outerFrom f rs fs (i + 1)) (innerFrom f rs fs i (i + 1) w ls js m)))
       go true d r = z
       go false d r =
           after-behind rs fs (outerFrom f rs fs (i + 1)) (innerFrom f rs fs i (i + 1) w ls js m) (inner-kept f rs fs i (i + 1) w ls js m p (eqb-false _ _ d) (omega arith) (omega arith))
           (inner-behind f rs fs i (i + 1) w ls js m p (eqb-false _ _ d) (omega arith) (omega arith) z) r
 
-  convert-behind : (w ps : List ℕ) (n : ℕ) (js : List ℕ) (m : ℕ) → Converting w ps n js m → Behind w → MadeBehind (convertHorzSegsToJoins w n ps js m)
+  convert-behind : (w ps : List ℕ) (n : ℕ) (js : List ℕ) (m : ℕ) → Converting w ps n js m → RestSame w → MadeBehind (convertHorzSegsToJoins w n ps js m)
   unfolding convertHorzSegsToJoins pairsOf
   convert-behind w ps n js m t z = go (outerFrom limit.SEGMENTS rs fs 0 w ls js m) (outer-behind limit.SEGMENTS rs fs 0 w ls js m (converting-pairing w ps n js m t ls rs fs refl) refl z)
     where
@@ -233,15 +235,15 @@ module _ (rest : List ℕ) where
 
   -- ---- the joins: their points are points, and their records are records
 
-  relink-behind : (w : List ℕ) (a c : ℕ) → Four w a c → Behind w → Behind (relinkOf w a c)
+  relink-behind : (w : List ℕ) (a c : ℕ) → Four w a c → RestSame w → RestSame (relinkOf w a c)
   unfolding relinkOf
   relink-behind w a c t z = writes-behind w (relinkWrites (view w) a c) (t .one, (t .two, (t .next, (t .prev, tt)))) z
 
-  made-behind : (w : List ℕ) (k n i : ℕ) → k < limit.RECORDS → Behind w → Behind (newOutRec w k n i)
+  made-behind : (w : List ℕ) (k n i : ℕ) → k < limit.RECORDS → RestSame w → RestSame (newOutRec w k n i)
   unfolding newOutRec
   made-behind w k n i h z = writes-behind w (madeWrites k n i) (omega arith, (h, (h, (h, tt)))) z
 
-  name-behind : (k : ℕ) (w l : List ℕ) → All (λ x. x < limit.POINTS) l → Behind w → Behind (nameAll w k l)
+  name-behind : (k : ℕ) (w l : List ℕ) → All (λ x. x < limit.POINTS) l → RestSame w → RestSame (nameAll w k l)
   unfolding nameAll
   name-behind k w [] h z = z
   name-behind k w (x ∷ l) h z = name-behind k (setRec w x k) l (h .1) (put-behind (pt REC) w x k (h .0) z)
@@ -256,19 +258,19 @@ module _ (rest : List ℕ) where
           subst (All (λ x. x < limit.POINTS)) (sym (ring-is (nextOf w) (prevOf w) limit.POINTS (firstOf w k) (t .others) (omega arith) (t .whole)))
           (all-in (λ x. x < limit.POINTS) (firstOf w k ∷ t .others) (t .whole .below))
 
-  fix-behind : (w : List ℕ) (k : ℕ) → Ringed w k → Behind w → Behind (fixOutrecPts w k)
+  fix-behind : (w : List ℕ) (k : ℕ) → Ringed w k → RestSame w → RestSame (fixOutrecPts w k)
   unfolding fixOutrecPts
   fix-behind w k t z = name-behind k w (ringAt (view w) k) (ring-low w k t) z
 
-  move-first-behind : (w : List ℕ) (i k a : ℕ) → i < limit.RECORDS → a < limit.POINTS → Behind w → Behind (moveFirst w i k a)
+  move-first-behind : (w : List ℕ) (i k a : ℕ) → i < limit.RECORDS → a < limit.POINTS → RestSame w → RestSame (moveFirst w i k a)
   unfolding moveFirst
   move-first-behind w i k a h l z = go (eqb (recOf w (firstOf w i)) k)
     where
-      go : (b : Bool) → Behind (cond b (onWords w (firstWrites i a)) w)
+      go : (b : Bool) → RestSame (cond b (onWords w (firstWrites i a)) w)
       go true = writes-behind w (firstWrites i a) (h, (l, tt)) z
       go false = z
 
-  split-ring-behind : (w : List ℕ) (a c i k : ℕ) → Unknotted w a c i i → k ≡ recordsOf w → k < limit.RECORDS → Behind w → Behind (splitRing w a c i k)
+  split-ring-behind : (w : List ℕ) (a c i k : ℕ) → Unknotted w a c i i → k ≡ recordsOf w → k < limit.RECORDS → RestSame w → RestSame (splitRing w a c i k)
   unfolding splitRing
   split-ring-behind w a c i k t e h z =
       let x : List ℕ = relinkOf w a c in
@@ -277,42 +279,42 @@ module _ (rest : List ℕ) where
       move-first-behind (fixOutrecPts y k) i k a (pair-low-one w a c i i t) (f .one)
       (fix-behind y k (split-ring-new w x y a c i k (nextOf w a) t e h refl refl refl) (made-behind x k (nextOf w a) i h (relink-behind w a c f z)))
 
-  split-behind : (w : List ℕ) (a c i : ℕ) → Unknotted w a c i i → Behind w → Behind (words (splitOf w a c i))
+  split-behind : (w : List ℕ) (a c i : ℕ) → Unknotted w a c i i → RestSame w → RestSame (words (splitOf w a c i))
   unfolding splitOf
   split-behind w a c i t z = go (ltb (recordsOf w) limit.RECORDS) refl
     where
-      go : (b : Bool) → ltb (recordsOf w) limit.RECORDS ≡ b → Behind (words (cond b (join.end joined.Done (splitRing w a c i (recordsOf w))) (join.end joined.Full w)))
+      go : (b : Bool) → ltb (recordsOf w) limit.RECORDS ≡ b → RestSame (words (cond b (join.end joined.Done (splitRing w a c i (recordsOf w))) (join.end joined.Full w)))
       go true e = split-ring-behind w a c i (recordsOf w) t refl (ltb-true _ _ e) z
       go false e = z
 
-  merge-behind : (w : List ℕ) (a c i j : ℕ) → Unknotted w a c i j → Behind w → Behind (mergeOf w a c i j)
+  merge-behind : (w : List ℕ) (a c i j : ℕ) → Unknotted w a c i j → RestSame w → RestSame (mergeOf w a c i j)
   unfolding mergeOf
   merge-behind w a c i j t z =
       let h = pair-low-two w a c i j t in
       writes-behind (relinkOf w a c) (emptyWrites j i) (h, (h, (h, (h, tt)))) (relink-behind w a c (pair-four w a c i j t) z)
 
-  by-behind : (w : List ℕ) (a c i j : ℕ) → Unknotted w a c i j → Behind w → Behind (words (byRecords w a c i j))
+  by-behind : (w : List ℕ) (a c i j : ℕ) → Unknotted w a c i j → RestSame w → RestSame (words (byRecords w a c i j))
   unfolding byRecords
   by-behind w a c i j t z = go (eqb i j) refl
     where
-      go : (b : Bool) → eqb i j ≡ b → Behind (words (cond b (splitOf w a c i) (join.end joined.Done (mergeOf w a c i j))))
+      go : (b : Bool) → eqb i j ≡ b → RestSame (words (cond b (splitOf w a c i) (join.end joined.Done (mergeOf w a c i j))))
       go true e = split-behind w a c i (pair-same w a c i j t (eqb-true i j e)) z
       go false e = merge-behind w a c i j t z
 
-  join-behind : (w : List ℕ) (a c : ℕ) → Points w a c → Behind w → Behind (words (joinOf w a c))
+  join-behind : (w : List ℕ) (a c : ℕ) → Points w a c → RestSame w → RestSame (words (joinOf w a c))
   unfolding joinOf
   join-behind w a c t z = go (eqb (nextOf w a) c) refl
     where
-      go : (b : Bool) → eqb (nextOf w a) c ≡ b → Behind (words (cond b (join.end joined.Knot w) (byRecords w a c (homeOf w a) (homeOf w c))))
+      go : (b : Bool) → eqb (nextOf w a) c ≡ b → RestSame (words (cond b (join.end joined.Knot w) (byRecords w a c (homeOf w a) (homeOf w c))))
       go true e = z
       go false e = by-behind w a c (homeOf w a) (homeOf w c) (points-pair w a c t (nextOf w a) (homeOf w a) (homeOf w c) refl (eqb-false (nextOf w a) c e) refl refl) z
 
-  follow-behind : (g : List ℕ → join.JoinEnd) (w : List ℕ) (e : join.JoinEnd) → Still w (words e) → Behind (words e) → ((x : List ℕ) → Still w x → Behind x → Behind (words (g x))) → Behind (words (join.follow g e))
+  follow-behind : (g : List ℕ → join.JoinEnd) (w : List ℕ) (e : join.JoinEnd) → Still w (words e) → RestSame (words e) → ((x : List ℕ) → Still w x → RestSame x → RestSame (words (g x))) → RestSame (words (join.follow g e))
   follow-behind g w (join.end joined.Done x) s z f = f x s z
   follow-behind g w (join.end joined.Knot x) s z f = z
   follow-behind g w (join.end joined.Full x) s z f = z
 
-  list-behind : (f i n : ℕ) (js w : List ℕ) → need.Joins w n js → i + f ≡ n → Behind w → Behind (words (joinsFrom f i js w))
+  list-behind : (f i n : ℕ) (js w : List ℕ) → need.Joins w n js → i + f ≡ n → RestSame w → RestSame (words (joinsFrom f i js w))
   unfolding joinsFrom
   list-behind zero i n js w t h z = z
   list-behind (suc f) i n js w t h z =
@@ -325,38 +327,38 @@ module _ (rest : List ℕ) where
 
   -- ---- rings at their start
 
-  start-behind : (w : List ℕ) (i : ℕ) → i ≤ limit.RECORDS → Behind w → Behind (startTo i w)
+  start-behind : (w : List ℕ) (i : ℕ) → i ≤ limit.RECORDS → RestSame w → RestSame (startTo i w)
   unfolding startTo startRing
   start-behind w zero h z = z
   start-behind w (suc i) h z =
       let l : i < limit.RECORDS = omega arith in
       writes-behind (startTo i w) (startWrites i (firstOf (startTo i w) i)) (l, (l, (l, (l, tt)))) (start-behind w i (omega arith) z)
 
-  started : (w : List ℕ) → recordsOf w ≤ limit.RECORDS → Behind w → Behind (startRings w)
+  started : (w : List ℕ) → recordsOf w ≤ limit.RECORDS → RestSame w → RestSame (startRings w)
   unfolding startRings
   started w h z = start-behind w (recordsOf w) h z
 
   -- ---- stage by stage
 
   abbrev EndBehind : End → Type 0
-  EndBehind (end a w) = Behind w
+  EndBehind (end a w) = RestSame w
 
-  by-joins : (k : ℕ) (js w : List ℕ) → need.Joins w k js → Behind w → EndBehind (afterJoins (processHorzJoins k js w))
+  by-joins : (k : ℕ) (js w : List ℕ) → need.Joins w k js → RestSame w → EndBehind (afterJoins (processHorzJoins k js w))
   by-joins k js w g z = go (processHorzJoins k js w) refl (list-behind k 0 k js w g (omega arith) z)
     where
-      go : (T : join.JoinEnd) → T ≡ processHorzJoins k js w → Behind (words T) → EndBehind (afterJoins T)
+      go : (T : join.JoinEnd) → T ≡ processHorzJoins k js w → RestSame (words T) → EndBehind (afterJoins T)
       go (join.end joined.Done x) e q = started x (made-few k js w x joined.Done g e) q
       go (join.end joined.Knot x) e q = q
       go (join.end joined.Full x) e q = q
 
-  by-segments : (w ss : List ℕ) (m : ℕ) (js : List ℕ) (n : ℕ) → Converting w ss m js n → Behind w → EndBehind (afterSegments (convertHorzSegsToJoins w m ss js n))
+  by-segments : (w ss : List ℕ) (m : ℕ) (js : List ℕ) (n : ℕ) → Converting w ss m js n → RestSame w → EndBehind (afterSegments (convertHorzSegsToJoins w m ss js n))
   by-segments w ss m js n g z = go (convertHorzSegsToJoins w m ss js n) refl (convert-behind w ss m js n g z)
     where
       go : (T : Made) → T ≡ convertHorzSegsToJoins w m ss js n → MadeBehind T → EndBehind (afterSegments T)
       go (made (converted.Joins k) x ks) e q = by-joins k ks x (may-join w ss m js n (converted.Joins k) k x ks g e refl) q
       go (made converted.Full x ks) e q = q
 
-  by-rows : (bytes w : List ℕ) → BLOCK ≤ length w → Behind w → EndBehind (stagesOf bytes w)
+  by-rows : (bytes w : List ℕ) → BLOCK ≤ length w → RestSame w → EndBehind (stagesOf bytes w)
   unfolding stagesOf
   by-rows bytes w l z = go (acceptOf bytes w (replicate limit.SEGMENTS 0) (replicate JOIN-POINTS 0)) refl (accept-behind bytes w (replicate limit.SEGMENTS 0) (replicate JOIN-POINTS 0) z)
     where
@@ -366,8 +368,8 @@ module _ (rest : List ℕ) where
 
   -- ---- opening
 
-  settles : (n : ℕ) (T : End) (w : List ℕ) → EndBehind T → settled n T ≡ end Accepted w → Behind w
-  settles n (end Accepted u) w q e = let f : u ≡ w = cc in subst Behind f q
+  settles : (n : ℕ) (T : End) (w : List ℕ) → EndBehind T → settled n T ≡ end Accepted w → RestSame w
+  settles n (end Accepted u) w q e = let f : u ≡ w = cc in subst RestSame f q
   settles n (end (Refused r) u) w q e = absurd (let z : _≡_ {A = ℕ} 0 1 = cc in omega arith)
 
 -- THE LAW, of an accepted job
@@ -388,8 +390,8 @@ module _ (bytes lent w : List ℕ) (e : openOf bytes lent ≡ end Accepted w) wh
       by true h f = absurd (let z : _≡_ {A = ℕ} 0 1 = cc in omega arith)
       by false h f = ltb-false (length lent) LENGTH h
 
-  rest-is : drop BLOCK w ≡ replicate STATES 0 ++ drop KEPT lent
-  rest-is =
+  pub open-rest : drop BLOCK w ≡ replicate STATES 0 ++ drop KEPT lent
+  open-rest =
       open-behind
       ∙ ap (λ (l : List ℕ). drop BLOCK (l ++ drop KEPT lent)) (sym (replicate-append-replicate {A = ℕ} BLOCK STATES 0))
       ∙ ap (drop BLOCK) (append-assoc (replicate BLOCK 0) (replicate STATES 0) (drop KEPT lent))
@@ -397,7 +399,7 @@ module _ (bytes lent w : List ℕ) (e : openOf bytes lent ≡ end Accepted w) wh
 
   pub open-length : length w ≡ length lent
   open-length =
-      let a : length w - BLOCK ≡ length (replicate {A = ℕ} STATES 0) + length (drop KEPT lent) = sym (length-drop BLOCK w) ∙ ap length rest-is ∙ length-append (replicate STATES 0) (drop KEPT lent) in
+      let a : length w - BLOCK ≡ length (replicate {A = ℕ} STATES 0) + length (drop KEPT lent) = sym (length-drop BLOCK w) ∙ ap length open-rest ∙ length-append (replicate STATES 0) (drop KEPT lent) in
       omega (arith, a, length-replicate {A = ℕ} STATES 0, length-drop KEPT lent, lent-long, after-opening w bytes lent e .ready .long)
 
   pub open-long : LENGTH ≤ length w
@@ -407,7 +409,7 @@ module _ (bytes lent w : List ℕ) (e : openOf bytes lent ≡ end Accepted w) wh
   pub open-free : (p : ℕ) → p < STATES → nameAt w p ≡ 0
   open-free p l =
       sym (getD-drop BLOCK w p 0)
-      ∙ ap (λ (v : List ℕ). getD v p 0) rest-is
+      ∙ ap (λ (v : List ℕ). getD v p 0) open-rest
       ∙ List·getD-append (replicate STATES 0) (drop KEPT lent) 0 p (omega (arith, length-replicate {A = ℕ} STATES 0))
       ∙ none-kept p l
     where
@@ -421,6 +423,13 @@ module _ (bytes lent w : List ℕ) (e : openOf bytes lent ≡ end Accepted w) wh
   pub open-apart : Apart w
   open-apart = record { differ = λ p q l h n. absurd (let a = open-free p (omega arith) in let z : isName 0 ≡ true = sym (ap isName a) ∙ n in let y : _≡_ {A = ℕ} 0 1 = cc in omega arith) }
 
-  -- and the words behind the names are as found
-  pub open-found : drop KEPT w ≡ drop KEPT lent
-  open-found = sym (drop-drop STATES BLOCK w) ∙ ap (drop STATES) rest-is ∙ drop-at (replicate STATES 0) (drop KEPT lent) STATES (length-replicate {A = ℕ} STATES 0)
+  -- THE LAW, of every word
+  pub opened-over : OpenedOver lent w
+  opened-over =
+      record {
+        live = after-opening w bytes lent e;
+        long = open-length;
+        rest = open-rest;
+        no-name = λ p l. ap isName (open-free p l);
+        tests = usable-handed w (record { long = open-long; sound = after-opening w bytes lent e .sound; apart = open-apart });
+      }

@@ -2,31 +2,42 @@
 use Prim.Native.Nat.{ℕ, _≤_, _<_}
 use mathlib.Core.Path.{_≡_}
 use mathlib.Core.Bool.{true, false}
-use mathlib.Core.List.{List}
-use Rattle.store.specs.Field.{pt, rc, X, Y, Z, FLAGS, START}
+use mathlib.Core.List.{List, _++_}
+use lib.ListN.{length, drop, replicate}
+use Rattle.store.specs.Field.{pt, rc, X, Y, Z, FLAGS, START, BLOCK, STATES, KEPT}
 use Rattle.store.specs.Words.{Store, view}
 use Rattle.store.specs.Named.{progressOf, presentOf, firstOf, recordsOf}
 use Rattle.store.specs.Sound.{pts, recs, ringAt, isOpen}
 use Rattle.store.specs.Good.{Sound}
+use Rattle.store.specs.States.{isName, nameAt}
 use Rattle.audit.specs.declared.Verdict.the-variants as audit
-use Rattle.audit.specs.Tests.{testsOf}
+use Rattle.audit.specs.Handed.{handedOf}
 use Rattle.joins.specs.Resolved.{Ready}
 use Rattle.acts.specs.Opened.{Fresh}
 
--- of the work space that it leaves
+-- of the live block that it leaves
 pub record AfterOpening (w : List ℕ) : Type 0 where
   -- counts and coordinates within the limits, every point on one ring, each ring's points resolving to its own record
   pub ready : Ready w
   -- rings linked both ways, no two records sharing one
   pub sound : Sound (view w)
-  -- "a work space that came from opening .. passes all these tests"
-  pub tests : testsOf w ≡ audit.Passed
   -- "at its start, the validity test", cut from none
   pub fresh : (i : ℕ) → i < recordsOf w → Fresh (view w) i
   -- and of every record, with a ring or without: its mark, and "with its first point as present place", and as its start
   pub marks : (i : ℕ) → i < recordsOf w → progressOf w i ≡ 0
   pub present : (i : ℕ) → i < recordsOf w → presentOf w i ≡ firstOf w i
   pub starts : (i : ℕ) → i < recordsOf w → view w (rc START) i ≡ firstOf w i
+
+-- of every word, lent being the work space as it was lent
+pub record OpenedOver (lent w : List ℕ) : Type 0 where
+  pub live : AfterOpening w
+  pub long : length w ≡ length lent
+  -- behind the live block every place is free, and the copies are as found
+  pub rest : drop BLOCK w ≡ replicate STATES 0 ++ drop KEPT lent
+  -- "A newly opened job has no name kept, whatever the work space held before"
+  pub no-name : (p : ℕ) → p < STATES → isName (nameAt w p) ≡ false
+  -- "a work space that came from opening .. passes all these tests", the names' too
+  pub tests : handedOf w ≡ audit.Passed
 
 -- of the job's open rings, s being the store as the job was read and u as it is left: they are as given, point for point, and no record made since is open
 pub record OpenAsGiven (s u : Store) : Type 0 where

@@ -20,7 +20,7 @@ use Rattle.store.specs.Sound.{recs, ringless, ringAt, isOpen}
 use Rattle.store.specs.Value.{pointAt, ringPoints}
 use Rattle.store.proofs.Soundness.{first-on}
 use Rattle.finishing.specs.Run.{runOf}
-use Rattle.finishing.specs.Opened.{OpeningLeft}
+use Rattle.finishing.specs.Start.{Start}
 use Rattle.order.specs.Demand3.{fed}
 use Rattle.order.proofs.Theorem.{os, F₀, F, follows, left-at}
 
@@ -39,7 +39,7 @@ pub offcut-begins : (G : Geo Point) (R S : Ring Point) → machine G .cuts R ≡
 unfolding machine offcutRing
 offcut-begins G R S e = begins (actOf G R) R S e
 
-module _ (w : List ℕ) (o : OpeningLeft w) where
+module _ (w : List ℕ) (o : Start w) where
   -- an entry for each record
   pub count : (is : List ℕ) → length (F w o is .entries) ≡ recs (view (runOf w is))
   count is = follows w o is .rep .rep .in-step .records-are

@@ -1,10 +1,9 @@
--- Finishing in one call leaves the words behind the names as found: opening does, and a step leaves every word behind the live block.
+-- Finishing in one call leaves the names free and the words behind them as found: opening does, and a step leaves every word behind the live block.
 use Prim.Native.Nat.{ℕ, zero, suc, _≤_}
-use mathlib.Core.Path.{_≡_, refl, ap, _∙_, sym}
-use mathlib.Core.List.{List}
+use mathlib.Core.Path.{_≡_, refl, _∙_}
+use mathlib.Core.List.{List, _++_}
 use native.Mathlib.Omega.{arith}
-use lib.ListN.{length, drop}
-use lib.Seq.{drop-drop}
+use lib.ListN.{length, drop, replicate}
 use Rattle.job.specs.Limits.{POINTS, RECORDS}
 use Rattle.job.specs.declared.refusal.Refusal.{Refusal}
 use Rattle.lone.specs.Lone.{Geo}
@@ -28,7 +27,7 @@ use Rattle.turns.proofs.Ready.{laws}
 use Rattle.opening.specs.declared.open.Opened.the-variants.{Accepted, Refused}
 use Rattle.opening.specs.Open.{End, end, openOf}
 use Rattle.opening.proofs.Accepted.{after-opening}
-use Rattle.opening.proofs.Behind.{open-found}
+use Rattle.opening.proofs.Behind.{open-rest}
 use Rattle.finishing.specs.Finish.{finishRings}
 use Rattle.finishing.specs.InOneCall.{afterWriting, afterSteps, afterOpening, finishOf}
 use Rattle.finishing.proofs.Blocks.{step-behind}
@@ -87,13 +86,12 @@ module _ (c o : ℕ) where
   by-steps rest (ringsFull w) k t e = never _ e
 
 -- THE LAW
-pub finish-found : (bytes lent t : List ℕ) (c o : ℕ) → finishOf bytes lent t .answer ≡ written.Paths c o → drop KEPT (finishOf bytes lent t .words) ≡ drop KEPT lent
+pub finish-rest : (bytes lent t : List ℕ) (c o : ℕ) → finishOf bytes lent t .answer ≡ written.Paths c o → drop BLOCK (finishOf bytes lent t .words) ≡ replicate STATES 0 ++ drop KEPT lent
 unfolding finishOf
-finish-found bytes lent t c o e = go (openOf bytes lent) refl e
+finish-rest bytes lent t c o e = go (openOf bytes lent) refl e
   where
-    go : (T : End) → openOf bytes lent ≡ T → afterOpening T t .answer ≡ written.Paths c o → drop KEPT (afterOpening T t .words) ≡ drop KEPT lent
+    go : (T : End) → openOf bytes lent ≡ T → afterOpening T t .answer ≡ written.Paths c o → drop BLOCK (afterOpening T t .words) ≡ replicate STATES 0 ++ drop KEPT lent
     go (end Accepted w) f h =
         let a = after-opening w bytes lent f in
-        let r : drop BLOCK (afterSteps (finishRings w) t .words) ≡ drop BLOCK w = by-steps c o (drop BLOCK w) (finishRings w) (rings-clean (drop BLOCK w) w (record { long = a .ready .long; sound = a .sound; behind = refl })) t h in
-        sym (drop-drop STATES BLOCK (afterSteps (finishRings w) t .words)) ∙ ap (drop STATES) r ∙ drop-drop STATES BLOCK w ∙ open-found bytes lent w f
+        by-steps c o (drop BLOCK w) (finishRings w) (rings-clean (drop BLOCK w) w (record { long = a .ready .long; sound = a .sound; behind = refl })) t h ∙ open-rest bytes lent w f
     go (end (Refused x) w) f h = never c o x h

@@ -8,6 +8,8 @@ use native.Mathlib.Omega.{arith}
 use lib.ListN.{length}
 use borrow.Author.Tests.{le-leb, lt-leb}
 use Rattle.job.specs.Limits as limit
+use Rattle.audit.specs.declared.Reply.{Reply}
+use Rattle.audit.specs.Left.{left}
 use Rattle.rates.specs.declared.Rate.{Rate}
 use Rattle.rates.specs.declared.Rate.the-variants.{NoRate, Cents}
 use Rattle.paths.specs.declared.Written.{Written}
@@ -15,8 +17,6 @@ use Rattle.paths.specs.Tray.{tagOf}
 use Rattle.paths.specs.Wrote as paths
 use Rattle.opening.specs.declared.open.Opened.{Opened}
 use Rattle.opening.specs.Open.{end, openOf}
-use Rattle.finishing.specs.declared.Stepped.{Stepped}
-use Rattle.finishing.specs.Step as step
 use Rattle.finishing.specs.Step.{stepOf}
 use Rattle.finishing.specs.Write.{writeOf}
 use Rattle.finishing.specs.InOneCall as call
@@ -38,31 +38,29 @@ use Rattle.telling.specs.declared.Told.the-variants as telling
 use Rattle.telling.specs.Telling.{reasonOf}
 use Rattle.telling.specs.Within.{NumberWithin, ToldWithin}
 use Rattle.telling.proofs.Within.{told-within}
-use Rattle.states.specs.declared.Answer.{Answer}
-use Rattle.states.specs.Calls as states
 use Rattle.states.specs.Calls.{keepOf, goBackOf, dropOf}
-use Rattle.outline.specs.Calls.{openedNumber, steppedNumber, stateNumber, writtenNumber, listedBytes, rewrittenNumber, reasonWord, toldNumber, rateFrom, worked, wrote, finished, listing, asOpened, asStepped, asKept, asWritten, asFinished, asListed, asRewritten, openC, stepC, keepC, backC, dropC, writeC, finishC, listC, rewriteC, reasonC}
+use Rattle.outline.specs.Calls.{openedNumber, replyNumber, writtenNumber, listedBytes, rewrittenNumber, reasonWord, toldNumber, rateFrom, worked, wrote, finished, listing, asOpened, asReplied, asWritten, asFinished, asListed, asRewritten, openC, stepC, keepC, backC, dropC, writeC, finishC, listC, rewriteC, reasonC}
 
 pub as-opened : (bytes lent : List ℕ) (k : ℕ) (a : Opened) (w : List ℕ) → end a w ≡ openOf bytes lent → k ≡ openedNumber a → worked k w ≡ openC bytes lent
 unfolding openC
 as-opened bytes lent k a w e h = ap (λ (z : ℕ). worked z w) h ∙ ap asOpened e
 
-pub as-stepped : (v : List ℕ) (i k : ℕ) (a : Stepped) (w : List ℕ) → step.left a w ≡ stepOf v i → k ≡ steppedNumber a → worked k w ≡ stepC v i
+pub as-stepped : (v : List ℕ) (i k : ℕ) (a : Reply) (w : List ℕ) → left a w ≡ stepOf v i → k ≡ replyNumber a → worked k w ≡ stepC v i
 unfolding stepC
-as-stepped v i k a w e h = ap (λ (z : ℕ). worked z w) h ∙ ap asStepped e
+as-stepped v i k a w e h = ap (λ (z : ℕ). worked z w) h ∙ ap asReplied e
 
-module _ (v : List ℕ) (n k : ℕ) (a : Answer) (w : List ℕ) (h : k ≡ stateNumber a) where
-  pub as-kept : states.left a w ≡ keepOf v n → worked k w ≡ keepC v n
+module _ (v : List ℕ) (n k : ℕ) (a : Reply) (w : List ℕ) (h : k ≡ replyNumber a) where
+  pub as-kept : left a w ≡ keepOf v n → worked k w ≡ keepC v n
   unfolding keepC
-  as-kept e = ap (λ (z : ℕ). worked z w) h ∙ ap asKept e
+  as-kept e = ap (λ (z : ℕ). worked z w) h ∙ ap asReplied e
 
-  pub as-back : states.left a w ≡ goBackOf v n → worked k w ≡ backC v n
+  pub as-back : left a w ≡ goBackOf v n → worked k w ≡ backC v n
   unfolding backC
-  as-back e = ap (λ (z : ℕ). worked z w) h ∙ ap asKept e
+  as-back e = ap (λ (z : ℕ). worked z w) h ∙ ap asReplied e
 
-  pub as-dropped : states.left a w ≡ dropOf v n → worked k w ≡ dropC v n
+  pub as-dropped : left a w ≡ dropOf v n → worked k w ≡ dropC v n
   unfolding dropC
-  as-dropped e = ap (λ (z : ℕ). worked z w) h ∙ ap asKept e
+  as-dropped e = ap (λ (z : ℕ). worked z w) h ∙ ap asReplied e
 
 pub as-written : (w u : List ℕ) (k : ℕ) (a : Written) (t : List ℕ) → paths.wrote a t ≡ writeOf w u → k ≡ writtenNumber a → wrote k t ≡ writeC w u
 unfolding writeC

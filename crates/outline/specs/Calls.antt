@@ -7,6 +7,9 @@ use lib.ListN.{length}
 use Rattle.rates.specs.declared.Rate.{Rate}
 use Rattle.rates.specs.declared.Rate.the-variants.{NoRate, Cents}
 use Rattle.job.specs.Refusal.{numberOf}
+use Rattle.audit.specs.declared.Reply.{Reply}
+use Rattle.audit.specs.declared.Reply.the-variants as reply
+use Rattle.audit.specs.Left.{Left}
 use Rattle.paths.specs.declared.Written.{Written}
 use Rattle.paths.specs.declared.Written.the-variants as written
 use Rattle.paths.specs.Tray.{tagOf}
@@ -14,17 +17,11 @@ use Rattle.paths.specs.Wrote as paths
 use Rattle.opening.specs.declared.open.Opened.{Opened}
 use Rattle.opening.specs.declared.open.Opened.the-variants as opened
 use Rattle.opening.specs.Open.{End, end, openOf}
-use Rattle.finishing.specs.declared.Stepped.{Stepped}
-use Rattle.finishing.specs.declared.Stepped.the-variants as stepped
-use Rattle.states.specs.declared.Answer.{Answer}
-use Rattle.states.specs.declared.Answer.the-variants as answer
-use Rattle.states.specs.Calls as states
-use Rattle.states.specs.Calls.{keepOf, goBackOf, dropOf}
-use Rattle.finishing.specs.Step as step
 use Rattle.finishing.specs.Step.{stepOf}
 use Rattle.finishing.specs.Write.{writeOf}
 use Rattle.finishing.specs.InOneCall as call
 use Rattle.finishing.specs.InOneCall.{finishOf}
+use Rattle.states.specs.Calls.{keepOf, goBackOf, dropOf}
 use Rattle.listing.specs.declared.Listed.{Listed}
 use Rattle.listing.specs.declared.Listed.the-variants.{Bytes, NoRoom}
 use Rattle.listing.specs.Room.{TEXT}
@@ -45,13 +42,9 @@ abbrev pub openedNumber : Opened → ℕ
 openedNumber opened.Accepted = 0
 openedNumber (opened.Refused x) = numberOf x
 
-abbrev pub steppedNumber : Stepped → ℕ
-steppedNumber stepped.Done = 0
-steppedNumber (stepped.Refused x) = numberOf x
-
-abbrev pub stateNumber : Answer → ℕ
-stateNumber answer.Done = 0
-stateNumber (answer.Refused x) = numberOf x
+abbrev pub replyNumber : Reply → ℕ
+replyNumber reply.Done = 0
+replyNumber (reply.Refused x) = numberOf x
 
 abbrev pub writtenNumber : Written → ℕ
 writtenNumber (written.Paths closed open′) = 0
@@ -131,11 +124,8 @@ listing n w t s = record { bytes = n; words = w; tray = t; text = s }
 abbrev pub asOpened : End → Worked
 asOpened (end a w) = worked (openedNumber a) w
 
-abbrev pub asStepped : step.Left → Worked
-asStepped l = worked (steppedNumber (l .answer)) (l .words)
-
-abbrev pub asKept : states.Left → Worked
-asKept l = worked (stateNumber (l .answer)) (l .words)
+abbrev pub asReplied : Left → Worked
+asReplied l = worked (replyNumber (l .answer)) (l .words)
 
 abbrev pub asWritten : paths.Wrote → Wrote
 asWritten l = wrote (writtenNumber (l .answer)) (l .tray)
@@ -155,17 +145,17 @@ openC bytes lent = asOpened (openOf bytes lent)
 
 -- `outline_step`
 unfoldable pub stepC : List ℕ → ℕ → Worked
-stepC w i = asStepped (stepOf w i)
+stepC w i = asReplied (stepOf w i)
 
 -- `outline_keep`, `outline_go_back`, `outline_drop`
 unfoldable pub keepC : List ℕ → ℕ → Worked
-keepC w n = asKept (keepOf w n)
+keepC w n = asReplied (keepOf w n)
 
 unfoldable pub backC : List ℕ → ℕ → Worked
-backC w n = asKept (goBackOf w n)
+backC w n = asReplied (goBackOf w n)
 
 unfoldable pub dropC : List ℕ → ℕ → Worked
-dropC w n = asKept (dropOf w n)
+dropC w n = asReplied (dropOf w n)
 
 -- `outline_write`
 unfoldable pub writeC : List ℕ → List ℕ → Wrote

@@ -1,5 +1,5 @@
 // The entry points for C and Rust: the same calls, answering 0 or the refusal's number; the listing; rewriting; and telling a record's reason.
-use finishing::Stepped;
+use audit::Reply;
 use finishing::finish::finish;
 use finishing::open;
 use finishing::step;
@@ -13,7 +13,6 @@ use paths::tag_of;
 use rates::Rate;
 use rewriting::Rewritten;
 use rewriting::rewrite;
-use states::Answer;
 use states::drop;
 use states::go_back;
 use states::keep;
@@ -30,7 +29,7 @@ ghost use Rattle.prefix.specs.Decides.{LONGEST};
 ghost use Rattle.rewriting.specs.Answers.{BytesWithin};
 ghost use Rattle.paths.specs.Tray.{tagOf};
 ghost use Rattle.telling.specs.Within.{NumberWithin, ToldWithin};
-ghost use Rattle.outline.specs.Calls.{openedNumber, steppedNumber, stateNumber, writtenNumber, listedBytes, rewrittenNumber, reasonWord, toldNumber, rateFrom, worked, wrote, finished, listing, openC, stepC, keepC, backC, dropC, writeC, finishC, listC, rewriteC, reasonC};
+ghost use Rattle.outline.specs.Calls.{openedNumber, replyNumber, writtenNumber, listedBytes, rewrittenNumber, reasonWord, toldNumber, rateFrom, worked, wrote, finished, listing, openC, stepC, keepC, backC, dropC, writeC, finishC, listC, rewriteC, reasonC};
 
 // ---- the numbers of answers
 
@@ -43,21 +42,12 @@ fn opened_number(a: Opened) -> u32
     }
 }
 
-fn stepped_number(a: Stepped) -> u32
-    ensures { λ r. ⌜ r ≡ steppedNumber a ⌝ }
+fn reply_number(a: Reply) -> u32
+    ensures { λ r. ⌜ r ≡ replyNumber a ⌝ }
 {
     match a {
-        Stepped::Done => 0,
-        Stepped::Refused(x) => x.number(),
-    }
-}
-
-fn state_number(a: Answer) -> u32
-    ensures { λ r. ⌜ r ≡ stateNumber a ⌝ }
-{
-    match a {
-        Answer::Done => 0,
-        Answer::Refused(x) => x.number(),
+        Reply::Done => 0,
+        Reply::Refused(x) => x.number(),
     }
 }
 
@@ -181,7 +171,7 @@ pub extern "C" fn outline_step(work: &mut [u32], number: u32) -> u32
     ensures { λ r. ⌜ worked r (now (work .exit)) ≡ stepC (now (work .entry)) number ⌝ }
 {
     let a = step(work, number);
-    stepped_number(a)
+    reply_number(a)
 }
 
 // Keeps the live state under a name.
@@ -190,7 +180,7 @@ pub extern "C" fn outline_keep(work: &mut [u32], name: u8) -> u32
     ensures { λ r. ⌜ worked r (now (work .exit)) ≡ keepC (now (work .entry)) name ⌝ }
 {
     let a = keep(work, name);
-    state_number(a)
+    reply_number(a)
 }
 
 // Goes back to the state that a name keeps.
@@ -199,7 +189,7 @@ pub extern "C" fn outline_go_back(work: &mut [u32], name: u8) -> u32
     ensures { λ r. ⌜ worked r (now (work .exit)) ≡ backC (now (work .entry)) name ⌝ }
 {
     let a = go_back(work, name);
-    state_number(a)
+    reply_number(a)
 }
 
 // Drops a name.
@@ -208,7 +198,7 @@ pub extern "C" fn outline_drop(work: &mut [u32], name: u8) -> u32
     ensures { λ r. ⌜ worked r (now (work .exit)) ≡ dropC (now (work .entry)) name ⌝ }
 {
     let a = drop(work, name);
-    state_number(a)
+    reply_number(a)
 }
 
 // Writes all paths into the tray.

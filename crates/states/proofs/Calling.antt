@@ -11,11 +11,12 @@ use Rattle.store.specs.Field.{STATES, LENGTH}
 use Rattle.audit.specs.declared.Verdict.{Verdict}
 use Rattle.audit.specs.declared.Verdict.the-variants as verdict
 use Rattle.audit.specs.Handed.{handedOf}
-use Rattle.audit.proofs.Handing.{handed-fit}
-use Rattle.states.specs.declared.Answer.{Answer}
-use Rattle.states.specs.declared.Answer.the-variants.{Done, Refused}
+use Rattle.audit.proofs.Handing.{handed-usable}
+use Rattle.audit.specs.declared.Reply.{Reply}
+use Rattle.audit.specs.declared.Reply.the-variants.{Done, Refused}
 use Rattle.states.specs.Places.{placeOf, keepPlace}
-use Rattle.states.specs.Calls.{left, stored, restored, freed, keepAt, backAt, dropAt, keepBy, backBy, dropBy, keepOf, goBackOf, dropOf}
+use Rattle.audit.specs.Left.{left}
+use Rattle.states.specs.Calls.{stored, restored, freed, keepAt, backAt, dropAt, keepBy, backBy, dropBy, keepOf, goBackOf, dropOf}
 
 -- ---- at a place
 
@@ -40,7 +41,7 @@ module _ (w : List ℕ) (p : ℕ) where
 
 -- ---- on a work space that passed
 
-module _ (w : List ℕ) (n p : ℕ) (r : Answer) (u : List ℕ) where
+module _ (w : List ℕ) (n p : ℕ) (r : Reply) (u : List ℕ) where
   pub keep-placed : p ≡ keepPlace w n → left r u ≡ keepAt w p n → left r u ≡ keepBy verdict.Passed w n
   keep-placed e f = f ∙ ap (λ (k : ℕ). keepAt w k n) e
 
@@ -54,9 +55,9 @@ module _ (w : List ℕ) (n p : ℕ) (r : Answer) (u : List ℕ) where
 
 module _ (w : List ℕ) (n : ℕ) (v : Verdict) (e : v ≡ handedOf w) where
   pub long-passed : v ≡ verdict.Passed → LENGTH ≤ length w
-  long-passed p = handed-fit w (sym e ∙ p) .long
+  long-passed p = handed-usable w (sym e ∙ p) .long
 
-  module _ (k : ℕ) (c : k ≡ n) (r : Answer) (u : List ℕ) (p : v ≡ verdict.Passed) where
+  module _ (k : ℕ) (c : k ≡ n) (r : Reply) (u : List ℕ) (p : v ≡ verdict.Passed) where
     pub keep-passed : left r u ≡ keepBy verdict.Passed w k → left r u ≡ keepOf w n
     unfolding keepOf
     keep-passed f = f ∙ ap (keepBy verdict.Passed w) c ∙ ap (λ (z : Verdict). keepBy z w n) (sym p ∙ e)

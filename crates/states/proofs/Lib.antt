@@ -2,3 +2,6 @@
 pub mod Lowest
 pub mod Copying
 pub mod Calling
+pub mod Words
+pub mod Others
+pub mod Examples

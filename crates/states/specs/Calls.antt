@@ -11,17 +11,10 @@ use Rattle.store.specs.States.{wordOfName, copyAt, keptBlock}
 use Rattle.audit.specs.declared.Verdict.{Verdict}
 use Rattle.audit.specs.declared.Verdict.the-variants as verdict
 use Rattle.audit.specs.Handed.{handedOf}
-use Rattle.states.specs.declared.Answer.{Answer}
-use Rattle.states.specs.declared.Answer.the-variants.{Done, Refused}
+use Rattle.audit.specs.Left.{Left, left}
+use Rattle.audit.specs.declared.Reply.{Reply}
+use Rattle.audit.specs.declared.Reply.the-variants.{Done, Refused}
 use Rattle.states.specs.Places.{placeOf, keepPlace}
-
--- the answer, and the words left
-pub record Left : Type 0 where
-  pub answer : Answer
-  pub words : List ℕ
-
-abbrev pub left : Answer → List ℕ → Left
-left a w = record { answer = a; words = w }
 
 -- ---- at a place
 

@@ -6,6 +6,7 @@ use crate::copies::restore_from;
 use crate::copies::store_at;
 use crate::places::keep_place;
 use crate::places::place_of;
+use audit::Reply;
 use audit::Verdict;
 use audit::handed;
 use job::refusal::Refusal;
@@ -17,13 +18,8 @@ ghost use lib.ListN.{length};
 ghost use Rattle.store.specs.Field.{LENGTH};
 ghost use Rattle.store.specs.States.{BYTES};
 ghost use Rattle.audit.specs.declared.Verdict.the-variants.{Passed};
-ghost use Rattle.states.specs.Calls.{left, keepAt, backAt, dropAt, keepBy, backBy, dropBy, keepOf, goBackOf, dropOf};
-
-// What keeping, going back and dropping answer.
-pub enum Answer {
-    Done,
-    Refused(Refusal),
-}
+ghost use Rattle.audit.specs.Left.{left};
+ghost use Rattle.states.specs.Calls.{keepAt, backAt, dropAt, keepBy, backBy, dropBy, keepOf, goBackOf, dropOf};
 
 // A name as a number.
 fn wide(name: u8) -> usize
@@ -35,19 +31,19 @@ fn wide(name: u8) -> usize
 // ---- keeping
 
 // The live block is kept at place p under a name; refused where there is no such place.
-fn keep_at(w: &mut [u32], p: usize, name: usize) -> Answer
+fn keep_at(w: &mut [u32], p: usize, name: usize) -> Reply
     requires { ⌜ (LENGTH ≤ length (now w)) × (name < BYTES) ⌝ }
     ensures { λ r. ⌜ left r (now (w .exit)) ≡ keepAt (now (w .entry)) p name ⌝ }
 {
     if p < STATES {
         store_at(w, p, name);
-        return Answer::Done;
+        return Reply::Done;
     }
-    Answer::Refused(Refusal::NoPlace)
+    Reply::Refused(Refusal::NoPlace)
 }
 
 // On a work space that passed the tests.
-fn keep_tested(w: &mut [u32], name: usize) -> Answer
+fn keep_tested(w: &mut [u32], name: usize) -> Reply
     requires { ⌜ (LENGTH ≤ length (now w)) × (name < BYTES) ⌝ }
     ensures { λ r. ⌜ left r (now (w .exit)) ≡ keepBy Passed (now (w .entry)) name ⌝ }
 {
@@ -56,7 +52,7 @@ fn keep_tested(w: &mut [u32], name: usize) -> Answer
 }
 
 // Keeps the live state under a name: its answer, and every word left.
-pub fn keep(work: &mut [u32], name: u8) -> Answer
+pub fn keep(work: &mut [u32], name: u8) -> Reply
     ensures { λ r. ⌜ left r (now (work .exit)) ≡ keepOf (now (work .entry)) name ⌝ }
 {
     let n = wide(name);
@@ -66,7 +62,7 @@ pub fn keep(work: &mut [u32], name: u8) -> Answer
             return keep_tested(work, n);
         }
         Verdict::Refused(r) => {
-            return Answer::Refused(r);
+            return Reply::Refused(r);
         }
     }
 }
@@ -74,19 +70,19 @@ pub fn keep(work: &mut [u32], name: u8) -> Answer
 // ---- going back
 
 // The block of place p becomes the live one; refused where there is no such place.
-fn back_at(w: &mut [u32], p: usize) -> Answer
+fn back_at(w: &mut [u32], p: usize) -> Reply
     requires { ⌜ LENGTH ≤ length (now w) ⌝ }
     ensures { λ r. ⌜ left r (now (w .exit)) ≡ backAt (now (w .entry)) p ⌝ }
 {
     if p < STATES {
         restore_from(w, p);
-        return Answer::Done;
+        return Reply::Done;
     }
-    Answer::Refused(Refusal::UnknownName)
+    Reply::Refused(Refusal::UnknownName)
 }
 
 // On a work space that passed the tests.
-fn back_tested(w: &mut [u32], name: usize) -> Answer
+fn back_tested(w: &mut [u32], name: usize) -> Reply
     requires { ⌜ (LENGTH ≤ length (now w)) × (name < BYTES) ⌝ }
     ensures { λ r. ⌜ left r (now (w .exit)) ≡ backBy Passed (now (w .entry)) name ⌝ }
 {
@@ -95,7 +91,7 @@ fn back_tested(w: &mut [u32], name: usize) -> Answer
 }
 
 // Goes back to the state that a name keeps: its answer, and every word left.
-pub fn go_back(work: &mut [u32], name: u8) -> Answer
+pub fn go_back(work: &mut [u32], name: u8) -> Reply
     ensures { λ r. ⌜ left r (now (work .exit)) ≡ goBackOf (now (work .entry)) name ⌝ }
 {
     let n = wide(name);
@@ -105,7 +101,7 @@ pub fn go_back(work: &mut [u32], name: u8) -> Answer
             return back_tested(work, n);
         }
         Verdict::Refused(r) => {
-            return Answer::Refused(r);
+            return Reply::Refused(r);
         }
     }
 }
@@ -113,19 +109,19 @@ pub fn go_back(work: &mut [u32], name: u8) -> Answer
 // ---- dropping
 
 // Place p is free; refused where there is no such place.
-fn drop_at(w: &mut [u32], p: usize) -> Answer
+fn drop_at(w: &mut [u32], p: usize) -> Reply
     requires { ⌜ LENGTH ≤ length (now w) ⌝ }
     ensures { λ r. ⌜ left r (now (w .exit)) ≡ dropAt (now (w .entry)) p ⌝ }
 {
     if p < STATES {
         set_name_word(w, p, 0);
-        return Answer::Done;
+        return Reply::Done;
     }
-    Answer::Refused(Refusal::UnknownName)
+    Reply::Refused(Refusal::UnknownName)
 }
 
 // On a work space that passed the tests.
-fn drop_tested(w: &mut [u32], name: usize) -> Answer
+fn drop_tested(w: &mut [u32], name: usize) -> Reply
     requires { ⌜ (LENGTH ≤ length (now w)) × (name < BYTES) ⌝ }
     ensures { λ r. ⌜ left r (now (w .exit)) ≡ dropBy Passed (now (w .entry)) name ⌝ }
 {
@@ -134,7 +130,7 @@ fn drop_tested(w: &mut [u32], name: usize) -> Answer
 }
 
 // Drops a name, which frees its place: its answer, and every word left.
-pub fn drop(work: &mut [u32], name: u8) -> Answer
+pub fn drop(work: &mut [u32], name: u8) -> Reply
     ensures { λ r. ⌜ left r (now (work .exit)) ≡ dropOf (now (work .entry)) name ⌝ }
 {
     let n = wide(name);
@@ -144,7 +140,7 @@ pub fn drop(work: &mut [u32], name: u8) -> Answer
             return drop_tested(work, n);
         }
         Verdict::Refused(r) => {
-            return Answer::Refused(r);
+            return Reply::Refused(r);
         }
     }
 }

@@ -9,6 +9,9 @@ ghost use Rattle.store.specs.Field.{STATES, LENGTH};
 ghost use Rattle.store.specs.States.{BYTES};
 ghost use Rattle.states.specs.Places.{keepsName, isFree, placeOf, freePlace, keepPlace};
 
+// One past all places: none is free.
+const NO_PLACE: usize = STATES;
+
 // Whether place p keeps a name.
 fn keeps_name(w: &[u32], name: usize, p: usize) -> bool
     requires { ⌜ (LENGTH ≤ length (now w)) × (name < BYTES) × (p < STATES) ⌝ }
@@ -57,7 +60,7 @@ fn free_place(w: &[u32]) -> usize
         }
         p += 1;
     }
-    STATES
+    NO_PLACE
 }
 
 // The place that a name is kept at: its own, or else the lowest free one.

@@ -1,12 +1,11 @@
 // Keeps states of the job on standard input, goes back to them and drops them, between steps on record 0, and prints what each call answers: its own letter, and the refusal's number, 0 for none.
 // After every call the counts of points and records follow.
-use finishing::Stepped;
+use audit::Reply;
 use finishing::open;
 use finishing::step;
 use libc::STDIN_FILENO;
 use libc::STDOUT_FILENO;
 use opening::open::Opened;
-use states::Answer;
 use states::drop;
 use states::go_back;
 use states::keep;
@@ -30,10 +29,10 @@ fn line(w: &[u32; LENGTH], call: &[u8], name: u8, answer: u32) {
     io::write_all(STDOUT_FILENO, b"\n");
 }
 
-fn number(a: Answer) -> u32 {
+fn number(a: Reply) -> u32 {
     match a {
-        Answer::Done => 0,
-        Answer::Refused(r) => r.number(),
+        Reply::Done => 0,
+        Reply::Refused(r) => r.number(),
     }
 }
 
@@ -55,19 +54,12 @@ fn drops(w: &mut [u32; LENGTH], name: u8) {
     line(w, b"drop ", name, k);
 }
 
-fn stepped(a: Stepped) -> u32 {
-    match a {
-        Stepped::Done => 0,
-        Stepped::Refused(r) => r.number(),
-    }
-}
-
 // Steps on record 0.
 fn steps(w: &mut [u32; LENGTH], many: u8) {
     let mut left = many;
     while 0 < left {
         let a = step(w, 0);
-        let k = stepped(a);
+        let k = number(a);
         line(w, b"step ", 0, k);
         left -= 1;
     }

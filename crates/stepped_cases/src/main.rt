@@ -11,9 +11,9 @@ use crate::print::print_store;
 use crate::progress::due_of;
 use crate::progress::is_done;
 use crate::progress::set_all;
+use audit::Reply;
 use audit::Verdict;
 use audit::handed;
-use finishing::Stepped;
 use finishing::step;
 use finishing::write_out;
 use job::Job;
@@ -75,7 +75,7 @@ fn tell_step(w: &mut [u32; LENGTH], i: usize) -> bool {
     let s = step(w, i as u32);
     print(i);
     match s {
-        Stepped::Done => {
+        Reply::Done => {
             let e = due_of(w, i);
             print_due(d);
             print_act(a);
@@ -84,7 +84,7 @@ fn tell_step(w: &mut [u32; LENGTH], i: usize) -> bool {
             io::write_all(STDOUT_FILENO, b"\n");
             return true;
         }
-        Stepped::Refused(r) => {
+        Reply::Refused(r) => {
             io::write_all(STDOUT_FILENO, b" ");
             print_refusal(r);
             return false;

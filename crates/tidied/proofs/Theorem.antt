@@ -19,14 +19,14 @@ use Rattle.store.specs.Words.{view}
 use Rattle.store.specs.Sound.{ringless, dueAt}
 use Rattle.store.specs.Value.{ringPoints, preserveCollinear}
 use Rattle.finishing.specs.Run.{runOf}
-use Rattle.finishing.specs.Opened.{OpeningLeft}
+use Rattle.finishing.specs.Start.{Start}
 use Rattle.order.specs.Demand3.{Has, HasRing}
 use Rattle.order.proofs.Theorem.{F₀, F, rings-are}
 use Rattle.order.proofs.Beginning.{offcut-begins, count, opened-begins}
 use Rattle.tidied.specs.Tidied.{Tidied, CameWith, opening-left, step-made, PassBehind, NothingLeft}
 use Rattle.tidied.proofs.Pass.{tidied}
 
-module _ (w : List ℕ) (o : OpeningLeft w) where
+module _ (w : List ℕ) (o : Start w) where
   abbrev p : Bool
   p = preserveCollinear (view w)
 

@@ -1,4 +1,4 @@
--- A work space as opening leaves it.
+-- A start of lists of steps: a work space as opening leaves it.
 use Prim.Native.Nat.{ℕ, _≤_, _<_}
 use mathlib.Core.List.{List}
 use lib.ListN.{length}
@@ -9,8 +9,8 @@ use Rattle.store.specs.Good.{Sound}
 use Rattle.store.specs.States.{Apart}
 use Rattle.acts.specs.Opened.{Fresh}
 
--- it passes the tests (audit, `Fit`): long enough, sound, no name kept twice; and each record is at its start: "opening sets each closed ring .. at its start"
-pub record OpeningLeft (w : List ℕ) : Type 0 where
+-- it passes the tests (audit, `Usable`): long enough, sound, no name kept twice; and each record is at its start: "opening sets each closed ring .. at its start"
+pub record Start (w : List ℕ) : Type 0 where
   pub long : LENGTH ≤ length w
   pub sound : Sound (view w)
   pub apart : Apart w
