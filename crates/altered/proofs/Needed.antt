@@ -21,7 +21,7 @@ use Rattle.store.specs.Sound.{recs, loneAt}
 use Rattle.store.specs.Value.{wordOf}
 use Rattle.audit.specs.declared.Verdict.the-variants.{Passed}
 use Rattle.audit.specs.Tests.{anyBelow, reach, reachedBy, testsOf}
-use Rattle.audit.specs.Handed.{keptTwice, handedOf}
+use Rattle.audit.specs.Handed.{keptTwice, testedOf, handedOf}
 use Rattle.acts.specs.InStep.{Holds, no-ring, an-open, a-closed}
 use Rattle.acts.specs.Step.{answerS, stepW}
 use Rattle.turns.specs.Form.{raised}
@@ -41,16 +41,16 @@ example =
     ++ write (ct POINTS) 0 5 ∷ write (ct RECORDS) 0 1 ∷ write (rc OWNER) 0 NONE ∷ write (rc MARK) 0 3 ∷ write (rc PRESENT) 0 1 ∷ write (rc START) 0 5 ∷ write (rc CUT) 0 NONE ∷ [])
 
 pub passes : handedOf example ≡ Passed
-unfolding handedOf keptTwice testsOf anyBelow reach reachedBy walk.run cell put
+unfolding handedOf testedOf keptTwice testsOf anyBelow reach reachedBy walk.run cell put
 passes = refl
 
 -- the words' ring, after two steps
 pub ends : loneAt (view (runOf example (0 ∷ 0 ∷ []))) 0 .due ≡ done
-unfolding stepOf handedOf keptTwice testsOf anyBelow reach reachedBy answerS stepW wordOf walk.run cell put samePoint isCollinear dotProductThreePoints areaTriangle areaOutpt ptsReallyClose isVerySmallTriangle removable strictlyWithin segmentsIntersect fractionOf crossing coordinateAt getSegmentIntersectPt removalTurn doSplitOp splitTurn decide actOf toSigned add ofInt mul
+unfolding stepOf handedOf testedOf keptTwice testsOf anyBelow reach reachedBy answerS stepW wordOf walk.run cell put samePoint isCollinear dotProductThreePoints areaTriangle areaOutpt ptsReallyClose isVerySmallTriangle removable strictlyWithin segmentsIntersect fractionOf crossing coordinateAt getSegmentIntersectPt removalTurn doSplitOp splitTurn decide actOf toSigned add ofInt mul
 ends = refl
 
 counts : recs (view (runOf example (0 ∷ 0 ∷ []))) ≡ 2
-unfolding stepOf handedOf keptTwice testsOf anyBelow reach reachedBy answerS stepW wordOf walk.run cell put samePoint isCollinear dotProductThreePoints areaTriangle areaOutpt ptsReallyClose isVerySmallTriangle removable strictlyWithin segmentsIntersect fractionOf crossing coordinateAt getSegmentIntersectPt removalTurn doSplitOp splitTurn decide actOf toSigned add ofInt mul
+unfolding stepOf handedOf testedOf keptTwice testsOf anyBelow reach reachedBy answerS stepW wordOf walk.run cell put samePoint isCollinear dotProductThreePoints areaTriangle areaOutpt ptsReallyClose isVerySmallTriangle removable strictlyWithin segmentsIntersect fractionOf crossing coordinateAt getSegmentIntersectPt removalTurn doSplitOp splitTurn decide actOf toSigned add ofInt mul
 counts = refl
 
 -- the step due of a record's ring

@@ -24,7 +24,7 @@ use Rattle.audit.specs.declared.Verdict.{Verdict}
 use Rattle.audit.specs.declared.Verdict.the-variants as verdict
 use Rattle.audit.specs.Tests.{anyReached, anyRecord, offTable, noSuch, noSuchOf, lostTaker, loose, shared, misplaced, untold, testsOf}
 use Rattle.audit.specs.Tests as tests
-use Rattle.audit.specs.Handed.{keptTwice, namesTested, handedOf}
+use Rattle.audit.specs.Handed.{keptTwice, namesTested, testedOf, handedOf}
 use Rattle.audit.proofs.Handing.{handed-sound}
 use Rattle.reading.specs.declared.fill.Outcome.the-variants as outcome
 use Rattle.reading.specs.Fill as fill
@@ -197,7 +197,7 @@ tests-rows w =
 
 -- and its length row 10
 pub handed-rows : (w : List ℕ) → JudgedTo 10 (handedOf w)
-unfolding handedOf
+unfolding handedOf testedOf
 handed-rows w = go (ltb (length w) LENGTH) (testsOf w) (tests-rows w)
   where
     names : (c : Bool) → JudgedTo 10 (cond c (verdict.Refused Muddled) verdict.Passed)

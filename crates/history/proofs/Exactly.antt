@@ -8,12 +8,12 @@ use lib.Dec.{ltb}
 use borrow.Author.Tests.{le-ltb, ltb-false}
 use Rattle.job.specs.declared.refusal.Refusal.the-variants.{UnknownName, NoPlace}
 use Rattle.store.specs.Field.{STATES}
-use Rattle.states.specs.declared.Answer.{Answer}
-use Rattle.states.specs.declared.Answer.the-variants.{Done, Refused}
+use Rattle.audit.specs.declared.Reply.{Reply}
+use Rattle.audit.specs.declared.Reply.the-variants.{Done, Refused}
 use Rattle.states.proofs.Lowest.{first-none, first-misses}
-use Rattle.history.specs.Book.{Book, hasName, hasNone, placeIn, freeIn, keepIn, keepAnswer, knownAnswer, Unkept, NoneFree}
+use Rattle.history.specs.Histories.{Histories, hasName, hasNone, placeIn, freeIn, keepIn, keepAnswer, knownAnswer, Unkept, NoneFree}
 
-module _ (b : Book) (n : ℕ) where
+module _ (b : Histories) (n : ℕ) where
   unkept-place : Unkept b n → placeIn b n ≡ STATES
   unkept-place u = first-none (λ p. hasName n (b .places p)) STATES 0 (λ p a l. u p (omega arith))
 

@@ -13,8 +13,8 @@ use Rattle.store.specs.Field.{STATES, NAMES}
 use Rattle.store.specs.States.{BYTES, wordOfName, isName, nameAt, Apart}
 use Rattle.states.specs.Places.{firstFrom, lowest, keepsName, isFree, placeOf, freePlace, keepPlace}
 use Rattle.states.proofs.Lowest.{first-hits, first-misses, first-same}
-use Rattle.history.specs.Book.{Kept, Book, hasName, hasNone, placeIn, freeIn, keepIn}
-use Rattle.history.specs.Returns.{HoldsKept, HoldsAt}
+use Rattle.history.specs.Histories.{KeptState, Histories, hasName, hasNone, placeIn, freeIn, keepIn}
+use Rattle.history.specs.AfterCalls.{HoldsKept, HoldsAt}
 
 pub name-is : (n : ℕ) → n < BYTES → isName (wordOfName n) ≡ true
 name-is n h = rw (le-leb 1 (suc n) (omega arith), le-leb (suc n) BYTES (omega arith))
@@ -31,12 +31,12 @@ apart-bools e = absurd (let z : _≡_ {A = ℕ} 0 1 = cc in omega arith)
 
 -- ---- searches
 
-module _ (b : Book) (w : List ℕ) (h : (p : ℕ) → p < STATES → HoldsAt w p (b .places p)) where
+module _ (b : Histories) (w : List ℕ) (h : (p : ℕ) → p < STATES → HoldsAt w p (b .places p)) where
   module _ (n : ℕ) (low : n < BYTES) where
     names-agree : (j : ℕ) → j < STATES → keepsName w n j ≡ hasName n (b .places j)
     names-agree j l = go (b .places j) (h j l)
       where
-        go : (x : Option Kept) → HoldsAt w j x → eqb (nameAt w j) (wordOfName n) ≡ hasName n x
+        go : (x : Option KeptState) → HoldsAt w j x → eqb (nameAt w j) (wordOfName n) ≡ hasName n x
         go none e = ne-eqb (nameAt w j) (wordOfName n) (λ f. apart-bools (sym (name-is n low) ∙ sym (ap isName f) ∙ e))
         go (some k) r = ap (λ (v : ℕ). eqb v (wordOfName n)) (r .name) ∙ same-suc (k .name) n
 
@@ -46,7 +46,7 @@ module _ (b : Book) (w : List ℕ) (h : (p : ℕ) → p < STATES → HoldsAt w p
   free-agree : (j : ℕ) → j < STATES → isFree w j ≡ hasNone (b .places j)
   free-agree j l = go (b .places j) (h j l)
     where
-      go : (x : Option Kept) → HoldsAt w j x → not (isName (nameAt w j)) ≡ hasNone x
+      go : (x : Option KeptState) → HoldsAt w j x → not (isName (nameAt w j)) ≡ hasNone x
       go none e = ap not e
       go (some k) r = ap (λ (v : ℕ). not (isName v)) (r .name) ∙ ap not (name-is (k .name) (r .byte))
 

@@ -1,3 +1,5 @@
--- States and their histories: lists of calls, what they do to a book of histories, and the statement.
-pub mod Book
-pub mod Returns
+-- States and their histories: what calls do to them, and the statements: after any list of calls, of other places, of a job.
+pub mod Histories
+pub mod AfterCalls
+pub mod Others
+pub mod Jobs

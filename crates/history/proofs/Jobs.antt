@@ -1,0 +1,124 @@
+-- Of every job that opening accepts, and of every job that finishing in one call gives paths of: after any list of calls, requests 5 and 6 and demand 3's orders.
+use Prim.Native.Nat.{ℕ, _<_}
+use mathlib.Core.Path.{_≡_, refl, ap, _∙_, sym, subst}
+use mathlib.Core.Bool.{Bool, true, false}
+use mathlib.Core.List.{List, []}
+use lib.ListN.{drop}
+use Rattle.rings.specs.Progress.{triangle}
+use Rattle.store.specs.Field.{BLOCK, STATES}
+use Rattle.store.specs.Words.{Store, view}
+use Rattle.store.specs.Sound.{recs, isOpen, dueAt, Closed}
+use Rattle.store.specs.States.{isName, nameAt, blockOf}
+use Rattle.audit.specs.Handed.{handedOf}
+use Rattle.audit.proofs.Handing.{handed-usable}
+use Rattle.steps.specs.Live.{anyLive}
+use Rattle.paths.specs.declared.Written.{Written}
+use Rattle.paths.specs.declared.Written.the-variants.{Paths}
+use Rattle.telling.specs.declared.Told.the-variants.{Because}
+use Rattle.telling.specs.Telling.{reasonAt, reasonOf}
+use Rattle.opening.specs.declared.open.Opened.the-variants.{Accepted}
+use Rattle.opening.specs.Open.{end, openOf}
+use Rattle.opening.proofs.Behind.{open-free, open-rest}
+use Rattle.finishing.specs.InOneCall.{finished, finishOf}
+use Rattle.finishing.specs.Run.{runOf}
+use Rattle.finishing.specs.Start.{Start}
+use Rattle.finishing.proofs.Blocks.{behind-names}
+use Rattle.finishing.proofs.InOneCall.{opening-left}
+use Rattle.order.specs.Calls.{Call, wordsAfter}
+use Rattle.order.specs.Demand3.{AllDoneAfter, SameEnd}
+use Rattle.order.proofs.Jobs.{of-job, accepted, words-are}
+use Rattle.order.proofs.Leaving.{finish-rest}
+use Rattle.order.proofs.Theorem.{demand-3}
+use Rattle.tidied.specs.Tidied.{PassBehind}
+use Rattle.tidied.proofs.Theorem.{nothing-left}
+use Rattle.ended.specs.Alike.{SameReasons}
+use Rattle.ended.specs.Ended.{OfOpen, Ended, ToldRight}
+use Rattle.ended.specs.Stages.{Stages}
+use Rattle.ended.proofs.Alike.{same-reasons}
+use Rattle.ended.proofs.Opened.{stages}
+use Rattle.ended.proofs.Told.{tells}
+use Rattle.history.specs.Histories.{History, led, begun}
+use Rattle.history.specs.AfterCalls.{AfterCalls}
+use Rattle.history.specs.Jobs.{SameShapes, storeAfter, ToldAfter, JobAfterCalls, FinishedThen}
+use Rattle.history.proofs.Theorem.{after-calls}
+
+-- ---- of a history of an accepted job, from what opening left
+
+module _ (bytes lent w : List ℕ) (f : openOf bytes lent ≡ end Accepted w) (is : List ℕ) (u : List ℕ) (a : AfterCalls (record { start = w; steps = is }) u) where
+  abbrev h : History
+  h = record { start = w; steps = is }
+
+  abbrev o : Start w
+  o = opening-left bytes lent w f
+
+  abbrev t : Stages bytes lent w
+  t = stages bytes lent w f
+
+  -- the words show the store that the steps leave, from this opening
+  shows : (cs : List Call) → storeAfter h u cs ≡ view (runOf w (led h cs))
+  shows cs = a .after-every-list cs .store ∙ ap (λ (s : List ℕ). view (runOf s (led h cs))) (a .one-start cs)
+
+  told : (cs : List Call) (j : ℕ) → j < recs (storeAfter h u cs) → anyLive (storeAfter h u cs) ≡ false → ToldAfter h u bytes lent t cs j
+  told cs j l d =
+      let r : ToldRight bytes lent w t (led h cs) j = tells bytes lent w f (led h cs) j (subst (λ (s : Store). j < recs s) (shows cs) l) (subst (λ (s : Store). anyLive s ≡ false) (shows cs) d) in
+      record {
+        call = a .after-every-list cs .reasons j ∙ ap (λ (s : List ℕ). reasonOf (runOf s (led h cs)) j) (a .one-start cs) ∙ r .call ∙ ap (λ (s : Store). Because (reasonAt s j)) (sym (shows cs));
+        told = subst (λ (s : Store). Ended bytes lent w t (led h cs) j (reasonAt s j)) (sym (shows cs)) (r .told);
+        only = λ x y. r .only x y ∙ ap (λ (s : Store). reasonAt s j) (sym (shows cs));
+        opened = λ x. subst (λ (s : Store). OfOpen (reasonAt s j)) (sym (shows cs)) (r .opened (subst (λ (s : Store). isOpen s j ≡ true) (shows cs) x));
+      }
+
+  tidy : (cs : List Call) (j : ℕ) → Closed (storeAfter h u cs) j → dueAt (storeAfter h u cs) j ≡ triangle → PassBehind w (led h cs) j
+  tidy cs j c d = nothing-left w o (led h cs) j (subst (λ (s : Store). Closed s j) (shows cs) c) (subst (λ (s : Store). dueAt s j ≡ triangle) (shows cs) d)
+
+  over : (cs : List Call) → anyLive (storeAfter h u cs) ≡ false → AllDoneAfter w (led h cs)
+  over cs d = demand-3 w o .after-every-list (led h cs) .all-done .0 (subst (λ (s : Store). anyLive s ≡ false) (shows cs) d)
+
+  same : (cs ds : List Call) → anyLive (storeAfter h u cs) ≡ false → anyLive (storeAfter h u ds) ≡ false → SameShapes w (storeAfter h u cs) (storeAfter h u ds)
+  same cs ds c d =
+      let x : SameEnd w (led h cs) (led h ds) = demand-3 w o .whatever-order (led h cs) (led h ds) (over cs c) (over ds d) in
+      let y : SameReasons w (led h cs) (led h ds) = same-reasons w o (led h cs) (led h ds) (over cs c) (over ds d) in
+      subst (λ (s : Store). SameShapes w s (storeAfter h u ds)) (sym (shows cs))
+      (subst (SameShapes w (view (runOf w (led h cs)))) (sym (shows ds))
+      (record { points-used = x .points-used; records-used = x .records-used; rings = x .rings; open-rings = x .open-rings; reasons = y .records; offcut-reasons = y .offcuts }))
+
+  pub job-after : JobAfterCalls h u bytes lent t
+  job-after = record { after-calls = a; told = told; tidy = tidy; whatever-order = same }
+
+-- ---- "A newly opened job has no name kept, whatever the work space held before"
+
+module _ (bytes lent w : List ℕ) (f : openOf bytes lent ≡ end Accepted w) where
+  begins : AfterCalls (begun w) w
+  begins =
+      let o : Start w = opening-left bytes lent w f in
+      after-calls (begun w) w o (record { long = o .long; sound = o .sound; apart = o .apart }) refl (λ p l. ap isName (open-free bytes lent w f p l))
+
+  pub opened-then : JobAfterCalls (begun w) w bytes lent (stages bytes lent w f)
+  opened-then = job-after bytes lent w f [] w begins
+
+-- ---- and finishing in one call
+
+module _ (bytes lent t : List ℕ) (c o : ℕ) (e : finishOf bytes lent t .answer ≡ Paths c o) where
+  abbrev u : List ℕ
+  u = finishOf bytes lent t .words
+
+  given : finished (Paths c o) u (finishOf bytes lent t .tray) ≡ finishOf bytes lent t
+  given = ap (λ (r : Written). finished r u (finishOf bytes lent t .tray)) (sym e)
+
+  pub finished-then : FinishedThen bytes lent u
+  finished-then =
+      let a = accepted bytes lent t u (finishOf bytes lent t .tray) c o given in
+      let w : u ≡ runOf (a .from) (a .rising .steps) = words-are bytes lent t u (finishOf bytes lent t .tray) c o given in
+      let q : drop BLOCK u ≡ drop BLOCK (a .from) = finish-rest bytes lent t c o e ∙ sym (open-rest bytes lent (a .from) (a .opens)) in
+      let k : AfterCalls (record { start = a .from; steps = a .rising .steps }) u =
+      after-calls (record { start = a .from; steps = a .rising .steps }) u (opening-left bytes lent (a .from) (a .opens))
+      (handed-usable u (ap handedOf w ∙ of-job bytes lent (a .from) (a .opens) .holds .after-every-list (a .rising .steps) .tests-pass))
+      (ap blockOf w) (λ p l. ap isName (behind-names (a .from) u q p ∙ open-free bytes lent (a .from) (a .opens) p l)) in
+      record {
+        history = record { start = a .from; steps = a .rising .steps };
+        opened = a .opens;
+        stages = stages bytes lent (a .from) (a .opens);
+        rising = a .rising .rising;
+        words = w;
+        further = job-after bytes lent (a .from) (a .opens) (a .rising .steps) u k;
+      }
