@@ -1,5 +1,5 @@
 -- When the three calls are refused with 14 and 15: exactly where no place keeps the name, and for keeping none is free.
-use Prim.Native.Nat.{ℕ, _≤_, _<_}
+use Prim.Native.Nat.{ℕ, _≤_}
 use mathlib.Core.Path.{_≡_, refl, ap, _∙_, sym}
 use mathlib.Core.Logic.{_↔_}
 use mathlib.Core.Bool.{Bool, true, false, cond}
@@ -8,10 +8,9 @@ use lib.Dec.{ltb}
 use borrow.Author.Tests.{le-ltb, ltb-false}
 use Rattle.job.specs.declared.refusal.Refusal.the-variants.{UnknownName, NoPlace}
 use Rattle.store.specs.Field.{STATES}
-use Rattle.audit.specs.declared.Reply.{Reply}
 use Rattle.audit.specs.declared.Reply.the-variants.{Done, Refused}
 use Rattle.states.proofs.Lowest.{first-none, first-misses}
-use Rattle.history.specs.Histories.{Histories, hasName, hasNone, placeIn, freeIn, keepIn, keepAnswer, knownAnswer, Unkept, NoneFree}
+use Rattle.history.specs.Histories.{Histories, hasName, hasNone, placeIn, freeIn, keepAnswer, knownAnswer, Unkept, NoneFree}
 
 module _ (b : Histories) (n : ℕ) where
   unkept-place : Unkept b n → placeIn b n ≡ STATES

@@ -1,15 +1,14 @@
 -- Worked examples: what lists of calls do to histories, each call once at least.
-use Prim.Native.Nat.{ℕ, _<_}
+use Prim.Native.Nat.{ℕ}
 use mathlib.Core.Path.{_≡_, refl}
 use mathlib.Core.List.{List, [], _∷_}
 use mathlib.Core.Option.{Option, none, some}
 use native.Mathlib.Omega.{arith}
 use Rattle.job.specs.declared.refusal.Refusal.the-variants.{UnknownName, NoPlace}
-use Rattle.store.specs.States.{BYTES}
 use Rattle.audit.specs.declared.Reply.the-variants.{Done, Refused}
 use Rattle.states.specs.Places.{firstFrom}
 use Rattle.order.specs.Calls.{Name, Call, stepOn, writeTo, askOf, keepAs, backTo, dropName}
-use Rattle.history.specs.Histories.{History, KeptState, Histories, historiesBy, historiesAfter, keepingNone, begun, led, keepAnswer, knownAnswer}
+use Rattle.history.specs.Histories.{KeptState, Histories, historiesBy, historiesAfter, keepingNone, begun, led, keepAnswer, knownAnswer}
 
 abbrev n0 : Name
 n0 = record { number = 0; low = omega arith }

@@ -1,9 +1,9 @@
 -- A work space that has its histories still has them after every call.
-use Prim.Native.Nat.{ℕ, zero, suc, _+_, _≤_, _<_}
+use Prim.Native.Nat.{ℕ, _≤_, _<_}
 use mathlib.Core.Path.{_≡_, refl, ap, _∙_, sym, subst}
 use mathlib.Core.Logic.{_≢_}
 use mathlib.Core.Bool.{Bool, true, false, cond, not, _||_}
-use mathlib.Core.List.{List, [], _∷_, _++_}
+use mathlib.Core.List.{List, [], _∷_}
 use mathlib.Core.Option.{Option, none, some}
 use native.Mathlib.Omega.{arith}
 use lib.Dec.{eqb, ltb}
@@ -14,27 +14,25 @@ use Rattle.store.specs.Field.{BLOCK, STATES, LENGTH}
 use Rattle.store.specs.Words.{Store, view}
 use Rattle.store.specs.Sound.{recs}
 use Rattle.store.specs.Good.{Sound}
-use Rattle.store.specs.States.{BYTES, wordOfName, isName, nameAt, Apart, blockOf, keptBlock}
+use Rattle.store.specs.States.{isName, nameAt, Apart, blockOf, keptBlock}
 use Rattle.audit.specs.declared.Verdict.{Verdict}
 use Rattle.audit.specs.declared.Verdict.the-variants as verdict
 use Rattle.audit.specs.Handed.{handedOf, Usable}
 use Rattle.audit.proofs.Handing.{handed-usable, usable-handed}
 use Rattle.steps.specs.Live.{anyLive}
 use Rattle.finishing.specs.Step.{stepOf}
-use Rattle.finishing.specs.Run.{runOf}
 use Rattle.finishing.proofs.Blocks.{same-view, same-apart, behind-names, call-usable, call-behind, same-answer, same-live, same-write}
-use Rattle.telling.specs.declared.Told.{Told}
 use Rattle.telling.specs.declared.Told.the-variants as told
 use Rattle.telling.specs.Telling.{reasonAt, reasonBy, reasonOf}
 use Rattle.order.proofs.Following.{run-both}
 use Rattle.audit.specs.declared.Reply.{Reply}
 use Rattle.audit.specs.declared.Reply.the-variants.{Done, Refused}
-use Rattle.states.specs.Places.{placeOf, keepPlace}
+use Rattle.states.specs.Places.{keepPlace}
 use Rattle.audit.specs.Left.{Left, left}
 use Rattle.states.specs.Calls.{stored, restored, freed, keepAt, backAt, dropAt, keepBy, backBy, dropBy, keepOf, goBackOf, dropOf}
 use Rattle.states.proofs.Lowest.{first-hits}
 use Rattle.order.specs.Calls.{Name, Call, stepOn, writeTo, askOf, keepAs, backTo, dropName, wordsBy}
-use Rattle.history.specs.Histories.{History, stateOf, andStep, KeptState, Histories, hasName, placeIn, keepIn, withPlace, withLive, historiesBy, keepAnswer, knownAnswer}
+use Rattle.history.specs.Histories.{History, stateOf, KeptState, Histories, hasName, placeIn, keepIn, withPlace, withLive, historiesBy, keepAnswer, knownAnswer}
 use Rattle.history.specs.AfterCalls.{FromStart, HoldsKept, HoldsAt, HasHistories}
 use Rattle.states.proofs.Words.{stored-length, stored-live, stored-name, stored-other, stored-copy, stored-others, restored-live, restored-behind, restored-length, freed-length, freed-live, freed-name, freed-other, freed-copies, behind-copies}
 use Rattle.history.proofs.Exactly.{fourteen, fifteen}

@@ -1,14 +1,15 @@
 -- Of every job that opening accepts, and of every job that finishing in one call gives paths of: after any list of calls, requests 5 and 6 and demand 3's orders.
 use Prim.Native.Nat.{ℕ, _<_}
 use mathlib.Core.Path.{_≡_, refl, ap, _∙_, sym, subst}
-use mathlib.Core.Bool.{Bool, true, false}
-use mathlib.Core.List.{List, []}
+use mathlib.Core.Logic.{_⊎_, inl, inr}
+use mathlib.Core.Bool.{true, false}
+use mathlib.Core.List.{List, [], _∷_, _++_, map, append-nil, append-assoc}
 use lib.ListN.{drop}
 use Rattle.rings.specs.Progress.{triangle}
-use Rattle.store.specs.Field.{BLOCK, STATES}
+use Rattle.store.specs.Field.{BLOCK}
 use Rattle.store.specs.Words.{Store, view}
 use Rattle.store.specs.Sound.{recs, isOpen, dueAt, Closed}
-use Rattle.store.specs.States.{isName, nameAt, blockOf}
+use Rattle.store.specs.States.{isName, blockOf}
 use Rattle.audit.specs.Handed.{handedOf}
 use Rattle.audit.proofs.Handing.{handed-usable}
 use Rattle.steps.specs.Live.{anyLive}
@@ -22,10 +23,11 @@ use Rattle.opening.proofs.Behind.{open-free, open-rest}
 use Rattle.finishing.specs.InOneCall.{finished, finishOf}
 use Rattle.finishing.specs.Run.{runOf}
 use Rattle.finishing.specs.Start.{Start}
+use Rattle.finishing.specs.Step.{stepOf}
 use Rattle.finishing.proofs.Blocks.{behind-names}
 use Rattle.finishing.proofs.InOneCall.{opening-left}
-use Rattle.order.specs.Calls.{Call, wordsAfter}
-use Rattle.order.specs.Demand3.{AllDoneAfter, SameEnd}
+use Rattle.order.specs.Calls.{Call, stepOn}
+use Rattle.order.specs.Demand3.{AllDoneAfter, SameEnd, RingsFit, RingsNeverEnd}
 use Rattle.order.proofs.Jobs.{of-job, accepted, words-are}
 use Rattle.order.proofs.Leaving.{finish-rest}
 use Rattle.order.proofs.Theorem.{demand-3}
@@ -37,10 +39,24 @@ use Rattle.ended.specs.Stages.{Stages}
 use Rattle.ended.proofs.Alike.{same-reasons}
 use Rattle.ended.proofs.Opened.{stages}
 use Rattle.ended.proofs.Told.{tells}
-use Rattle.history.specs.Histories.{History, led, begun}
+use Rattle.history.specs.Histories.{History, Histories, historiesBy, historiesAfter, keepingNone, led, begun}
 use Rattle.history.specs.AfterCalls.{AfterCalls}
-use Rattle.history.specs.Jobs.{SameShapes, storeAfter, ToldAfter, JobAfterCalls, FinishedThen}
+use Rattle.history.specs.Jobs.{SameShapes, storeAfter, ToldAfter, CallsFit, CallsNeverEnd, JobAfterCalls, FinishedThen}
 use Rattle.history.proofs.Theorem.{after-calls}
+
+-- ---- further steps
+
+steps-on : (is : List ℕ) (b : Histories) → historiesAfter b (map stepOn is) .live .steps ≡ b .live .steps ++ is
+unfolding historiesBy
+steps-on [] b = sym (append-nil (b .live .steps))
+steps-on (i ∷ is) b = steps-on is (historiesBy b (stepOn i)) ∙ append-assoc (b .live .steps) (i ∷ []) is
+
+after-both : (cs ds : List Call) (b : Histories) → historiesAfter b (cs ++ ds) ≡ historiesAfter (historiesAfter b cs) ds
+after-both [] ds b = refl
+after-both (c ∷ cs) ds b = after-both cs ds (historiesBy b c)
+
+led-both : (h : History) (cs : List Call) (is : List ℕ) → led h (cs ++ map stepOn is) ≡ led h cs ++ is
+led-both h cs is = ap (λ (b : Histories). b .live .steps) (after-both cs (map stepOn is) (keepingNone h)) ∙ steps-on is (historiesAfter (keepingNone h) cs)
 
 -- ---- of a history of an accepted job, from what opening left
 
@@ -82,8 +98,28 @@ module _ (bytes lent w : List ℕ) (f : openOf bytes lent ≡ end Accepted w) (i
       (subst (SameShapes w (view (runOf w (led h cs)))) (sym (shows ds))
       (record { points-used = x .points-used; records-used = x .records-used; rings = x .rings; open-rings = x .open-rings; reasons = y .records; offcut-reasons = y .offcuts }))
 
+  ended : (cs : List Call) (js : List ℕ) → AllDoneAfter w (led h cs ++ js) → anyLive (storeAfter h u (cs ++ map stepOn js)) ≡ false
+  ended cs js d =
+      ap anyLive (shows (cs ++ map stepOn js))
+      ∙ ap (λ (l : List ℕ). anyLive (view (runOf w l))) (led-both h cs js)
+      ∙ demand-3 w o .after-every-list (led h cs ++ js) .all-done .1 d
+
+  fits : RingsFit w → CallsFit h u
+  fits r =
+      record {
+        never-full = λ cs i e. r .never-full (led h cs) i (ap (λ (s : List ℕ). stepOf (runOf s (led h cs)) i .answer) (sym (a .one-start cs)) ∙ sym (a .after-every-list cs .steps i) ∙ e);
+        goes-on = λ cs. (r .goes-on (led h cs) .0, ended cs (r .goes-on (led h cs) .0) (r .goes-on (led h cs) .1));
+      }
+
+  two-ways : CallsFit h u ⊎ CallsNeverEnd h u
+  two-ways = go (demand-3 w o .either)
+    where
+      go : RingsFit w ⊎ RingsNeverEnd w → CallsFit h u ⊎ CallsNeverEnd h u
+      go (inl r) = inl (fits r)
+      go (inr n) = inr (λ cs d. n (led h cs) (over cs d))
+
   pub job-after : JobAfterCalls h u bytes lent t
-  job-after = record { after-calls = a; told = told; tidy = tidy; whatever-order = same }
+  job-after = record { after-calls = a; told = told; tidy = tidy; whatever-order = same; either = two-ways }
 
 -- ---- "A newly opened job has no name kept, whatever the work space held before"
 

@@ -1,20 +1,20 @@
 -- Places by the words and by the book are the same, and no name comes to be kept twice.
-use Prim.Native.Nat.{ℕ, zero, suc, _+_, _≤_, _<_}
-use mathlib.Core.Path.{_≡_, refl, ap, _∙_, sym, subst}
+use Prim.Native.Nat.{ℕ, suc, _<_}
+use mathlib.Core.Path.{_≡_, refl, ap, _∙_, sym}
 use mathlib.Core.Logic.{_≢_}
-use mathlib.Core.Bool.{Bool, true, false, cond, not, _&&_}
+use mathlib.Core.Bool.{Bool, true, false, cond, not}
 use mathlib.Core.List.{List}
 use mathlib.Core.Option.{Option, none, some}
 use native.Mathlib.Omega.{arith}
 use native.Mathlib.Decide.{ℕ-discrete, decLt}
-use lib.Dec.{eqb, leb, ltb}
+use lib.Dec.{eqb, ltb}
 use borrow.Author.Tests.{eq-eqb, ne-eqb, eqb-true, eqb-false, le-leb, ltb-true, ltb-false}
-use Rattle.store.specs.Field.{STATES, NAMES}
+use Rattle.store.specs.Field.{STATES}
 use Rattle.store.specs.States.{BYTES, wordOfName, isName, nameAt, Apart}
-use Rattle.states.specs.Places.{firstFrom, lowest, keepsName, isFree, placeOf, freePlace, keepPlace}
+use Rattle.states.specs.Places.{keepsName, isFree, placeOf, freePlace, keepPlace}
 use Rattle.states.proofs.Lowest.{first-hits, first-misses, first-same}
 use Rattle.history.specs.Histories.{KeptState, Histories, hasName, hasNone, placeIn, freeIn, keepIn}
-use Rattle.history.specs.AfterCalls.{HoldsKept, HoldsAt}
+use Rattle.history.specs.AfterCalls.{HoldsAt}
 
 pub name-is : (n : ℕ) → n < BYTES → isName (wordOfName n) ≡ true
 name-is n h = rw (le-leb 1 (suc n) (omega arith), le-leb (suc n) BYTES (omega arith))

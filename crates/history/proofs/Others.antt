@@ -1,6 +1,6 @@
 -- Of every work space and every call: the places that it is not about are as they were.
-use Prim.Native.Nat.{ℕ, _<_}
-use mathlib.Core.Path.{_≡_, refl}
+use Prim.Native.Nat.{ℕ}
+use mathlib.Core.Path.{refl}
 use mathlib.Core.List.{List}
 use Rattle.finishing.specs.Step.{stepOf}
 use Rattle.finishing.proofs.Blocks.{behind-names, call-behind}

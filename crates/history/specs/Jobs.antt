@@ -1,20 +1,24 @@
 -- Of a job, after any list of calls: what requests 5 and 6 and demand 3 say of lists of steps. And finishing in one call, with calls after it.
 use Prim.Native.Nat.{ℕ, _≤_, _<_}
 use mathlib.Core.Path.{_≡_}
+use mathlib.Core.Logic.{_⊎_}
 use mathlib.Core.Bool.{true, false}
-use mathlib.Core.List.{List, [], _∷_}
+use mathlib.Core.List.{List, [], _∷_, _++_, map}
+use Rattle.job.specs.declared.refusal.Refusal.the-variants.{Full}
 use Rattle.rings.specs.Progress.{Ring, triangle}
 use Rattle.geometry.specs.declared.Point.{Point}
 use Rattle.lone.specs.Forest.{leftClosed}
 use Rattle.store.specs.Words.{Store, view}
 use Rattle.store.specs.Sound.{pts, recs, isOpen, dueAt, Closed}
+use Rattle.audit.specs.declared.Reply.the-variants.{Refused}
 use Rattle.steps.specs.Live.{anyLive}
 use Rattle.telling.specs.declared.Reason.{Reason}
 use Rattle.telling.specs.declared.Told.the-variants.{Because}
 use Rattle.telling.specs.Telling.{reasonAt, reasonOf}
 use Rattle.opening.specs.declared.open.Opened.the-variants.{Accepted}
 use Rattle.opening.specs.Open.{end, openOf}
-use Rattle.order.specs.Calls.{Call, wordsAfter}
+use Rattle.finishing.specs.Step.{stepOf}
+use Rattle.order.specs.Calls.{Call, stepOn, wordsAfter}
 use Rattle.order.specs.Demand3.{Same, AsLeft, fed}
 use Rattle.order.specs.Jobs.{RisingFrom}
 use Rattle.tidied.specs.Tidied.{PassBehind}
@@ -46,6 +50,15 @@ module _ (h : History) (u : List ℕ) where
     pub only : (r : Reason) → Ended bytes lent (h .start) t (led h cs) j r → r ≡ reasonAt (storeAfter cs) j
     pub opened : isOpen (storeAfter cs) j ≡ true → OfOpen (reasonAt (storeAfter cs) j)
 
+  -- "no such list has a step refused as full and each can be carried on until all are done": by further steps
+  pub record CallsFit : Type 0 where
+    pub never-full : (cs : List Call) (i : ℕ) → ¬ (stepOf (wordsAfter u cs) i .answer ≡ Refused Full)
+    pub goes-on : (cs : List Call) → (is : List ℕ) × (anyLive (storeAfter (cs ++ map stepOn is)) ≡ false)
+
+  -- "or none can be carried on so far"
+  abbrev pub CallsNeverEnd : Type 0
+  CallsNeverEnd = (cs : List Call) → ¬ (anyLive (storeAfter cs) ≡ false)
+
   pub record JobAfterCalls (bytes lent : List ℕ) (t : Stages bytes lent (h .start)) : Type 0 where
     pub after-calls : AfterCalls h u
     -- request 5
@@ -54,6 +67,8 @@ module _ (h : History) (u : List ℕ) where
     pub tidy : (cs : List Call) (j : ℕ) → Closed (storeAfter cs) j → dueAt (storeAfter cs) j ≡ triangle → PassBehind (h .start) (led h cs) j
     -- demand 3's `whatever-order`, and request 5's "Any order of steps gives a ring the same reason"
     pub whatever-order : (cs ds : List Call) → anyLive (storeAfter cs) ≡ false → anyLive (storeAfter ds) ≡ false → SameShapes (h .start) (storeAfter cs) (storeAfter ds)
+    -- and its two ways
+    pub either : CallsFit ⊎ CallsNeverEnd
 
 -- finishing in one call, of the job's bytes in a lent work space, left u: steps in rising record order from what opening left, no name kept, and calls may follow
 pub record FinishedThen (bytes lent u : List ℕ) : Type 0 where

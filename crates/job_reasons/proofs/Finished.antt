@@ -1,7 +1,6 @@
 -- What finishing in one call leaves of an accepted job can be told: it passes the tests, every closed ring is done, and each reason is the rule that in fact ended the ring.
 use Prim.Native.Nat.{ℕ, _<_}
-use mathlib.Core.Path.{_≡_, refl, sym, ap, _∙_, subst}
-use mathlib.Core.Bool.{false}
+use mathlib.Core.Path.{_≡_, sym, ap, _∙_, subst}
 use mathlib.Core.List.{List}
 use Rattle.store.specs.Words.{view}
 use Rattle.store.specs.Sound.{recs}

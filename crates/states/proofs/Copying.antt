@@ -1,13 +1,13 @@
 -- A block copied within the words: the loop, and what it leaves.
-use Prim.Native.Nat.{ℕ, suc, _+_, _-_, _*_, _≤_, _<_}
+use Prim.Native.Nat.{ℕ, suc, _+_, _-_, _≤_, _<_}
 use mathlib.Core.Path.{_≡_, refl, ap, _∙_, sym, subst}
 use mathlib.Core.Logic.{_⊎_, inl, inr}
 use mathlib.Core.List.{List, _++_}
 use native.Mathlib.Omega.{arith}
-use lib.ListN.{length, getD, set, take, drop, length-set, length-drop, length-append, List·getD-append}
-use lib.Seq.{length-take-le, getD-take, getD-drop, getD-append-add, paste, paste-zero, paste-suc, length-paste, length-paste-head}
-use Rattle.store.specs.Field.{BLOCK, STATES, NAMES, KEPT, LENGTH}
-use Rattle.store.specs.States.{BYTES, copyAt}
+use lib.ListN.{length, getD, set, take, drop, length-set, length-drop, List·getD-append}
+use lib.Seq.{length-take-le, getD-take, getD-drop, getD-append-add, paste, paste-zero, paste-suc, length-paste-head}
+use Rattle.store.specs.Field.{BLOCK, STATES, NAMES, LENGTH}
+use Rattle.store.specs.States.{copyAt}
 use Rattle.states.specs.Calls.{stored, restored}
 use Rattle.states.specs.Needs.{CopyFits}
 

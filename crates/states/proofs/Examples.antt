@@ -1,12 +1,12 @@
 -- Worked examples: which words say names, where names and copies stand, and where a name is kept.
-use Prim.Native.Nat.{ℕ, _+_, _<_}
+use Prim.Native.Nat.{ℕ, _+_}
 use mathlib.Core.Path.{_≡_, refl, ap, _∙_, subst}
-use mathlib.Core.Bool.{Bool, true, false, cond, not}
+use mathlib.Core.Bool.{true, false, cond, not}
 use mathlib.Core.List.{List, [], _∷_, _++_}
 use lib.Dec.{eqb, ltb}
 use lib.ListN.{length, getD}
 use lib.Seq.{getD-append-add}
-use Rattle.store.specs.Field.{BLOCK, STATES, NAMES, KEPT, LENGTH}
+use Rattle.store.specs.Field.{BLOCK, STATES, NAMES, LENGTH}
 use Rattle.store.specs.States.{BYTES, wordOfName, isName, nameAt, copyAt}
 use Rattle.states.specs.Places.{firstFrom, lowest, keepsName, isFree, placeOf, freePlace, keepPlace}
 use Rattle.states.proofs.Lowest.{first-same}

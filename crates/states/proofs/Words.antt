@@ -1,13 +1,13 @@
 -- What storing, restoring and freeing leave of the live block, of names and of copies.
-use Prim.Native.Nat.{ℕ, zero, suc, _+_, _-_, _*_, _≤_, _<_}
-use mathlib.Core.Path.{_≡_, refl, ap, _∙_, sym, subst}
+use Prim.Native.Nat.{ℕ, _+_, _-_, _≤_, _<_}
+use mathlib.Core.Path.{_≡_, ap, _∙_, sym}
 use mathlib.Core.Logic.{_≢_, _⊎_, inl, inr}
 use mathlib.Core.List.{List, _++_, append-assoc}
 use native.Mathlib.Omega.{arith}
 use native.Mathlib.Decide.{decLt}
-use lib.ListN.{length, getD, set, take, drop, length-set, length-drop, length-append}
+use lib.ListN.{length, getD, take, drop, length-set, length-drop, length-append}
 use lib.Seq.{length-take-le, take-at, drop-at, take-set-le, drop-set-lt, getD-take, getD-drop, getD-set-same, getD-set-other, drop-drop, ext-getD, paste, length-paste}
-use Rattle.store.specs.Field.{BLOCK, STATES, NAMES, KEPT, LENGTH}
+use Rattle.store.specs.Field.{BLOCK, STATES, NAMES, LENGTH}
 use Rattle.store.specs.States.{wordOfName, nameAt, blockOf, copyAt, keptBlock}
 use Rattle.states.specs.Calls.{stored, restored, freed}
 use Rattle.states.proofs.Copying.{outside}

@@ -12,7 +12,6 @@ use Rattle.audit.specs.declared.Verdict.{Verdict}
 use Rattle.audit.specs.declared.Verdict.the-variants as verdict
 use Rattle.audit.specs.Handed.{handedOf}
 use Rattle.audit.specs.Left.{Left, left}
-use Rattle.audit.specs.declared.Reply.{Reply}
 use Rattle.audit.specs.declared.Reply.the-variants.{Done, Refused}
 use Rattle.states.specs.Places.{placeOf, keepPlace}
 
