@@ -180,7 +180,7 @@ fn inside_agrees(s: &[u8], at: usize, e: Edges, first: f64, second: f64) -> bool
     requires { ⌜ MeetAt e first ⌝ }
 {
     let p = past_point(s, at);
-    let q = past_point(s, p);
+    let q = past_word(s, past_word(s, p));
     whole(geometry::point_inside(e, first), point(s, at))
         & (fraction(s, p) == first)
         & (fraction(s, q) == second)

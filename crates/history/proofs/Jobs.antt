@@ -41,7 +41,7 @@ use Rattle.ended.proofs.Opened.{stages}
 use Rattle.ended.proofs.Told.{tells}
 use Rattle.history.specs.Histories.{History, Histories, historiesBy, historiesAfter, keepingNone, led, begun}
 use Rattle.history.specs.AfterCalls.{AfterCalls}
-use Rattle.history.specs.Jobs.{SameShapes, storeAfter, ToldAfter, CallsFit, CallsNeverEnd, JobAfterCalls, FinishedThen}
+use Rattle.history.specs.Jobs.{SameShapes, storeAfter, ToldAfter, CallsFit, CallsNeverEnd, JobAfterCalls, JobThen, FinishedThen}
 use Rattle.history.proofs.Theorem.{after-calls}
 
 -- ---- further steps
@@ -129,8 +129,8 @@ module _ (bytes lent w : List ℕ) (f : openOf bytes lent ≡ end Accepted w) wh
       let o : Start w = opening-left bytes lent w f in
       after-calls (begun w) w o (record { long = o .long; sound = o .sound; apart = o .apart }) refl (λ p l. ap isName (open-free bytes lent w f p l))
 
-  pub opened-then : JobAfterCalls (begun w) w bytes lent (stages bytes lent w f)
-  opened-then = job-after bytes lent w f [] w begins
+  pub opened-then : JobThen bytes lent (begun w) w
+  opened-then = record { opened = f; stages = stages bytes lent w f; words = refl; further = job-after bytes lent w f [] w begins }
 
 -- ---- and finishing in one call
 
@@ -152,9 +152,6 @@ module _ (bytes lent t : List ℕ) (c o : ℕ) (e : finishOf bytes lent t .answe
       (ap blockOf w) (λ p l. ap isName (behind-names (a .from) u q p ∙ open-free bytes lent (a .from) (a .opens) p l)) in
       record {
         history = record { start = a .from; steps = a .rising .steps };
-        opened = a .opens;
-        stages = stages bytes lent (a .from) (a .opens);
         rising = a .rising .rising;
-        words = w;
-        further = job-after bytes lent (a .from) (a .opens) (a .rising .steps) u k;
+        job = record { opened = a .opens; stages = stages bytes lent (a .from) (a .opens); words = w; further = job-after bytes lent (a .from) (a .opens) (a .rising .steps) u k };
       }

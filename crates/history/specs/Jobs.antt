@@ -70,11 +70,15 @@ module _ (h : History) (u : List ℕ) where
     -- and its two ways
     pub either : CallsFit ⊎ CallsNeverEnd
 
--- finishing in one call, of the job's bytes in a lent work space, left u: steps in rising record order from what opening left, no name kept, and calls may follow
+-- of the job's bytes in a lent work space: opening accepts it, the steps of the history h led from there to u, and calls may follow
+pub record JobThen (bytes lent : List ℕ) (h : History) (u : List ℕ) : Type 0 where
+  pub opened : openOf bytes lent ≡ end Accepted (h .start)
+  pub stages : Stages bytes lent (h .start)
+  pub words : u ≡ stateOf h
+  pub further : JobAfterCalls h u bytes lent stages
+
+-- finishing in one call left u: its steps are in rising record order
 pub record FinishedThen (bytes lent u : List ℕ) : Type 0 where
   pub history : History
-  pub opened : openOf bytes lent ≡ end Accepted (history .start)
-  pub stages : Stages bytes lent (history .start)
   pub rising : RisingFrom 0 (history .steps)
-  pub words : u ≡ stateOf history
-  pub further : JobAfterCalls history u bytes lent stages
+  pub job : JobThen bytes lent history u

@@ -1,6 +1,6 @@
 // Kinds that finish a job also list one job in four: outline_list at a drawn rate, against the Rust's lists and the oracle's charge, every byte and every word that a refusal leaves.
 use crate::finish::{tray_length, work_length, Expected};
-use crate::room::{all_zero, expect, Room, Same};
+use crate::room::{all_are, all_zero, expect, Room, Same};
 use crate::words::WORDS;
 use oracle::answer::Answer;
 use oracle::charge::{self, Rate};
@@ -67,7 +67,7 @@ pub fn case(room: &mut Room, rng: &mut Rng, expected: &Expected) -> Same {
     expect(rest.iter().all(|byte| *byte == text_fill), || "a byte past the text".into())?;
     room.tally.event(if asked == Rate::None { "listings" } else { "listings at a rate" }, 1);
     if room_for < TEXT || asked == Rate::Bad {
-        expect(room.work.get().iter().all(|word| *word == fill), || "a word after no listing".into())?;
+        expect(all_are(room.work.get(), fill), || "a word after no listing".into())?;
         return expect(room.tray.get().iter().all(|byte| *byte == tray_fill), || {
             "a byte of the tray after no listing".into()
         });

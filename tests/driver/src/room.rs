@@ -75,8 +75,7 @@ impl Room {
 
     /// The words behind the names are as they were lent; each kind looks at them once, when a case is over.
     pub fn behind(&self, fill: u32) -> Same {
-        let as_lent = self.work.get()[KEPT..].iter().all(|word| *word == fill);
-        expect(as_lent, || "a word behind the names is another".into())
+        expect(all_are(&self.work.get()[KEPT..], fill), || "a word behind the names is another".into())
     }
 
     /// A job was opened over words that were filled: no name is kept, and the words behind the names are as they were lent.
@@ -108,5 +107,10 @@ impl Room {
 }
 
 pub fn all_zero<T: Copy + PartialEq + Default>(all: &[T]) -> bool {
-    all.iter().all(|x| *x == T::default())
+    all_are(all, T::default())
+}
+
+/// Part by part, each without a branch in it: a work space is long.
+pub fn all_are<T: Copy + PartialEq>(all: &[T], one: T) -> bool {
+    all.chunks(128).all(|part| part.iter().fold(true, |same, x| same & (*x == one)))
 }
