@@ -8,7 +8,7 @@ OPEN = 1
 LINES = 1_000_000
 # Tag of each field, and how its value is laid out.
 SETTINGS, POINT, RECORD, SEGMENT, JOIN = 1, 2, 3, 4, 5
-LAYOUT = {SETTINGS: "<B", POINT: "<iiHHH", RECORD: "<BHH", SEGMENT: "<H", JOIN: "<HH"}
+LAYOUT = {SETTINGS: "<B", POINT: "<iiHHHi", RECORD: "<BHH", SEGMENT: "<H", JOIN: "<HH"}
 
 
 class Bad(Exception):
@@ -38,8 +38,8 @@ class Job:
         base, count, record = len(self.points), len(places), len(self.records)
         if base + count > NONE or record >= NONE:
             raise Bad("more points or records than two bytes can number")
-        for k, (x, y) in enumerate(places):
-            self.points.append((x, y, base + (k + 1) % count, base + (k - 1) % count, record))
+        for k, (x, y, z) in enumerate(places):
+            self.points.append((x, y, base + (k + 1) % count, base + (k - 1) % count, record, z))
         self.records.append((flags, owner, base if count else NONE))
 
 
@@ -76,10 +76,16 @@ def maybe(word):
 
 
 def place(word):
-    x, comma, y = word.partition(",")
-    if not comma:
-        raise Bad(f"not a point x,y: {word}")
-    return number(x, -(2**31), 2**31 - 1), number(y, -(2**31), 2**31 - 1)
+    """x,y or x,y,z; without one z is 0."""
+    numbers = word.split(",")
+    if len(numbers) not in (2, 3):
+        raise Bad(f"not a point x,y or x,y,z: {word}")
+    x, y, z = [number(part, -(2**31), 2**31 - 1) for part in numbers] + [0] * (3 - len(numbers))
+    return x, y, z
+
+
+def place_text(x, y, z):
+    return f"{x},{y},{z}" if z else f"{x},{y}"
 
 
 # The numbers of the lines that are one field: how each word is read.
@@ -120,14 +126,15 @@ class Text:
 
     def take_field(self, line, name, words):
         if name == "point" and len(words) == 4:
-            self.job.points.append((*place(words[0]), *map(index, words[1:])))
+            x, y, z = place(words[0])
+            self.job.points.append((x, y, *map(index, words[1:]), z))
         elif name in WORDS and len(words) == len(WORDS[name]) - 1:
             tag, *readers = WORDS[name]
             self.job.fields[tag].append(tuple(reader(word) for reader, word in zip(readers, words)))
         elif name == "ring" and len(words) >= 2:
             self.job.add_ring(byte(words[0]), maybe(words[1]), [place(word) for word in words[2:]])
         elif name == "fill" and len(words) == 1:
-            self.job.add_ring(OPEN, NONE, [(0, 0)] * index(words[0]))
+            self.job.add_ring(OPEN, NONE, [(0, 0, 0)] * index(words[0]))
         else:
             raise Bad(f"not a line of a job: {line}")
 
@@ -155,7 +162,7 @@ def ring_length(job, base, record):
     if not 0 < count <= len(job.points) - base:
         return 0
     links = [(base + (k + 1) % count, base + (k - 1) % count, record) for k in range(count)]
-    return count if [point[2:] for point in job.points[base : base + count]] == links else 0
+    return count if [point[2:5] for point in job.points[base : base + count]] == links else 0
 
 
 def ring_lines(job):
@@ -166,15 +173,15 @@ def ring_lines(job):
         flags, owner, first = job.records[record]
         count = ring_length(job, base, record)
         if count:
-            places = " ".join(f"{x},{y}" for x, y, *_ in job.points[base : base + count])
+            places = " ".join(place_text(x, y, z) for x, y, _, _, _, z in job.points[base : base + count])
             yield f"ring {flags} {none(owner)} {places}    # record {record}, points {base} to {base + count - 1}"
         elif first == NONE or first < base:
             yield f"record {flags} {none(owner)} {none(first)}    # record {record}"
         else:
             break
         base, record = base + count, record + 1
-    for k, (x, y, following, before, name) in enumerate(job.points[base:], base):
-        yield f"point {x},{y} {following} {before} {name}    # point {k}"
+    for k, (x, y, following, before, name, z) in enumerate(job.points[base:], base):
+        yield f"point {place_text(x, y, z)} {following} {before} {name}    # point {k}"
     for k, (flags, owner, first) in enumerate(job.records[record:], record):
         yield f"record {flags} {none(owner)} {none(first)}    # record {k}"
 

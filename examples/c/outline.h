@@ -18,12 +18,13 @@ extern "C" {
 
 /* ---- the job
  *
- * Fields and nothing else: a tag (one byte), the length of the value (two bytes), the value. Numbers stand low byte first, coordinates as two's
- * complement. Tags never fall; points, records, segments and joins are numbered from 0, each kind by itself. One unit is a micrometre.
+ * Fields and nothing else: a tag (one byte), the length of the value (two bytes), the value. Numbers stand low byte first; x, y and z are signed, as two's
+ * complement. Tags never fall; points, records, segments and joins are numbered from 0, each kind by itself. One unit is a micrometre. A point's z is its
+ * depth, any number, and goes with it; points are compared by x and y alone, and a crossing that is made has z 0.
  *
  *   tag  field          length  value
  *    1   settings          1    bit 0: keep points that lie in line; bit 1: write every path the other way round. First, and once
- *    2   point            14    x, y (four bytes each); next, prev, record (two bytes each)
+ *    2   point            18    x, y (four bytes each); next, prev, record (two bytes each); z (four bytes)
  *    3   record            5    flags (bit 0: the ring is open; bit 1: it has a front edge); owner, first point (two bytes each, 65535 for none)
  *    4   level segment     2    a point
  *    5   join              4    two points */
@@ -36,8 +37,8 @@ extern "C" {
 #define OUTLINE_COORDINATE 1048576
 
 /* The first so many bytes of a job decide what becomes of it: the longest job that is accepted, and one point more. */
-#define OUTLINE_JOB_BYTES 42005
-#if OUTLINE_JOB_BYTES != 4 + 17 * (OUTLINE_POINTS + 1) + 8 * OUTLINE_RECORDS + 5 * OUTLINE_SEGMENTS + 7 * OUTLINE_JOINS
+#define OUTLINE_JOB_BYTES 50201
+#if OUTLINE_JOB_BYTES != 4 + 21 * (OUTLINE_POINTS + 1) + 8 * OUTLINE_RECORDS + 5 * OUTLINE_SEGMENTS + 7 * OUTLINE_JOINS
 #error "OUTLINE_JOB_BYTES is not what the limits make it"
 #endif
 
@@ -47,24 +48,24 @@ extern "C" {
 #define OUTLINE_STATES 4
 
 /* The fixed length of a work space in words: the live block, a name for each state, and a copy of the block for each. A shorter one is refused with 10 by every call, first of all. */
-#define OUTLINE_WORK_WORDS 74324
-#if OUTLINE_WORK_WORDS != (1 + OUTLINE_STATES) * (16 + 5 * OUTLINE_POINTS + 9 * OUTLINE_RECORDS) + OUTLINE_STATES
+#define OUTLINE_WORK_WORDS 84564
+#if OUTLINE_WORK_WORDS != (1 + OUTLINE_STATES) * (16 + 6 * OUTLINE_POINTS + 9 * OUTLINE_RECORDS) + OUTLINE_STATES
 #error "OUTLINE_WORK_WORDS is not what the limits make it"
 #endif
 
-/* The tray has a field for each path: a tag (6 closed, then 7 open), the length of its value in two bytes, low byte first, and the value: x and y
+/* The tray has a field for each path: a tag (6 closed, then 7 open), the length of its value in two bytes, low byte first, and the value: x, y and z
  * of each point, four bytes each, low byte first, two's complement. A tag of 0, or the tray's end, comes after the last path.
  * So many bytes are always enough. */
-#define OUTLINE_TRAY_BYTES 17920
-#if OUTLINE_TRAY_BYTES != 3 * OUTLINE_RECORDS + 8 * OUTLINE_POINTS
+#define OUTLINE_TRAY_BYTES 26112
+#if OUTLINE_TRAY_BYTES != 3 * OUTLINE_RECORDS + 12 * OUTLINE_POINTS
 #error "OUTLINE_TRAY_BYTES is not what the limits make it"
 #endif
 
 /* ---- the listing: two counts, then a line for each path, then, with a rate, the charge; or `refused` and the number */
 
 /* A text of so many bytes has room for the listing of any job; with a shorter one outline_list does nothing. */
-#define OUTLINE_TEXT_BYTES 115303
-#if OUTLINE_TEXT_BYTES != 54 + 49 * OUTLINE_RECORDS + 44 * OUTLINE_POINTS + 49
+#define OUTLINE_TEXT_BYTES 160359
+#if OUTLINE_TEXT_BYTES != 54 + 49 * OUTLINE_RECORDS + 66 * OUTLINE_POINTS + 49
 #error "OUTLINE_TEXT_BYTES is not what the limits make it"
 #endif
 
@@ -74,8 +75,8 @@ extern "C" {
 /* ---- a job written the one way */
 
 /* A tray of so many bytes has room for any accepted job. */
-#define OUTLINE_REWRITTEN_BYTES 41988
-#if OUTLINE_REWRITTEN_BYTES != OUTLINE_JOB_BYTES - 17
+#define OUTLINE_REWRITTEN_BYTES 50180
+#if OUTLINE_REWRITTEN_BYTES != OUTLINE_JOB_BYTES - 21
 #error "OUTLINE_REWRITTEN_BYTES is not what the limits make it"
 #endif
 

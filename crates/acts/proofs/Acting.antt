@@ -10,7 +10,7 @@ use Rattle.lone.proofs.Acting.{count}
 use Rattle.lone.specs.Act.{Act, discard, dropPoint, moveOn, toFirst, double, cut, ringsNew, takesPoints, offcutsNew}
 use Rattle.store.proofs.Keeping.{Kept}
 use Rattle.store.proofs.Storing.{hit}
-use Rattle.store.specs.Field.{pt, rc, X, Y, NEXT, PRESENT}
+use Rattle.store.specs.Field.{pt, rc, X, Y, Z, NEXT, PRESENT}
 use Rattle.store.specs.Sound.{pts, recs, dueAt, Closed}
 use Rattle.store.specs.Good.{Sound}
 use Rattle.store.specs.Words.{Store}
@@ -63,16 +63,16 @@ module _ {P : Type 0} (f : Coding P) where
       ring-cut : (put : Bool) → pts s + takesPoints (cut v put false d) ≤ 2048 → Acted s (onStore s (ringWrites f s i v put d)) i (cut v put false d)
       ring-cut true h =
           record {
-            stepped = put-steps P v s o i c d₀ d b y z u r e q (f .xw v) (f .yw v) (n .x-in) (n .y-in) (omega arith);
-            first-value = λ w g. let k : v ≡ w = cc in cc (hit (pts s) (f .xw v) (s (pt X) (pts s)), hit (pts s) (f .yw v) (s (pt Y) (pts s)), n .again);
+            stepped = put-steps P v s o i c d₀ d b y z u r e q (f .xw v) (f .yw v) (f .zw v) (n .x-in) (n .y-in) (omega arith);
+            first-value = λ w g. let k : v ≡ w = cc in cc (hit (pts s) (f .xw v) (s (pt X) (pts s)), hit (pts s) (f .yw v) (s (pt Y) (pts s)), hit (pts s) (f .zw v) (s (pt Z) (pts s)), n .again);
             last-value = λ w g. let k : _≡_ {A = ℕ} 0 1 = cc in absurd (omega arith);
           }
       ring-cut false h = quiet (onStore s (cutWrites s i d)) (cut v false false d) refl refl (cut-steps P v s o i c d₀ d b y z u r e q)
 
       cut-away : (put : Bool) → pts s + takesPoints (cut v put false d) ≤ 2048 → CutAway (onStore s (ringWrites f s i v put d)) (s (rc PRESENT) i) (s (pt NEXT) (s (rc PRESENT) i))
       cut-away true h =
-          subst (λ (k : ℕ). CutAway (onStore s (cutPutWrites s i (f .xw v) (f .yw v) d)) (s (rc PRESENT) i) k) (sym (q .next-y))
-          (put-away s o i c y z u r q P v d₀ d b e (f .xw v) (f .yw v) (n .x-in) (n .y-in) (omega arith))
+          subst (λ (k : ℕ). CutAway (onStore s (cutPutWrites s i (f .xw v) (f .yw v) (f .zw v) d)) (s (rc PRESENT) i) k) (sym (q .next-y))
+          (put-away s o i c y z u r q P v d₀ d b e (f .xw v) (f .yw v) (f .zw v) (n .x-in) (n .y-in) (omega arith))
       cut-away false h = subst (λ (k : ℕ). CutAway (onStore s (cutWrites s i d)) (s (rc PRESENT) i) k) (sym (q .next-y)) (plain-away s o i c y z u r q P v d₀ d b e)
 
       -- y is the present point's next
@@ -80,28 +80,28 @@ module _ {P : Type 0} (f : Coding P) where
       e′ = e ∙ ap (λ (k : ℕ). k ∷ z ∷ u ∷ r) (sym (q .next-y))
 
       with-offcut : (put : Bool) (s₁ : Store) → Acted s s₁ i (cut v put false d) → CutAway s₁ (s (rc PRESENT) i) (s (pt NEXT) (s (rc PRESENT) i)) → pts s₁ < 2048 → recs s < 512
-          → Acted s (onStore s₁ (offcutWrites s₁ i (s (rc PRESENT) i) (s (pt NEXT) (s (rc PRESENT) i)) (f .xw v) (f .yw v))) i (cut v put true d)
+          → Acted s (onStore s₁ (offcutWrites s₁ i (s (rc PRESENT) i) (s (pt NEXT) (s (rc PRESENT) i)) (f .xw v) (f .yw v) (f .zw v))) i (cut v put true d)
       with-offcut put s₁ t l room more =
           record {
-            stepped = offcut-steps P v s s₁ o i c d₀ d b (s (pt NEXT) (s (rc PRESENT) i)) z u r e′ put (t .stepped) l (f .xw v) (f .yw v) (n .x-in) (n .y-in) room more;
+            stepped = offcut-steps P v s s₁ o i c d₀ d b (s (pt NEXT) (s (rc PRESENT) i)) z u r e′ put (t .stepped) l (f .xw v) (f .yw v) (f .zw v) (n .x-in) (n .y-in) room more;
             first-value = first put (t .first-value) (t .stepped .points);
             last-value = λ w g.
                 let k : v ≡ w = cc in
                 let at : pts s + count (ringsNew (cut v put true d)) ≡ pts s₁ = counted put ∙ sym (t .stepped .points) in
-                ap (value (f .of) (onStore s₁ (offcutWrites s₁ i (s (rc PRESENT) i) (s (pt NEXT) (s (rc PRESENT) i)) (f .xw v) (f .yw v)))) at
-                ∙ cc (hit (pts s₁) (f .xw v) (s₁ (pt X) (pts s₁)), hit (pts s₁) (f .yw v) (s₁ (pt Y) (pts s₁)), n .again);
+                ap (value (f .of) (onStore s₁ (offcutWrites s₁ i (s (rc PRESENT) i) (s (pt NEXT) (s (rc PRESENT) i)) (f .xw v) (f .yw v) (f .zw v)))) at
+                ∙ cc (hit (pts s₁) (f .xw v) (s₁ (pt X) (pts s₁)), hit (pts s₁) (f .yw v) (s₁ (pt Y) (pts s₁)), hit (pts s₁) (f .zw v) (s₁ (pt Z) (pts s₁)), n .again);
           }
         where
-          N : Kept s₁ (onStore s₁ (offcutWrites s₁ i (s (rc PRESENT) i) (s (pt NEXT) (s (rc PRESENT) i)) (f .xw v) (f .yw v))) (recs s₁)
-          N = offcut-kept s₁ (t .stepped .sound) i (s (rc PRESENT) i) (s (pt NEXT) (s (rc PRESENT) i)) (f .xw v) (f .yw v) (rw (t .stepped .made) (c .known)) l (n .x-in) (n .y-in) room (rw (t .stepped .made) more)
+          N : Kept s₁ (onStore s₁ (offcutWrites s₁ i (s (rc PRESENT) i) (s (pt NEXT) (s (rc PRESENT) i)) (f .xw v) (f .yw v) (f .zw v))) (recs s₁)
+          N = offcut-kept s₁ (t .stepped .sound) i (s (rc PRESENT) i) (s (pt NEXT) (s (rc PRESENT) i)) (f .xw v) (f .yw v) (f .zw v) (rw (t .stepped .made) (c .known)) l (n .x-in) (n .y-in) room (rw (t .stepped .made) more)
 
           counted : (b : Bool) → pts s + count (ringsNew (cut v b true d)) ≡ pts s + takesPoints (cut v b false d)
           counted true = refl
           counted false = refl
 
           first : (b : Bool) → ((w : P) → ringsNew (cut v b false d) ≡ some w → value (f .of) s₁ (pts s) ≡ w) → pts s₁ ≡ pts s + takesPoints (cut v b false d)
-              → (w : P) → ringsNew (cut v b true d) ≡ some w → value (f .of) (onStore s₁ (offcutWrites s₁ i (s (rc PRESENT) i) (s (pt NEXT) (s (rc PRESENT) i)) (f .xw v) (f .yw v))) (pts s) ≡ w
-          first true g m w k = cc (N .xs (pts s) (omega arith), N .ys (pts s) (omega arith)) ∙ g w k
+              → (w : P) → ringsNew (cut v b true d) ≡ some w → value (f .of) (onStore s₁ (offcutWrites s₁ i (s (rc PRESENT) i) (s (pt NEXT) (s (rc PRESENT) i)) (f .xw v) (f .yw v) (f .zw v))) (pts s) ≡ w
+          first true g m w k = cc (N .xs (pts s) (omega arith), N .ys (pts s) (omega arith), N .zs (pts s) (omega arith)) ∙ g w k
           first false g m w k = let z : _≡_ {A = ℕ} 0 1 = cc in absurd (omega arith)
 
       all-cut : (put off : Bool) → pts s + takesPoints (cut v put off d) ≤ 2048 → recs s + takesRecord (cut v put off d) ≤ 512 → Acted s (after f s i (cut v put off d)) i (cut v put off d)
@@ -117,8 +117,8 @@ module _ {P : Type 0} (f : Coding P) where
     act-steps act (to-drop e b z w r g) h m = quiet (onStore s (dropWrites s i)) dropPoint refl refl (drop-steps P s o i c e b z w r g)
     act-steps act (to-double d₀ d b y r e v n) h m =
         record {
-          stepped = double-steps P v s o i c d₀ d b (f .xw v) (f .yw v) (n .x-in) (n .y-in) (omega arith) y r e;
-          first-value = λ w g. let k : v ≡ w = cc in cc (hit (pts s) (f .xw v) (s (pt X) (pts s)), hit (pts s) (f .yw v) (s (pt Y) (pts s)), n .again);
+          stepped = double-steps P v s o i c d₀ d b (f .xw v) (f .yw v) (f .zw v) (n .x-in) (n .y-in) (omega arith) y r e;
+          first-value = λ w g. let k : v ≡ w = cc in cc (hit (pts s) (f .xw v) (s (pt X) (pts s)), hit (pts s) (f .yw v) (s (pt Y) (pts s)), hit (pts s) (f .zw v) (s (pt Z) (pts s)), n .again);
           last-value = λ w g. let k : _≡_ {A = ℕ} 0 1 = cc in absurd (omega arith);
         }
     act-steps act (to-cut d₀ d b y z u r e v n put off) h m = all-cut d₀ d b y z u r e v n put off h m

@@ -56,7 +56,7 @@ module _ (m : List ℕ) where
     after-more dropPoint h = by-list (λ (s : Store). dropWrites s i) h
     after-more (moveOn d) h = by-list (λ (s : Store). moveWrites s i d) h
     after-more (toFirst d) h = by-list (λ (s : Store). toFirstWrites s i d) h
-    after-more (double a d) h = by-list (λ (s : Store). doubleWrites s i (f .xw a) (f .yw a) d) h
+    after-more (double a d) h = by-list (λ (s : Store). doubleWrites s i (f .xw a) (f .yw a) (f .zw a) d) h
     after-more (cut a p off d) h =
         let r : Store → List Write = λ (s : Store). ringWrites f s i a p d in
         let u : List ℕ = onWords v (r (view v)) in

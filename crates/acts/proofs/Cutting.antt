@@ -56,6 +56,7 @@ module _ (W : Type 0) (v : W) (s : Store) (o : Sound s) (i : ℕ) (c : Closed s 
         records = λ f j l n. unwritten s (cutWrites s i d) (rc f) j (inl refl, (inl refl, (inr n, (inr n, (inr n, tt)))));
         xs = λ k l. refl;
         ys = λ k l. refl;
+        zs = λ k l. refl;
         nexts = λ k l h. miss k (s (pt PREV) (s (rc PRESENT) i)) (s (pt NEXT) (s (pt NEXT) (s (rc PRESENT) i))) (s (pt NEXT) k)
             (λ t. omega (arith, h, q .occs k, subst (λ (n : ℕ). 0 < occ n (u ∷ r)) (sym (t ∙ q .prev-p)) (occ-lastOf u r)));
         prevs = λ k l h. miss k (s (pt NEXT) (s (pt NEXT) (s (rc PRESENT) i))) (s (pt PREV) (s (rc PRESENT) i)) (s (pt PREV) k)

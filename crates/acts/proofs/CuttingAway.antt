@@ -61,8 +61,8 @@ module _ (s : Store) (o : Sound s) (i : ℕ) (c : Closed s i) (y z u : ℕ) (r :
           y-prev = miss y _ _ _ (λ t. not-z (t ∙ q .next-z)) ∙ q .whole .linked .1;
         }
 
-    module _ (vx vy : ℕ) (hx : vx ≤ 2097152) (hy : vy ≤ 2097152) (room : pts s < 2048) where
-      point-in′ : (k : ℕ) → PointIn s k → PointIn (onStore s (cutPutWrites s i vx vy d)) k
+    module _ (vx vy vz : ℕ) (hx : vx ≤ 2097152) (hy : vy ≤ 2097152) (room : pts s < 2048) where
+      point-in′ : (k : ℕ) → PointIn s k → PointIn (onStore s (cutPutWrites s i vx vy vz d)) k
       point-in′ k t =
           let n : k ≢ pts s = λ w. omega (arith, t .below) in
           record {
@@ -72,15 +72,15 @@ module _ (s : Store) (o : Sound s) (i : ℕ) (c : Closed s i) (y z u : ℕ) (r :
             record-in = rw (miss k (pts s) (s (pt REC) (s (pt PREV) (s (rc PRESENT) i))) (s (pt REC) k) n) (t .record-in);
           }
 
-      pub put-away : CutAway (onStore s (cutPutWrites s i vx vy d)) (s (rc PRESENT) i) y
+      pub put-away : CutAway (onStore s (cutPutWrites s i vx vy vz d)) (s (rc PRESENT) i) y
       put-away =
-          let K : Kept s (onStore s (cutPutWrites s i vx vy d)) i = put-steps W v s o i c d₀ d b y z u r e q vx vy hx hy room .kept in
+          let K : Kept s (onStore s (cutPutWrites s i vx vy vz d)) i = put-steps W v s o i c d₀ d b y z u r e q vx vy vz hx hy room .kept in
           record {
             x-point = point-in′ (s (rc PRESENT) i) point-x;
             y-point = point-in′ y point-y;
             two = apart;
-            x-free = free (onStore s (cutPutWrites s i vx vy d)) K refl (s (rc PRESENT) i) x-on (omega (arith, put-occ W v s o i c d₀ d b y z u r e q vx vy hx hy room (s (rc PRESENT) i), one-here (s (rc PRESENT) i), one-else (s (rc PRESENT) i) (pts s) (λ t. omega (arith, point-x .below))));
-            y-free = free (onStore s (cutPutWrites s i vx vy d)) K refl y y-on (omega (arith, put-occ W v s o i c d₀ d b y z u r e q vx vy hx hy room y, one-here y, one-else y (pts s) (λ t. omega (arith, point-y .below))));
-            x-next = next-else W v s o i c d₀ d b y z u r e q vx vy hx hy room (s (rc PRESENT) i) (point-x .below) (λ t. not-p (t ∙ q .prev-p)) ∙ q .next-y;
-            y-prev = prev-else W v s o i c d₀ d b y z u r e q vx vy hx hy room y (point-y .below) (λ t. not-z (t ∙ q .next-z)) ∙ q .whole .linked .1;
+            x-free = free (onStore s (cutPutWrites s i vx vy vz d)) K refl (s (rc PRESENT) i) x-on (omega (arith, put-occ W v s o i c d₀ d b y z u r e q vx vy vz hx hy room (s (rc PRESENT) i), one-here (s (rc PRESENT) i), one-else (s (rc PRESENT) i) (pts s) (λ t. omega (arith, point-x .below))));
+            y-free = free (onStore s (cutPutWrites s i vx vy vz d)) K refl y y-on (omega (arith, put-occ W v s o i c d₀ d b y z u r e q vx vy vz hx hy room y, one-here y, one-else y (pts s) (λ t. omega (arith, point-y .below))));
+            x-next = next-else W v s o i c d₀ d b y z u r e q vx vy vz hx hy room (s (rc PRESENT) i) (point-x .below) (λ t. not-p (t ∙ q .prev-p)) ∙ q .next-y;
+            y-prev = prev-else W v s o i c d₀ d b y z u r e q vx vy vz hx hy room y (point-y .below) (λ t. not-z (t ∙ q .next-z)) ∙ q .whole .linked .1;
           }

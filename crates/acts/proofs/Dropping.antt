@@ -53,6 +53,7 @@ module _ (W : Type 0) (s : Store) (o : Sound s) (i : ℕ) (c : Closed s i) (m : 
           records = λ f j l d. unwritten s (dropWrites s i) (rc f) j (inr d, (inl refl, (inl refl, (inr d, (inr d, tt)))));
           xs = λ k l. refl;
           ys = λ k l. refl;
+          zs = λ k l. refl;
           nexts = λ k l h. miss k (s (pt PREV) (s (rc PRESENT) i)) (s (pt NEXT) (s (rc PRESENT) i)) (s (pt NEXT) k) (λ q. let q′ : k ≡ lastOf w r = q ∙ prev-p in omega (arith, h, occs k, subst (λ (n : ℕ). 0 < occ n (w ∷ r)) (sym q′) (occ-lastOf w r)));
           prevs = λ k l h. miss k (s (pt NEXT) (s (rc PRESENT) i)) (s (pt PREV) (s (rc PRESENT) i)) (s (pt PREV) k) (λ q. let q′ : k ≡ z = q ∙ next-z in omega (arith, h, occs k, subst (λ (n : ℕ). 0 < occ n (z ∷ w ∷ r)) (sym q′) (occ-head z (w ∷ r))));
           recordings = λ k l h. refl;

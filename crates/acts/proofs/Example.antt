@@ -14,7 +14,7 @@ use Rattle.rings.specs.Walk.{run}
 use Rattle.lone.specs.Forest.{Forest, closedRing, initial, runForest, at, cutFrom}
 use Rattle.lone.specs.Lone.{Geo}
 use Rattle.lone.specs.Order.{machine}
-use Rattle.store.specs.Field.{pt, rc, ct, X, Y, NEXT, PREV, REC, FLAGS, OWNER, FIRST, MARK, PRESENT, START, CUT, REASON, TAKER, SETTINGS, POINTS, RECORDS, NONE}
+use Rattle.store.specs.Field.{pt, rc, ct, X, Y, Z, NEXT, PREV, REC, FLAGS, OWNER, FIRST, MARK, PRESENT, START, CUT, REASON, TAKER, SETTINGS, POINTS, RECORDS, NONE}
 use Rattle.store.specs.Sound.{ringAt}
 use Rattle.store.specs.Good.{PointIn, Good, Sound}
 use Rattle.store.specs.Words.{Store}
@@ -42,6 +42,7 @@ three (pt Y) k = 1048576 + pv k
 three (pt NEXT) k = nx k
 three (pt PREV) k = pv k
 three (pt REC) k = 0
+three (pt Z) k = 0
 three (rc FLAGS) i = 0
 three (rc OWNER) i = NONE
 three (rc FIRST) i = 0

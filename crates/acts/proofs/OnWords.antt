@@ -52,21 +52,21 @@ module _ {P : Type 0} (f : Coding P) where
     within-drop : About → Within (dropWrites s i)
     within-drop a = (i-in, (a .p-in, (a .n-in, (i-in, (i-in, tt)))))
 
-    within-double : About → pts s < 2048 → (vx vy : ℕ) (d : Due) → Within (doubleWrites s i vx vy d)
-    within-double a k vx vy d = (omega arith, (k, (k, (k, (k, (k, (a .p-in, (a .x-in, (i-in, tt)))))))))
+    within-double : About → pts s < 2048 → (vx vy vz : ℕ) (d : Due) → Within (doubleWrites s i vx vy vz d)
+    within-double a k vx vy vz d = (omega arith, (k, (k, (k, (k, (k, (k, (a .p-in, (a .x-in, (i-in, tt))))))))))
 
     within-cut : About → s (pt NEXT) (s (pt NEXT) (s (rc PRESENT) i)) < 2048 → (d : Due) → Within (cutWrites s i d)
     within-cut a z d = (a .p-in, (z, (i-in, (i-in, (i-in, tt)))))
 
-    within-put : About → s (pt NEXT) (s (pt NEXT) (s (rc PRESENT) i)) < 2048 → pts s < 2048 → (vx vy : ℕ) (d : Due) → Within (cutPutWrites s i vx vy d)
-    within-put a z k vx vy d = (omega arith, (k, (k, (k, (k, (k, (a .p-in, (z, (i-in, (i-in, (i-in, tt)))))))))))
+    within-put : About → s (pt NEXT) (s (pt NEXT) (s (rc PRESENT) i)) < 2048 → pts s < 2048 → (vx vy vz : ℕ) (d : Due) → Within (cutPutWrites s i vx vy vz d)
+    within-put a z k vx vy vz d = (omega arith, (k, (k, (k, (k, (k, (k, (a .p-in, (z, (i-in, (i-in, (i-in, tt))))))))))))
 
     within-ring : About → s (pt NEXT) (s (pt NEXT) (s (rc PRESENT) i)) < 2048 → (v : P) (put : Bool) (d : Due) → pts s + takesPoints (cut v put false d) ≤ 2048 → Within (ringWrites f s i v put d)
-    within-ring a z v true d h = within-put a z (omega arith) (f .xw v) (f .yw v) d
+    within-ring a z v true d h = within-put a z (omega arith) (f .xw v) (f .yw v) (f .zw v) d
     within-ring a z v false d h = within-cut a z d
 
-  within-offcut : (s : Store) (i x y vx vy : ℕ) → x < 2048 → y < 2048 → pts s < 2048 → recs s < 512 → Within (offcutWrites s i x y vx vy)
-  within-offcut s i x y vx vy hx hy k r = (omega arith, (hx, (hy, (omega arith, (k, (k, (k, (k, (k, (hy, (hx, (r, (r, (r, (r, (r, (r, (r, tt))))))))))))))))))
+  within-offcut : (s : Store) (i x y vx vy vz : ℕ) → x < 2048 → y < 2048 → pts s < 2048 → recs s < 512 → Within (offcutWrites s i x y vx vy vz)
+  within-offcut s i x y vx vy vz hx hy k r = (omega arith, (hx, (hy, (omega arith, (k, (k, (k, (k, (k, (k, (hy, (hx, (r, (r, (r, (r, (r, (r, (r, tt)))))))))))))))))))
 
   -- what an act writes is within the columns
   abbrev pub Inside : List ℕ → ℕ → Act P → Type 0
@@ -75,7 +75,7 @@ module _ {P : Type 0} (f : Coding P) where
   Inside w i dropPoint = Within (dropWrites (view w) i)
   Inside w i (moveOn d) = Within (moveWrites (view w) i d)
   Inside w i (toFirst d) = Within (toFirstWrites (view w) i d)
-  Inside w i (double v d) = Within (doubleWrites (view w) i (f .xw v) (f .yw v) d)
+  Inside w i (double v d) = Within (doubleWrites (view w) i (f .xw v) (f .yw v) (f .zw v) d)
   Inside w i (cut v put off d) = Within (ringWrites f (view w) i v put d) × Within (offWrites f (view w) (view (onWords w (ringWrites f (view w) i v put d))) i v off)
 
   -- so the words show the store
@@ -85,7 +85,7 @@ module _ {P : Type 0} (f : Coding P) where
   view-inside w i l dropPoint h = view-writes w (dropWrites (view w) i) l h
   view-inside w i l (moveOn d) h = view-writes w (moveWrites (view w) i d) l h
   view-inside w i l (toFirst d) h = view-writes w (toFirstWrites (view w) i d) l h
-  view-inside w i l (double v d) h = view-writes w (doubleWrites (view w) i (f .xw v) (f .yw v) d) l h
+  view-inside w i l (double v d) h = view-writes w (doubleWrites (view w) i (f .xw v) (f .yw v) (f .zw v) d) l h
   view-inside w i l (cut v put off d) h =
       let r : List Write = ringWrites f (view w) i v put d in
       view-writes (onWords w r) (offWrites f (view w) (view (onWords w r)) i v off) (omega (arith, length-writes w r)) (h .1)
@@ -104,7 +104,7 @@ module _ {P : Type 0} (f : Coding P) where
         ring put h = within-ring (view w) o i c a z v put d h
 
         offcut : (w₁ : List ℕ) (s₁ : Store) → view w₁ ≡ s₁ → pts s₁ < 2048 → recs s₁ < 512 → Within (offWrites f (view w) (view w₁) i v true)
-        offcut w₁ s₁ e n r = within-offcut (view w₁) i (view w (rc PRESENT) i) (view w (pt NEXT) (view w (rc PRESENT) i)) (f .xw v) (f .yw v) (a .x-in) (a .n-in) (subst (λ (s : Store). pts s < 2048) (sym e) n) (subst (λ (s : Store). recs s < 512) (sym e) r)
+        offcut w₁ s₁ e n r = within-offcut (view w₁) i (view w (rc PRESENT) i) (view w (pt NEXT) (view w (rc PRESENT) i)) (f .xw v) (f .yw v) (f .zw v) (a .x-in) (a .n-in) (subst (λ (s : Store). pts s < 2048) (sym e) n) (subst (λ (s : Store). recs s < 512) (sym e) r)
 
         go : (put off : Bool) → pts (view w) + takesPoints (cut v put off d) ≤ 2048 → recs (view w) + takesRecord (cut v put off d) ≤ 512 → Inside w i (cut v put off d)
         go put false h m = (ring put h, tt)
@@ -116,7 +116,7 @@ module _ {P : Type 0} (f : Coding P) where
     inside act (to-move d₀ d e g) h m = (k, (k, tt))
     inside act (to-go-first d₀ d e g) h m = (k, (k, (k, tt)))
     inside act (to-drop e b z u r g) h m = within-drop (view w) o i c (about (view w) o i c _ b z (u ∷ r) g)
-    inside act (to-double d₀ d b y r e v n) h m = within-double (view w) o i c (about (view w) o i c d₀ b y r e) (omega arith) (f .xw v) (f .yw v) d
+    inside act (to-double d₀ d b y r e v n) h m = within-double (view w) o i c (about (view w) o i c d₀ b y r e) (omega arith) (f .xw v) (f .yw v) (f .zw v) d
     inside act (to-cut d₀ d b y z u r e v n put off) h m = cut-inside v put off d (about (view w) o i c d₀ b y (z ∷ u ∷ r) e) (second (view w) o i c y z u r (four (view w) i d₀ b y z u r e)) h m
 
     pub after-view : (act : Act P) → Ready f (view w) i act → pts (view w) + takesPoints act ≤ 2048 → recs (view w) + takesRecord act ≤ 512 → view (afterW f w i act) ≡ after f (view w) i act
@@ -128,6 +128,6 @@ module _ {P : Type 0} (f : Coding P) where
   length-after w i dropPoint = length-writes w (dropWrites (view w) i)
   length-after w i (moveOn d) = length-writes w (moveWrites (view w) i d)
   length-after w i (toFirst d) = length-writes w (toFirstWrites (view w) i d)
-  length-after w i (double v d) = length-writes w (doubleWrites (view w) i (f .xw v) (f .yw v) d)
+  length-after w i (double v d) = length-writes w (doubleWrites (view w) i (f .xw v) (f .yw v) (f .zw v) d)
   length-after w i (cut v put off d) =
       length-writes (onWords w (ringWrites f (view w) i v put d)) (offWrites f (view w) (view (onWords w (ringWrites f (view w) i v put d))) i v off) ∙ length-writes w (ringWrites f (view w) i v put d)

@@ -23,7 +23,7 @@ use Rattle.acts.specs.InStep.{orNone, Holds, no-ring, an-open, a-closed}
 use Rattle.acts.specs.Rep.{inLoop, Rep}
 use Rattle.acts.specs.Value.{value}
 
-module _ {P : Type 0} (of : ℕ → ℕ → P) (s : Store) where
+module _ {P : Type 0} (of : ℕ → ℕ → ℕ → P) (s : Store) where
   held : (i : ℕ) → Fresh s i → Holds of s i (enter (openedAt of s i))
   held i f = go (ringless s i) (isOpen s i) refl refl
     where

@@ -22,7 +22,7 @@ use Rattle.lone.specs.Act.{discard, moveOn, toFirst, apply}
 use Rattle.store.proofs.Keeping.{Local, local-kept, once-same, sound-after}
 use Rattle.store.proofs.Soundness.{whole, first-on}
 use Rattle.store.proofs.Storing.{unwritten, hit}
-use Rattle.store.specs.Field.{RecordCol, pt, rc, ct, X, Y, NEXT, PREV, REC, FIRST, MARK, PRESENT, START, REASON, POINTS, RECORDS, NONE}
+use Rattle.store.specs.Field.{RecordCol, pt, rc, ct, X, Y, Z, NEXT, PREV, REC, FIRST, MARK, PRESENT, START, REASON, POINTS, RECORDS, NONE}
 use Rattle.store.specs.Reason.{JOINED, reasonNumber, discardOf, isKept}
 use Rattle.store.specs.Sound.{pts, recs, ringless, ringAt, dueAt, markOf, Closed, loneDue, loneAt}
 use Rattle.store.specs.Good.{PointIn, Good, Sound}
@@ -54,6 +54,7 @@ module _ (s s′ : Store) (i : ℕ) (R : OnRecord s s′ i) where
         records = λ f j l d. R .records f j d;
         xs = λ k l. ap (λ (g : ℕ → ℕ). g k) (R .points X);
         ys = λ k l. ap (λ (g : ℕ → ℕ). g k) (R .points Y);
+        zs = λ k l. ap (λ (g : ℕ → ℕ). g k) (R .points Z);
         nexts = λ k l e. ap (λ (g : ℕ → ℕ). g k) (R .points NEXT);
         prevs = λ k l e. ap (λ (g : ℕ → ℕ). g k) (R .points PREV);
         recordings = λ k l e. ap (λ (g : ℕ → ℕ). g k) (R .points REC);

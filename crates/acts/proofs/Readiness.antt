@@ -16,7 +16,7 @@ use Rattle.rings.specs.Progress.{Ring, Due, validity, removal, triangle, split,
 use Rattle.lone.specs.Lone.{Geo, isZero, actOf, decide, removalTurn, splitTurn, doSplitOp, isValidClosedPath, tooSmall, keepsOffcut}
 use Rattle.lone.specs.Act.{discard, dropPoint, moveOn, toFirst, double, cut}
 use Rattle.store.proofs.Soundness.{whole, first-on}
-use Rattle.store.specs.Field.{pt, rc, X, Y, NEXT, PREV, PRESENT, START, FIRST}
+use Rattle.store.specs.Field.{pt, rc, X, Y, Z, NEXT, PREV, PRESENT, START, FIRST}
 use Rattle.store.specs.Sound.{pts, ringAt, Closed, dueAt, loneAt}
 use Rattle.store.specs.Good.{PointIn, Sound}
 use Rattle.store.specs.Words.{Store}
@@ -54,7 +54,7 @@ module _ {P : Type 0} (G : Geo P) (f : Coding P) (Λ : Laws G f) (s : Store) (o 
 
   module _ (m : dueAt s i ≡ split) (b : Loop s i (s (rc PRESENT) i) split) where
     in-value : (k : ℕ) → 0 < occ k (s (rc PRESENT) i ∷ b .others) → Codes f (value (f .of) s k)
-    in-value k p = let t : PointIn s k = o .good i (c .known) .points-in k (rw (b .occs k) p) in Λ .reads (s (pt X) k) (s (pt Y) k) (t .x-in) (t .y-in)
+    in-value k p = let t : PointIn s k = o .good i (c .known) .points-in k (rw (b .occs k) p) in Λ .reads (s (pt X) k) (s (pt Y) k) (s (pt Z) k) (t .x-in) (t .y-in)
 
     splits : (xs : List ℕ) → b .others ≡ xs → (fi : ℕ) (st : Option ℕ) → Ready f s i (splitTurn G (value (f .of) s (s (rc PRESENT) i) ∷ map (value (f .of) s) xs) fi st)
     unfolding splitTurn doSplitOp

@@ -107,9 +107,9 @@ lone-points s o i h closed k = go (ringless s i) refl
     go true e p = p
     go false e p = by e (dueAt s i) refl p
 
-module _ {P : Type 0} (of : ℕ → ℕ → P) (s s′ : Store) (o : Sound s) (i : ℕ) (K : Kept s s′ i) where
+module _ {P : Type 0} (of : ℕ → ℕ → ℕ → P) (s s′ : Store) (o : Sound s) (i : ℕ) (K : Kept s s′ i) where
   val-kept : (k : ℕ) → k < pts s → value of s′ k ≡ value of s k
-  val-kept k l = cc (K .xs k l, K .ys k l)
+  val-kept k l = cc (K .xs k l, K .ys k l, K .zs k l)
 
   pub on-ring : (j : ℕ) → j < recs s → (k : ℕ) → 0 < occ k (ringAt s j) → value of s′ k ≡ value of s k
   on-ring j l k p = val-kept k (o .good j l .points-in k p .below)
@@ -125,7 +125,7 @@ module _ {P : Type 0} (of : ℕ → ℕ → P) (s s′ : Store) (o : Sound s) (i
   holds-other j l d e (a-closed q L p c m) = a-closed q L (rw (K .records FLAGS j l d) p) (K .records CUT j l d ∙ c)
       (m ∙ sym (lone-kept j l p) ∙ ap (mapRing (value of s′)) (sym (lone-other s s′ o i K j l d p)))
 
-module _ {P : Type 0} (of : ℕ → ℕ → P) (s : Store) (F : Forest (Ring P) (List P)) (r : InStep of s F) (i : ℕ) where
+module _ {P : Type 0} (of : ℕ → ℕ → ℕ → P) (s : Store) (F : Forest (Ring P) (List P)) (r : InStep of s F) (i : ℕ) where
   -- what is at i, taken apart
   pub record Here (q : Option ℕ) (L : State (Ring P)) : Type 0 where
     pub known : i < recs s

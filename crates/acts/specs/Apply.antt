@@ -8,11 +8,12 @@ use Rattle.store.specs.Field.{pt, rc, NEXT, PRESENT}
 use Rattle.store.specs.Words.{Store, Write, view, onWords}
 use Rattle.acts.specs.Writes.{moveWrites, toFirstWrites, discardWrites, dropWrites, doubleWrites, cutWrites, cutPutWrites, offcutWrites}
 
--- a point's value as two words: read, and written
+-- a point's value as three words: read, and written
 pub record Coding (P : Type 0) : Type 0 where
-  pub of : ℕ → ℕ → P
+  pub of : ℕ → ℕ → ℕ → P
   pub xw : P → ℕ
   pub yw : P → ℕ
+  pub zw : P → ℕ
 
 module _ {P : Type 0} where
   -- the records that an act takes
@@ -29,12 +30,12 @@ module _ {P : Type 0} where
 module _ {P : Type 0} (f : Coding P) where
   -- what a cut writes in the ring itself
   abbrev pub ringWrites : Store → ℕ → P → Bool → Due → List Write
-  ringWrites s i v true d = cutPutWrites s i (f .xw v) (f .yw v) d
+  ringWrites s i v true d = cutPutWrites s i (f .xw v) (f .yw v) (f .zw v) d
   ringWrites s i v false d = cutWrites s i d
 
   -- what it then writes for its offcut, on s₁: the present point and the next one are those of the store s before the cut
   abbrev pub offWrites : Store → Store → ℕ → P → Bool → List Write
-  offWrites s s₁ i v true = offcutWrites s₁ i (s (rc PRESENT) i) (s (pt NEXT) (s (rc PRESENT) i)) (f .xw v) (f .yw v)
+  offWrites s s₁ i v true = offcutWrites s₁ i (s (rc PRESENT) i) (s (pt NEXT) (s (rc PRESENT) i)) (f .xw v) (f .yw v) (f .zw v)
   offWrites s s₁ i v false = []
 
   -- the words after it
@@ -44,5 +45,5 @@ module _ {P : Type 0} (f : Coding P) where
   afterW w i dropPoint = onWords w (dropWrites (view w) i)
   afterW w i (moveOn d) = onWords w (moveWrites (view w) i d)
   afterW w i (toFirst d) = onWords w (toFirstWrites (view w) i d)
-  afterW w i (double v d) = onWords w (doubleWrites (view w) i (f .xw v) (f .yw v) d)
+  afterW w i (double v d) = onWords w (doubleWrites (view w) i (f .xw v) (f .yw v) (f .zw v) d)
   afterW w i (cut v put off d) = onWords (onWords w (ringWrites (view w) i v put d)) (offWrites (view w) (view (onWords w (ringWrites (view w) i v put d))) i v off)

@@ -1,4 +1,4 @@
--- Values that two words hold, and the store after an act.
+-- Values that three words hold, and the store after an act.
 use Prim.Native.Nat.{ℕ, _*_, _≤_}
 use mathlib.Core.Path.{_≡_}
 use Rattle.job.specs.Limits as limit
@@ -8,11 +8,11 @@ use Rattle.store.specs.Stores.{onStore}
 use Rattle.acts.specs.Writes.{moveWrites, toFirstWrites, discardWrites, dropWrites, doubleWrites}
 use Rattle.acts.specs.Apply.{Coding, offWrites, ringWrites}
 
--- a value that two words in range hold
+-- a value that three words hold, the first two in range
 pub record Codes {P : Type 0} (f : Coding P) (v : P) : Type 0 where
   pub x-in : f .xw v ≤ 2 * limit.COORDINATE
   pub y-in : f .yw v ≤ 2 * limit.COORDINATE
-  pub again : f .of (f .xw v) (f .yw v) ≡ v
+  pub again : f .of (f .xw v) (f .yw v) (f .zw v) ≡ v
 
 module _ {P : Type 0} (f : Coding P) where
   -- the store after an act on record i
@@ -22,5 +22,5 @@ module _ {P : Type 0} (f : Coding P) where
   after s i dropPoint = onStore s (dropWrites s i)
   after s i (moveOn d) = onStore s (moveWrites s i d)
   after s i (toFirst d) = onStore s (toFirstWrites s i d)
-  after s i (double v d) = onStore s (doubleWrites s i (f .xw v) (f .yw v) d)
+  after s i (double v d) = onStore s (doubleWrites s i (f .xw v) (f .yw v) (f .zw v) d)
   after s i (cut v put off d) = onStore (onStore s (ringWrites f s i v put d)) (offWrites f s (onStore s (ringWrites f s i v put d)) i v off)

@@ -25,7 +25,7 @@ abbrev pub orNone : Option ℕ → ℕ
 orNone none = NONE
 orNone (some q) = q
 
-module _ {P : Type 0} (of : ℕ → ℕ → P) where
+module _ {P : Type 0} (of : ℕ → ℕ → ℕ → P) where
   -- record i of the store is this record of the forest. What its lone ring cut off and took is not in the words.
   pub data Holds (s : Store) (i : ℕ) : Entry (Ring P) (List P) → Type 0 where
     no-ring : ringless s i ≡ true → Holds s i forest.ringless

@@ -12,4 +12,4 @@ pub record Laws {P : Type 0} (G : Geo P) (f : Coding P) : Type 0 where
   -- so a ring of three points cuts nothing, nor one of two or one
   pub flat : GeoLaws G
   pub meets : (a b c d : P) → Codes f a → Codes f b → Codes f c → Codes f d → G .segmentsIntersect a b c d ≡ true → Codes f (G .crossingPoint a b c d)
-  pub reads : (a b : ℕ) → a ≤ 2 * limit.COORDINATE → b ≤ 2 * limit.COORDINATE → Codes f (f .of a b)
+  pub reads : (a b c : ℕ) → a ≤ 2 * limit.COORDINATE → b ≤ 2 * limit.COORDINATE → Codes f (f .of a b c)

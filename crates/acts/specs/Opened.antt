@@ -16,7 +16,7 @@ pub record Fresh (s : Store) (i : ℕ) : Type 0 where
   pub cut-is : s (rc CUT) i ≡ NONE
   pub mark-is : ringless s i ≡ false → isOpen s i ≡ false → s (rc MARK) i ≡ 0
 
-module _ {P : Type 0} (of : ℕ → ℕ → P) (s : Store) where
+module _ {P : Type 0} (of : ℕ → ℕ → ℕ → P) (s : Store) where
   abbrev pub openedAt : ℕ → Fed (Ring P) (List P)
   openedAt i = cond (ringless s i) leftRingless (cond (isOpen s i) (leftOpen (map (value of s) (ringAt s i))) (leftClosed (atStart (map (value of s) (ringAt s i)))))
 

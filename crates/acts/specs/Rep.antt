@@ -24,7 +24,7 @@ inLoop done = false
 abbrev pub Looped : Store → ℕ → Type 0
 Looped s i = Closed s i × (inLoop (dueAt s i) ≡ true)
 
-pub record Rep {P : Type 0} (of : ℕ → ℕ → P) (s : Store) (F : Forest (Ring P) (List P)) : Type 0 where
+pub record Rep {P : Type 0} (of : ℕ → ℕ → ℕ → P) (s : Store) (F : Forest (Ring P) (List P)) : Type 0 where
   pub in-step : InStep of s F
   -- a loop's start is a point in use
   pub starts : (i : ℕ) → Looped s i → s (rc START) i < pts s

@@ -1,4 +1,4 @@
--- What each act writes, in the program's order; each value is read before the first write. (vx, vy) are the words of a new point's value.
+-- What each act writes, in the program's order; each value is read before the first write. (vx, vy, vz) are the words of a new point's value.
 -- The act's rule on words is `onWords w (writes (view w) ..)`.
 use Prim.Native.Nat.{ℕ, suc}
 use mathlib.Core.Bool.{cond}
@@ -24,8 +24,8 @@ abbrev pub discardWrites : ℕ → Discard → List Write
 discardWrites i y = write (rc FIRST) i NONE ∷ write (rc MARK) i (markOf done) ∷ write (rc REASON) i (reasonNumber y) ∷ []
 
 -- a new point k between p and n
-abbrev pub putWrites : ℕ → ℕ → ℕ → ℕ → ℕ → ℕ → List Write
-putWrites k vx vy r p n = pointWrites k vx vy r ++ linkWrites p k n
+abbrev pub putWrites : ℕ → ℕ → ℕ → ℕ → ℕ → ℕ → ℕ → List Write
+putWrites k vx vy vz r p n = pointWrites k vx vy vz r ++ linkWrites p k n
 
 -- the present point x goes out, between p and n; a first point that was x is p then
 abbrev pub dropWrites : Store → ℕ → List Write
@@ -36,12 +36,12 @@ dropWrites s i =
     write (rc FIRST) i (cond (eqb (s (rc FIRST) i) x) p (s (rc FIRST) i)) ∷ unlinkWrites p n ++ (write (rc PRESENT) i n ∷ write (rc START) i n ∷ [])
 
 -- a new point k goes in before the present point x, after p
-abbrev pub doubleWrites : Store → ℕ → ℕ → ℕ → Due → List Write
-doubleWrites s i vx vy d =
+abbrev pub doubleWrites : Store → ℕ → ℕ → ℕ → ℕ → Due → List Write
+doubleWrites s i vx vy vz d =
     let x : ℕ = s (rc PRESENT) i in
     let p : ℕ = s (pt PREV) x in
     let k : ℕ = pts s in
-    putWrites k vx vy (s (pt REC) x) p x ++ (write (rc MARK) i (markOf d) ∷ [])
+    putWrites k vx vy vz (s (pt REC) x) p x ++ (write (rc MARK) i (markOf d) ∷ [])
 
 -- first point and present place are p
 abbrev pub placeWrites : ℕ → ℕ → Due → List Write
@@ -56,18 +56,18 @@ cutWrites s i d =
     unlinkWrites p z ++ placeWrites i p d
 
 -- and a new point k goes in in their place
-abbrev pub cutPutWrites : Store → ℕ → ℕ → ℕ → Due → List Write
-cutPutWrites s i vx vy d =
+abbrev pub cutPutWrites : Store → ℕ → ℕ → ℕ → ℕ → Due → List Write
+cutPutWrites s i vx vy vz d =
     let x : ℕ = s (rc PRESENT) i in
     let p : ℕ = s (pt PREV) x in
     let z : ℕ = s (pt NEXT) (s (pt NEXT) x) in
     let k : ℕ = pts s in
-    putWrites k vx vy (s (pt REC) p) p z ++ placeWrites i p d
+    putWrites k vx vy vz (s (pt REC) p) p z ++ placeWrites i p d
 
 -- a record r is taken for x and y
 abbrev pub recordWrites : ℕ → ℕ → ℕ → List Write
 recordWrites r x y = write (ct RECORDS) 0 (suc r) ∷ write (pt REC) x r ∷ write (pt REC) y r ∷ []
 
 -- x and y, linked already, and a new point b between them become the ring of a new record cut from record i
-abbrev pub offcutWrites : Store → ℕ → ℕ → ℕ → ℕ → ℕ → List Write
-offcutWrites s i x y vx vy = recordWrites (recs s) x y ++ (putWrites (pts s) vx vy (recs s) y x ++ startWrites (recs s) (s (rc OWNER) i) (pts s) i)
+abbrev pub offcutWrites : Store → ℕ → ℕ → ℕ → ℕ → ℕ → ℕ → List Write
+offcutWrites s i x y vx vy vz = recordWrites (recs s) x y ++ (putWrites (pts s) vx vy vz (recs s) y x ++ startWrites (recs s) (s (rc OWNER) i) (pts s) i)

@@ -20,7 +20,7 @@ use Rattle.acts.specs.Value.{value}
 use Rattle.order.specs.Demand3.{named}
 use Rattle.altered.specs.OwnForest.{entryOf, forestOf}
 
-module _ {P : Type 0} (of : ℕ → ℕ → P) (s : Store) where
+module _ {P : Type 0} (of : ℕ → ℕ → ℕ → P) (s : Store) where
   held : (i : ℕ) → Holds of s i (entryOf of s i)
   held i = go (ringless s i) (isOpen s i) refl refl
     where

@@ -14,7 +14,7 @@ use Rattle.store.specs.Sound.{pts, recs, ringless, ringAt, isOpen, loneAt}
 use Rattle.acts.specs.Value.{value}
 use Rattle.order.specs.Demand3.{named}
 
-module _ {P : Type 0} (of : ℕ → ℕ → P) where
+module _ {P : Type 0} (of : ℕ → ℕ → ℕ → P) where
   -- the forest of the store: each closed ring goes on from its progress, and has cut off and taken nothing yet
   abbrev pub entryOf : Store → ℕ → Entry (Ring P) (List P)
   entryOf s i = cond (ringless s i) forest.ringless (cond (isOpen s i) (openRing (map (value of s) (ringAt s i))) (closedRing (named (s (rc CUT) i)) (initial (mapRing (value of s) (loneAt s i)))))

@@ -97,6 +97,13 @@ fn alter_numbers(w: &mut [u32])
     altered(w, Col::Owner, 0, 2);
 }
 
+// A depth that no coordinate may have: nothing binds it.
+fn alter_depth(w: &mut [u32])
+    requires { ⌜ BLOCK ≤ length (now w) ⌝ }
+{
+    altered(w, Col::Z, 2, 2 * AT + 1);
+}
+
 // Links, rings and progress.
 fn alter_rings(w: &mut [u32])
     requires { ⌜ BLOCK ≤ length (now w) ⌝ }
@@ -142,6 +149,7 @@ fn main() {
     let r = tests_of(&w);
     say(r);
     alter_numbers(&mut w);
+    alter_depth(&mut w);
     alter_rings(&mut w);
     alter_reasons(&mut w);
 }

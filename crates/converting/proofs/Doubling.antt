@@ -70,7 +70,7 @@ module _ (w : List ℕ) (o : Ready w) (room : pointsOf w < 2048) (i q like : ℕ
   seen =
       let k : prevOf w q < 2048 = omega (arith, p-low) in
       let z : q < 2048 = omega (arith, a .bound) in
-      view-writes w writes (o .long) (omega arith, (room, (room, (room, (room, (room, (k, (z, tt))))))))
+      view-writes w writes (o .long) (omega arith, (room, (room, (room, (room, (room, (room, (k, (z, tt)))))))))
 
   grown : Grown (view w) (onStore (view w) writes) q like
   unfolding writes
@@ -97,7 +97,9 @@ module _ (w : List ℕ) (o : Ready w) (room : pointsOf w < 2048) (i q like : ℕ
         x-new = rw (eq-eqb (pointsOf w) (pointsOf w) refl);
         x-else = λ j d. rw (ne-eqb j (pointsOf w) d);
         y-new = rw (eq-eqb (pointsOf w) (pointsOf w) refl);
+        z-new = rw (eq-eqb (pointsOf w) (pointsOf w) refl);
         y-else = λ j d. rw (ne-eqb j (pointsOf w) d);
+        z-else = λ j d. rw (ne-eqb j (pointsOf w) d);
       }
 
   grown-words : Grown (view w) (view (onWords w writes)) q like
@@ -145,6 +147,7 @@ module _ (w : List ℕ) (o : Ready w) (room : pointsOf w < 2048) (i q like : ℕ
           rings = λ j h e. ring-kept (view w) (view (onWords w writes)) j (g .first j) (λ k p. g .links .next-else k (λ z. omega (arith, o .resolved .whole j h .below k p)) (off j h (λ z. apart j e z) k p));
           xs = λ k h. g .x-else k (λ e. omega arith);
           ys = λ k h. g .y-else k (λ e. omega arith);
+          zs = λ k h. g .z-else k (λ e. omega arith);
           shut = λ k h s.
               let z = home-of (view w) (o .resolved) k h in
               at-home k (z .0) (grown-lives (view w) (view (onWords w writes)) (o .resolved) i q like room a b g (z .0) k (z .1)) (rw (words-same FLAGS (z .0)) (s (z .0) (z .1)));

@@ -14,7 +14,7 @@ use Rattle.numbers.specs.Raised.{coordinate}
 use Rattle.geometry.specs.declared.Point.{Point}
 use Rattle.job.specs.Limits as limit
 use Rattle.job.specs.declared.Job.{Job}
-use Rattle.store.specs.Field.{pt, ct, X, Y, SETTINGS}
+use Rattle.store.specs.Field.{pt, ct, X, Y, Z, SETTINGS}
 use Rattle.store.specs.Words.{Store, view}
 use Rattle.store.specs.Named.{pointsOf, recordsOf}
 use Rattle.store.specs.Sound.{recs, ringAt}
@@ -44,6 +44,9 @@ x-told s s′ k k′ e = sym (word-back (s′ (pt X) k′)) ∙ ap (λ (p : Poin
 
 y-told : (s s′ : Store) (k k′ : ℕ) → pointAt s′ k′ ≡ pointAt s k → s′ (pt Y) k′ ≡ s (pt Y) k
 y-told s s′ k k′ e = sym (word-back (s′ (pt Y) k′)) ∙ ap (λ (p : Point). wordOf (p .y)) e ∙ word-back (s (pt Y) k)
+
+z-told : (s s′ : Store) (k k′ : ℕ) → pointAt s′ k′ ≡ pointAt s k → s′ (pt Z) k′ ≡ s (pt Z) k
+z-told s s′ k k′ e = ap (λ (p : Point). p .z) e
 
 -- ---- equal lists, element by element
 
@@ -75,6 +78,7 @@ drawn-agree s s′ e c =
       lengths = λ i h. map-length (pointAt s) (pointAt s′) (ringAt s i) (ringAt s′ i) (ring i h);
       xs = λ i p h l. x-told s s′ (getD (ringAt s i) p 0) (getD (ringAt s′ i) p 0) (map-at (pointAt s) (pointAt s′) (ringAt s i) (ringAt s′ i) (ring i h) p l);
       ys = λ i p h l. y-told s s′ (getD (ringAt s i) p 0) (getD (ringAt s′ i) p 0) (map-at (pointAt s) (pointAt s′) (ringAt s i) (ringAt s′ i) (ring i h) p l);
+      zs = λ i p h l. z-told s s′ (getD (ringAt s i) p 0) (getD (ringAt s′ i) p 0) (map-at (pointAt s) (pointAt s′) (ringAt s i) (ringAt s′ i) (ring i h) p l);
     }
   where
     one : (i : ℕ) → i < recs s → drawnAt s′ i ≡ drawnAt s i

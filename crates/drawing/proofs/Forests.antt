@@ -53,10 +53,10 @@ pub table-same : {A : Type 0} (g h : ℕ → A) (k n : ℕ) → ((i : ℕ) → i
 table-same g h k zero e = refl
 table-same g h k (suc n) e = rw (e k (omega arith), table-same g h (suc k) n (λ i l. e i (omega arith)))
 
-module _ {P : Type 0} (of : ℕ → ℕ → P) {ρ : ℕ → ℕ} {s s′ : Store} (a : Renumbered ρ s s′) where
+module _ {P : Type 0} (of : ℕ → ℕ → ℕ → P) {ρ : ℕ → ℕ} {s s′ : Store} (a : Renumbered ρ s s′) where
   values : (l : List ℕ) → All (λ k. k < pts s) l → map (value of s′) (map ρ l) ≡ map (value of s) l
   values [] h = refl
-  values (k ∷ l) h = rw (a .xs k (h .0), a .ys k (h .0), values l (h .1))
+  values (k ∷ l) h = rw (a .xs k (h .0), a .ys k (h .0), a .zs k (h .0), values l (h .1))
 
   module _ (o : Resolved s) (o′ : Resolved s′) where
     pub ring-values : (i : ℕ) → i < recs s → map (value of s′) (ringAt s′ i) ≡ map (value of s) (ringAt s i)

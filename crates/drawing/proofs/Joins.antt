@@ -13,7 +13,7 @@ use Rattle.rings.specs.Count.{occ}
 use Rattle.rings.specs.Links.{All}
 use Rattle.rings.proofs.Counting.{all-in}
 use Rattle.job.specs.Limits as limit
-use Rattle.store.specs.Field.{Field, pt, rc, ct, X, Y, NEXT, PREV, REC, FLAGS, OWNER, FIRST, POINTS, RECORDS, BLOCK, same}
+use Rattle.store.specs.Field.{Field, pt, rc, ct, X, Y, Z, NEXT, PREV, REC, FLAGS, OWNER, FIRST, POINTS, RECORDS, BLOCK, same}
 use Rattle.store.specs.Words.{Store, view, Write, onWords}
 use Rattle.store.specs.Stores.{onStore}
 use Rattle.store.specs.Named.{nextOf, prevOf, recOf, firstOf, pointsOf, recordsOf}
@@ -74,6 +74,7 @@ rec-out (pt Y) e = refl
 rec-out (pt NEXT) e = refl
 rec-out (pt PREV) e = refl
 rec-out (pt REC) e = never e
+rec-out (pt Z) e = refl
 rec-out (rc f) e = refl
 rec-out (ct f) e = refl
 

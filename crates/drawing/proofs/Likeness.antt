@@ -8,7 +8,7 @@ use native.Mathlib.Omega.{arith}
 use lib.Dec.{eqb}
 use lib.ListN.{length}
 use Rattle.job.specs.Limits as limit
-use Rattle.store.specs.Field.{Field, pt, rc, ct, X, Y, NEXT, PREV, FLAGS, OWNER, FIRST, SETTINGS, POINTS, RECORDS, BLOCK, NONE}
+use Rattle.store.specs.Field.{Field, pt, rc, ct, X, Y, Z, NEXT, PREV, FLAGS, OWNER, FIRST, SETTINGS, POINTS, RECORDS, BLOCK, NONE}
 use Rattle.store.specs.Words.{Store, view, Write, onWords}
 use Rattle.store.specs.Stores.{onStore, Within}
 use Rattle.store.specs.Sound.{pts, recs}
@@ -36,7 +36,7 @@ module _ {ρ : ℕ → ℕ} {s s′ : Store} (a : Renumbered ρ s s′) where
   -- the new points and records are written alike
   pub record Grows (xs : List Write) : Type 0 where
     pub more : pts s ≤ onStore s xs (ct POINTS) 0
-    pub points : (k : ℕ) → k < onStore s xs (ct POINTS) 0 → (k < pts s) ⊎ (AmongWrites xs (pt X) k × AmongWrites xs (pt Y) k × AmongWrites xs (pt NEXT) k × AmongWrites xs (pt PREV) k)
+    pub points : (k : ℕ) → k < onStore s xs (ct POINTS) 0 → (k < pts s) ⊎ (AmongWrites xs (pt X) k × AmongWrites xs (pt Y) k × AmongWrites xs (pt NEXT) k × AmongWrites xs (pt PREV) k × AmongWrites xs (pt Z) k)
     pub records : (i : ℕ) → i < onStore s xs (ct RECORDS) 0 → (i < recs s) ⊎ (AmongWrites xs (rc FLAGS) i × AmongWrites xs (rc OWNER) i × AmongWrites xs (rc FIRST) i)
 
   pub alike-store : (xs ys : List Write) → RenumberedWrites ρ xs ys → Grows xs → Renumbered ρ (onStore s xs) (onStore s′ ys)
@@ -48,6 +48,7 @@ module _ {ρ : ℕ → ℕ} {s s′ : Store} (a : Renumbered ρ s s′) where
         records = by (ct RECORDS) 0 refl (inl (a .records));
         xs = λ k h. by (pt X) k refl (one (a .xs k) (λ z. z .0) (g .points k h));
         ys = λ k h. by (pt Y) k refl (one (a .ys k) (λ z. z .1) (g .points k h));
+        zs = λ k h. by (pt Z) k refl (one (a .zs k) (λ z. z .4) (g .points k h));
         nexts = λ k h. by (pt NEXT) k refl (one (a .nexts k) (λ z. z .2) (g .points k h));
         prevs = λ k h. by (pt PREV) k refl (one (a .prevs k) (λ z. z .3) (g .points k h));
         flags = λ i h. by (rc FLAGS) i refl (one (a .flags i) (λ z. z .0) (g .records i h));
@@ -80,6 +81,7 @@ alike-still {ρ} {s} {s′} u u′ t t′ a =
       records = go (ct RECORDS) 0 0 refl (λ n. n) (a .records);
       xs = λ k h. go (pt X) k (ρ k) refl (λ n. n) (a .xs k (omega (arith, p)));
       ys = λ k h. go (pt Y) k (ρ k) refl (λ n. n) (a .ys k (omega (arith, p)));
+      zs = λ k h. go (pt Z) k (ρ k) refl (λ n. n) (a .zs k (omega (arith, p)));
       nexts = λ k h. go (pt NEXT) k (ρ k) refl ρ (a .nexts k (omega (arith, p)));
       prevs = λ k h. go (pt PREV) k (ρ k) refl ρ (a .prevs k (omega (arith, p)));
       flags = λ i h. go (rc FLAGS) i i refl (λ n. n) (a .flags i (omega (arith, q)));

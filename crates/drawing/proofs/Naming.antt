@@ -11,7 +11,7 @@ use lib.ListN.{length, getD}
 use borrow.Author.Tests.{eq-eqb, ne-eqb, lt-ltb, le-ltb}
 use Rattle.rings.specs.Place.{place, orZero}
 use Rattle.rings.specs.Walk.{run}
-use Rattle.store.specs.Field.{pt, rc, ct, X, Y, NEXT, PREV, REC, FLAGS, OWNER, FIRST, SETTINGS, NONE}
+use Rattle.store.specs.Field.{pt, rc, ct, X, Y, Z, NEXT, PREV, REC, FLAGS, OWNER, FIRST, SETTINGS, NONE}
 use Rattle.store.specs.Words.{Store, view}
 use Rattle.store.specs.Named.{pointsOf, recordsOf}
 use Rattle.store.specs.Sound.{pts, recs, ringAt}
@@ -33,6 +33,7 @@ pub record SameRings (s s′ : Store) : Type 0 where
   pub lengths : (i : ℕ) → i < recs s → length (ringAt s′ i) ≡ length (ringAt s i)
   pub xs : (i p : ℕ) → i < recs s → p < length (ringAt s i) → s′ (pt X) (getD (ringAt s′ i) p 0) ≡ s (pt X) (getD (ringAt s i) p 0)
   pub ys : (i p : ℕ) → i < recs s → p < length (ringAt s i) → s′ (pt Y) (getD (ringAt s′ i) p 0) ≡ s (pt Y) (getD (ringAt s i) p 0)
+  pub zs : (i p : ℕ) → i < recs s → p < length (ringAt s i) → s′ (pt Z) (getD (ringAt s′ i) p 0) ≡ s (pt Z) (getD (ringAt s i) p 0)
 
 other-way : (s s′ : Store) → SameRings s s′ → SameRings s′ s
 other-way s s′ g =
@@ -44,6 +45,7 @@ other-way s s′ g =
       lengths = λ i h. sym (g .lengths i (omega (arith, g .records)));
       xs = λ i p h l. let k : i < recs s = omega (arith, g .records) in sym (g .xs i p k (omega (arith, g .lengths i k)));
       ys = λ i p h l. let k : i < recs s = omega (arith, g .records) in sym (g .ys i p k (omega (arith, g .lengths i k)));
+      zs = λ i p h l. let k : i < recs s = omega (arith, g .records) in sym (g .zs i p k (omega (arith, g .lengths i k)));
     }
 
 pub home-is : (w : List ℕ) → Ready w → (i k : ℕ) → Lives (view w) i k → homeOf w k ≡ i
@@ -123,6 +125,11 @@ module _ (w w′ : List ℕ) (o : Ready w) (o′ : Ready w′) (g : SameRings (v
   number-y k h =
       let a = point-at (view w) (o .resolved) k h in
       ap (view w′ (pt Y)) (ap (numberIn w w′) (a .is) ∙ number-at (a .ring) (a .place) (a .known) (a .low)) ∙ g .ys (a .ring) (a .place) (a .known) (a .low) ∙ ap (view w (pt Y)) (sym (a .is))
+
+  number-z : (k : ℕ) → k < pointsOf w → view w′ (pt Z) (numberIn w w′ k) ≡ view w (pt Z) k
+  number-z k h =
+      let a = point-at (view w) (o .resolved) k h in
+      ap (view w′ (pt Z)) (ap (numberIn w w′) (a .is) ∙ number-at (a .ring) (a .place) (a .known) (a .low)) ∙ g .zs (a .ring) (a .place) (a .known) (a .low) ∙ ap (view w (pt Z)) (sym (a .is))
 
 -- there and back
 number-back : (w w′ : List ℕ) → Ready w → Ready w′ → SameRings (view w) (view w′) → (k : ℕ) → k < pointsOf w → numberIn w′ w (numberIn w w′ k) ≡ k
@@ -206,6 +213,7 @@ module _ (w w′ : List ℕ) (o : Ready w) (o′ : Ready w′) (g : SameRings (v
         records = g .records;
         xs = λ k h. ap (view w′ (pt X)) (renumbering-in w w′ k h) ∙ number-x w w′ o o′ g k h;
         ys = λ k h. ap (view w′ (pt Y)) (renumbering-in w w′ k h) ∙ number-y w w′ o o′ g k h;
+        zs = λ k h. ap (view w′ (pt Z)) (renumbering-in w w′ k h) ∙ number-z w w′ o o′ g k h;
         nexts = new-next;
         prevs = new-prev;
         flags = g .flags;

@@ -12,7 +12,7 @@ use lib.Seq.{getD-set-same, getD-set-other}
 use borrow.Author.Tests.{eqb-false, ltb-true}
 use Rattle.job.specs.Limits as limit
 use Rattle.store.specs.declared.points.Room.the-variants.{At, Full}
-use Rattle.store.specs.Field.{pt, X, Y, NEXT, PREV, NONE}
+use Rattle.store.specs.Field.{pt, X, Y, Z, NEXT, PREV, NONE}
 use Rattle.store.specs.Words.{view, onWords}
 use Rattle.store.specs.Named.{pointsOf}
 use Rattle.store.specs.Primitive.{Taken, taken, afterWrites, beforeWrites, duplicateOp}
@@ -77,14 +77,14 @@ module _ {ρ : ℕ → ℕ} (w w′ : List ℕ) (al : Renumbered ρ (view w) (vi
       let b′ = beside w′ (ρ p) t′ in
       let n = al .nexts p (t .low) in
       alike-words w w′ al (afterWrites (view w) p) (afterWrites (view w′) (ρ p)) (t .ready .long) (t′ .ready .long)
-      (omega arith, (room, (room, (room, (room, (room, (b .here, (b .next, tt))))))))
-      (omega arith, (room′, (room′, (room′, (room′, (room′, (b′ .here, (b′ .next, tt))))))))
-      ((refl, refl, ap suc (al .points)), ((refl, new, al .xs p (t .low)), ((refl, new, al .ys p (t .low)), ((refl, new, tt), ((refl, new, n), ((refl, new, refl), ((refl, refl, new), ((refl, n, new), tt))))))))
+      (omega arith, (room, (room, (room, (room, (room, (room, (b .here, (b .next, tt)))))))))
+      (omega arith, (room′, (room′, (room′, (room′, (room′, (room′, (b′ .here, (b′ .next, tt)))))))))
+      ((refl, refl, ap suc (al .points)), ((refl, new, al .xs p (t .low)), ((refl, new, al .ys p (t .low)), ((refl, new, al .zs p (t .low)), ((refl, new, tt), ((refl, new, n), ((refl, new, refl), ((refl, refl, new), ((refl, n, new), tt)))))))))
       (record { more = omega arith; points = λ k h. old k h (ℕ-discrete k (pointsOf w)); records = λ k h. inl h })
     where
       old : (k : ℕ) → k < suc (pointsOf w) → Dec (k ≡ pointsOf w)
-          → (k < pointsOf w) ⊎ (AmongWrites (afterWrites (view w) p) (pt X) k × AmongWrites (afterWrites (view w) p) (pt Y) k × AmongWrites (afterWrites (view w) p) (pt NEXT) k × AmongWrites (afterWrites (view w) p) (pt PREV) k)
-      old k h (yes e) = inr (inr (inl (refl, e)), inr (inr (inl (refl, e))), inr (inr (inr (inr (inl (refl, e))))), inr (inr (inr (inr (inr (inl (refl, e)))))))
+          → (k < pointsOf w) ⊎ (AmongWrites (afterWrites (view w) p) (pt X) k × AmongWrites (afterWrites (view w) p) (pt Y) k × AmongWrites (afterWrites (view w) p) (pt NEXT) k × AmongWrites (afterWrites (view w) p) (pt PREV) k × AmongWrites (afterWrites (view w) p) (pt Z) k)
+      old k h (yes e) = inr (inr (inl (refl, e)), inr (inr (inl (refl, e))), inr (inr (inr (inr (inr (inl (refl, e)))))), inr (inr (inr (inr (inr (inr (inl (refl, e))))))), inr (inr (inr (inl (refl, e)))))
       old k h (no d) = inl (omega arith)
 
   before-alike : Renumbered ρ (view (onWords w (beforeWrites (view w) p))) (view (onWords w′ (beforeWrites (view w′) (ρ p))))
@@ -93,14 +93,14 @@ module _ {ρ : ℕ → ℕ} (w w′ : List ℕ) (al : Renumbered ρ (view w) (vi
       let b′ = beside w′ (ρ p) t′ in
       let n = al .prevs p (t .low) in
       alike-words w w′ al (beforeWrites (view w) p) (beforeWrites (view w′) (ρ p)) (t .ready .long) (t′ .ready .long)
-      (omega arith, (room, (room, (room, (room, (room, (b .prev, (b .here, tt))))))))
-      (omega arith, (room′, (room′, (room′, (room′, (room′, (b′ .prev, (b′ .here, tt))))))))
-      ((refl, refl, ap suc (al .points)), ((refl, new, al .xs p (t .low)), ((refl, new, al .ys p (t .low)), ((refl, new, tt), ((refl, new, refl), ((refl, new, n), ((refl, n, new), ((refl, refl, new), tt))))))))
+      (omega arith, (room, (room, (room, (room, (room, (room, (b .prev, (b .here, tt)))))))))
+      (omega arith, (room′, (room′, (room′, (room′, (room′, (room′, (b′ .prev, (b′ .here, tt)))))))))
+      ((refl, refl, ap suc (al .points)), ((refl, new, al .xs p (t .low)), ((refl, new, al .ys p (t .low)), ((refl, new, al .zs p (t .low)), ((refl, new, tt), ((refl, new, refl), ((refl, new, n), ((refl, n, new), ((refl, refl, new), tt)))))))))
       (record { more = omega arith; points = λ k h. old k h (ℕ-discrete k (pointsOf w)); records = λ k h. inl h })
     where
       old : (k : ℕ) → k < suc (pointsOf w) → Dec (k ≡ pointsOf w)
-          → (k < pointsOf w) ⊎ (AmongWrites (beforeWrites (view w) p) (pt X) k × AmongWrites (beforeWrites (view w) p) (pt Y) k × AmongWrites (beforeWrites (view w) p) (pt NEXT) k × AmongWrites (beforeWrites (view w) p) (pt PREV) k)
-      old k h (yes e) = inr (inr (inl (refl, e)), inr (inr (inl (refl, e))), inr (inr (inr (inr (inl (refl, e))))), inr (inr (inr (inr (inr (inl (refl, e)))))))
+          → (k < pointsOf w) ⊎ (AmongWrites (beforeWrites (view w) p) (pt X) k × AmongWrites (beforeWrites (view w) p) (pt Y) k × AmongWrites (beforeWrites (view w) p) (pt NEXT) k × AmongWrites (beforeWrites (view w) p) (pt PREV) k × AmongWrites (beforeWrites (view w) p) (pt Z) k)
+      old k h (yes e) = inr (inr (inl (refl, e)), inr (inr (inl (refl, e))), inr (inr (inr (inr (inr (inl (refl, e)))))), inr (inr (inr (inr (inr (inr (inl (refl, e))))))), inr (inr (inr (inl (refl, e)))))
       old k h (no d) = inl (omega arith)
 
 double-alike : {ρ : ℕ → ℕ} (w w′ : List ℕ) → Renumbered ρ (view w) (view w′) → (p : ℕ) (after : Bool) → Point w p → Point w′ (ρ p) → SameTaken ρ (duplicateOp w p after) (duplicateOp w′ (ρ p) after)

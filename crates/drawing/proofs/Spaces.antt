@@ -20,7 +20,7 @@ use Rattle.job.specs.declared.field.Field.the-variants.{Settings, Point, Record
 use Rattle.job.specs.declared.field.Reading.{Reading}
 use Rattle.job.specs.declared.field.Reading.the-variants as reading
 use Rattle.job.proofs.Accepted.{accepted}
-use Rattle.store.specs.Field.{pt, rc, ct, X, Y, NEXT, PREV, REC, FLAGS, OWNER, FIRST, SETTINGS, POINTS, RECORDS, BLOCK, STATES, KEPT}
+use Rattle.store.specs.Field.{pt, rc, ct, X, Y, Z, NEXT, PREV, REC, FLAGS, OWNER, FIRST, SETTINGS, POINTS, RECORDS, BLOCK, STATES, KEPT}
 use Rattle.store.specs.Words.{Store, view, write}
 use Rattle.store.specs.Sound.{ringAt, isOpen}
 use Rattle.store.proofs.Storing.{length-writes}
@@ -90,9 +90,9 @@ module _ (m : List ℕ) where
   -- a field goes to a word of its column
   placed-more : (j : Job) (w ss js : List ℕ) → BLOCK ≤ length w → (f : job.Field) (n : ℕ) → Room f j → More (placed f n j w ss js) (placed f n j (w ++ m) ss js)
   placed-more j w ss js l (Settings b) n h = record { is = refl; long = l }
-  placed-more j w ss js l (Point x y nx pv r) n h =
-      let xs = write (pt X) (j .points) x ∷ write (pt Y) (j .points) y ∷ write (pt NEXT) (j .points) nx ∷ write (pt PREV) (j .points) pv ∷ write (pt REC) (j .points) r ∷ [] in
-      record { is = ap (λ (v : List ℕ). end (Ok (past (Point x y nx pv r) n j)) v ss js) (writes-more m w l xs (h, (h, (h, (h, (h, tt)))))); long = omega (arith, length-writes w xs) }
+  placed-more j w ss js l (Point x y nx pv r z) n h =
+      let xs = write (pt X) (j .points) x ∷ write (pt Y) (j .points) y ∷ write (pt NEXT) (j .points) nx ∷ write (pt PREV) (j .points) pv ∷ write (pt REC) (j .points) r ∷ write (pt Z) (j .points) z ∷ [] in
+      record { is = ap (λ (v : List ℕ). end (Ok (past (Point x y nx pv r z) n j)) v ss js) (writes-more m w l xs (h, (h, (h, (h, (h, (h, tt))))))); long = omega (arith, length-writes w xs) }
   placed-more j w ss js l (Record f o p) n h =
       let xs = recordRead (j .records) f o p in
       record { is = ap (λ (v : List ℕ). end (Ok (past (Record f o p) n j)) v ss js) (writes-more m w l xs (h, (h, (h, (h, tt))))); long = omega (arith, length-writes w xs) }

@@ -8,7 +8,7 @@ use native.Mathlib.Omega.{arith}
 use native.Mathlib.Decide.{ℕ-discrete, decLt}
 use lib.Dec.{eqb}
 use borrow.Author.Tests.{eq-eqb, ne-eqb, eqb-true, eqb-false}
-use Rattle.store.specs.Field.{Field, PointCol, RecordCol, Count, pt, rc, ct, X, Y, NEXT, PREV, REC, FLAGS, OWNER, FIRST, MARK, PRESENT, START, CUT, REASON, TAKER, SETTINGS, POINTS, RECORDS, same, pointRank, recordRank, countRank}
+use Rattle.store.specs.Field.{Field, PointCol, RecordCol, Count, pt, rc, ct, X, Y, Z, NEXT, PREV, REC, FLAGS, OWNER, FIRST, MARK, PRESENT, START, CUT, REASON, TAKER, SETTINGS, POINTS, RECORDS, same, pointRank, recordRank, countRank}
 use Rattle.store.specs.Words.{Store, Write, write}
 use Rattle.store.specs.Stores.{upd, onStore}
 use Rattle.drawing.specs.Renumbered.{Renumbers}
@@ -46,6 +46,7 @@ image ρ (pt Y) v = v
 image ρ (pt NEXT) v = ρ v
 image ρ (pt PREV) v = ρ v
 image ρ (pt REC) v = v
+image ρ (pt Z) v = v
 image ρ (rc FLAGS) v = v
 image ρ (rc OWNER) v = v
 image ρ (rc FIRST) v = ρ v
@@ -64,6 +65,7 @@ compared (pt Y) = true
 compared (pt NEXT) = true
 compared (pt PREV) = true
 compared (pt REC) = false
+compared (pt Z) = true
 compared (rc FLAGS) = true
 compared (rc OWNER) = true
 compared (rc FIRST) = true
@@ -107,7 +109,8 @@ pointOf zero = X
 pointOf (suc zero) = Y
 pointOf (suc (suc zero)) = NEXT
 pointOf (suc (suc (suc zero))) = PREV
-pointOf (suc (suc (suc (suc n)))) = REC
+pointOf (suc (suc (suc (suc zero)))) = REC
+pointOf (suc (suc (suc (suc (suc n))))) = Z
 
 recordOf : ℕ → RecordCol
 recordOf zero = FLAGS
@@ -132,6 +135,7 @@ point-is Y = refl
 point-is NEXT = refl
 point-is PREV = refl
 point-is REC = refl
+point-is Z = refl
 
 record-is : (f : RecordCol) → recordOf (recordRank f) ≡ f
 unfolding recordOf

@@ -4,7 +4,7 @@ use mathlib.Core.Path.{_≡_}
 use mathlib.Core.List.{List}
 use lib.ListN.{getD}
 use Rattle.job.specs.declared.Job.{Job}
-use Rattle.store.specs.Field.{pt, rc, ct, X, Y, NEXT, PREV, FLAGS, OWNER, FIRST, SETTINGS}
+use Rattle.store.specs.Field.{pt, rc, ct, X, Y, Z, NEXT, PREV, FLAGS, OWNER, FIRST, SETTINGS}
 use Rattle.store.specs.Words.{Store, view}
 use Rattle.store.specs.Sound.{pts, recs}
 
@@ -24,6 +24,7 @@ pub record Renumbered (ρ : ℕ → ℕ) (s s′ : Store) : Type 0 where
   pub records : recs s′ ≡ recs s
   pub xs : (k : ℕ) → k < pts s → s′ (pt X) (ρ k) ≡ s (pt X) k
   pub ys : (k : ℕ) → k < pts s → s′ (pt Y) (ρ k) ≡ s (pt Y) k
+  pub zs : (k : ℕ) → k < pts s → s′ (pt Z) (ρ k) ≡ s (pt Z) k
   pub nexts : (k : ℕ) → k < pts s → s′ (pt NEXT) (ρ k) ≡ ρ (s (pt NEXT) k)
   pub prevs : (k : ℕ) → k < pts s → s′ (pt PREV) (ρ k) ≡ ρ (s (pt PREV) k)
   pub flags : (i : ℕ) → i < recs s → s′ (rc FLAGS) i ≡ s (rc FLAGS) i

@@ -16,7 +16,7 @@ use Rattle.rings.specs.Place.{place, orZero}
 use Rattle.geometry.specs.declared.Point.{Point}
 use Rattle.job.specs.Limits as limit
 use Rattle.job.specs.declared.Job.{Job}
-use Rattle.store.specs.Field.{pt, X, Y}
+use Rattle.store.specs.Field.{pt, X, Y, Z}
 use Rattle.store.specs.Words.{view}
 use Rattle.store.specs.Named.{settingsOf, pointsOf, recordsOf, ownerOf}
 use Rattle.store.specs.Sound.{ringAt, isOpen}
@@ -220,6 +220,10 @@ module _ (j : Job) (w ss js : List ℕ) (acc : Accepted j w ss js) where
     y-word : wordOf (cornerAt d i p .y) ≡ view w (pt Y) here
     y-word = ap wordOf y-is ∙ word-back (view w (pt Y) here)
 
+    z-is : cornerAt d i p .z ≡ view w (pt Z) here
+    unfolding here
+    z-is = ap (λ (q : Point). q .z) (corner-is i p in-w on-w)
+
   pub encodable : Encodable d
   encodable =
       record {
@@ -236,6 +240,7 @@ module _ (j : Job) (w ss js : List ℕ) (acc : Accepted j w ss js) where
         y-in = λ i p h l. omega (arith, y-word i p h l, o .resolved .y-in (here i p h l) (bound i p h l));
         x-back = λ i p h l. ap (coordinate limit.COORDINATE) (x-word i p h l) ∙ sym (x-is i p h l);
         y-back = λ i p h l. ap (coordinate limit.COORDINATE) (y-word i p h l) ∙ sym (y-is i p h l);
+        z-in = λ i p h l. omega (arith, z-is i p h l, acc .bits .depths (here i p h l) (bound i p h l));
         segments = segment-valid;
         joins = join-valid;
       }

@@ -71,13 +71,13 @@ evens Q n a b k h = go (ℕ-discrete (k % 2) 0)
 
 module _ (d : Drawing) (f : Encodable d) (w : List ℕ) (t : HoldsDrawing d w) (o : Ready w) where
   corner-again : (i p : ℕ) → i < length (d .records) → p < lengthAt d i → pointAt (view w) (firstNumber d i + p) ≡ cornerAt d i p
-  corner-again i p h l = both (ap (coordinate limit.COORDINATE) (t .x i p h l) ∙ f .x-back i p h l) (ap (coordinate limit.COORDINATE) (t .y i p h l) ∙ f .y-back i p h l)
+  corner-again i p h l = all-three (ap (coordinate limit.COORDINATE) (t .x i p h l) ∙ f .x-back i p h l) (ap (coordinate limit.COORDINATE) (t .y i p h l) ∙ f .y-back i p h l) (t .z i p h l)
     where
-      both : {a b : Point} → a .x ≡ b .x → a .y ≡ b .y → a ≡ b
-      both {a} {b} p q = make p q
+      all-three : {a b : Point} → a .x ≡ b .x → a .y ≡ b .y → a .z ≡ b .z → a ≡ b
+      all-three {a} {b} p q r = make p q r
         where
-          make : {x y x′ y′ : ℤ} → x ≡ x′ → y ≡ y′ → _≡_ {A = Point} (record { x = x; y = y }) (record { x = x′; y = y′ })
-          make p q = cc
+          make : {x y x′ y′ : ℤ} {z z′ : ℕ} → x ≡ x′ → y ≡ y′ → z ≡ z′ → _≡_ {A = Point} (record { x = x; y = y; z = z }) (record { x = x′; y = y′; z = z′ })
+          make p q r = cc
 
   drawn-again : (i : ℕ) → i < length (d .records) → drawnAt (view w) i ≡ recordAt d i
   drawn-again i h = all (t .flags i h) (t .owner i h) (ap (map (pointAt (view w))) (ring-walked d f w t i h) ∙ map-numbers (pointAt (view w)) (firstNumber d i) (recordAt d i .ring) origin (λ p l. corner-again i p h l))

@@ -41,6 +41,7 @@ pub record Encodable (d : Drawing) : Type 0 where
   pub y-in : (i p : ℕ) → i < length (d .records) → p < lengthAt d i → wordOf (cornerAt d i p .y) ≤ 2 * limit.COORDINATE
   pub x-back : (i p : ℕ) → i < length (d .records) → p < lengthAt d i → coordinate limit.COORDINATE (wordOf (cornerAt d i p .x)) ≡ cornerAt d i p .x
   pub y-back : (i p : ℕ) → i < length (d .records) → p < lengthAt d i → coordinate limit.COORDINATE (wordOf (cornerAt d i p .y)) ≡ cornerAt d i p .y
+  pub z-in : (i p : ℕ) → i < length (d .records) → p < lengthAt d i → cornerAt d i p .z < 4294967296
   pub segments : (i : ℕ) → i < length (d .segments) → SpotValid d (getD (d .segments) i noSpot)
   pub joins : (i : ℕ) → i < length (d .joins) → SpotValid d (getD (d .joins) i noSpot)
 
@@ -95,6 +96,7 @@ module _ (d : Drawing) where
         next = λ k h. let z = number-at k h in omega (arith, low-number (itsRing d k) (nextPlace (itsPlace d k) (lengthAt d (itsRing d k))) (z .known) (next-place-low (itsPlace d k) (lengthAt d (itsRing d k)) (z .low)), f .few-points);
         prev = λ k h. let z = number-at k h in omega (arith, low-number (itsRing d k) (prevPlace (itsPlace d k) (lengthAt d (itsRing d k))) (z .known) (prev-place-low (itsPlace d k) (lengthAt d (itsRing d k)) (z .low)), f .few-points);
         rec = λ k h. let z = number-at k h in omega (arith, z .known, f .few-records);
+        z = λ k h. let z = number-at k h in f .z-in (itsRing d k) (itsPlace d k) (z .known) (z .low);
         flags = f .flags;
         owner = λ i h. own (recordAt d i .owner) (f .owner i h);
         first = λ i h. start i h (ℕ-discrete (lengthAt d i) 0);

@@ -44,6 +44,9 @@ word-low x = omega arith
 word-again : (x : ℕ) → x ≤ 2 * limit.COORDINATE → raised limit.COORDINATE (lowered limit.COORDINATE x) ≡ x
 word-again x h = raised-lowered limit.COORDINATE x (omega arith) (omega arith)
 
+depth-again : (z : ℕ) → z < 4294967296 → raised 0 z ≡ z
+depth-again z h = omega arith
+
 -- ---- the tag
 
 strange-not : (last tag : ℕ) → 0 < last → last ≤ tag → 1 < tag → tag ≤ 5 → strangeTag last tag ≡ false
@@ -72,17 +75,17 @@ module _ (j : Job) (rest : List ℕ) where
       whole kind.Settings s (Settings b) 4 (omega arith) (rw l) refl
       (body kind.Settings s (Settings b) 4 (le-ltb (length s) 4 (omega arith)) (ap Settings (one-back b (omega arith))) (le-ltb 3 b h) refl refl)
 
-  pub read-point : (x y n p r : ℕ) → 0 < j .last → j .last ≤ 2 → j .points < limit.POINTS → x ≤ 2 * limit.COORDINATE → y ≤ 2 * limit.COORDINATE → n < 65536 → p < 65536 → r < 65536
-      → fieldOf j (bytesOf (Point x y n p r) ++ rest) ≡ Read (Point x y n p r) 17
-  read-point x y n p r a b c hx hy hn hp hr =
-      let s = bytesOf (Point x y n p r) ++ rest in
-      whole kind.Point s (Point x y n p r) 17 (omega arith) (strange-not (j .last) 2 a b (omega arith) (omega arith)) refl
-      (body kind.Point s (Point x y n p r) 17 (le-ltb (length s) 17 (omega arith))
+  pub read-point : (x y n p r z : ℕ) → 0 < j .last → j .last ≤ 2 → j .points < limit.POINTS → x ≤ 2 * limit.COORDINATE → y ≤ 2 * limit.COORDINATE → n < 65536 → p < 65536 → r < 65536 → z < 4294967296
+      → fieldOf j (bytesOf (Point x y n p r z) ++ rest) ≡ Read (Point x y n p r z) 21
+  read-point x y n p r z a b c hx hy hn hp hr hz =
+      let s = bytesOf (Point x y n p r z) ++ rest in
+      whole kind.Point s (Point x y n p r z) 21 (omega arith) (strange-not (j .last) 2 a b (omega arith) (omega arith)) refl
+      (body kind.Point s (Point x y n p r z) 21 (le-ltb (length s) 21 (omega arith))
       (same (ap (raised limit.COORDINATE) (four-back (lowered limit.COORDINATE x) (word-low x)) ∙ word-again x hx) (ap (raised limit.COORDINATE) (four-back (lowered limit.COORDINATE y) (word-low y)) ∙ word-again y hy)
-      (two-back n hn) (two-back p hp) (two-back r hr)) refl (lt-leb limit.POINTS (j .points) c) refl)
+      (two-back n hn) (two-back p hp) (two-back r hr) (ap (raised 0) (four-back z hz) ∙ depth-again z hz)) refl (lt-leb limit.POINTS (j .points) c) refl)
     where
-      same : {a a′ b b′ c c′ d d′ e e′ : ℕ} → a ≡ a′ → b ≡ b′ → c ≡ c′ → d ≡ d′ → e ≡ e′ → Point a b c d e ≡ Point a′ b′ c′ d′ e′
-      same p q r s t = cc
+      same : {a a′ b b′ c c′ d d′ e e′ f f′ : ℕ} → a ≡ a′ → b ≡ b′ → c ≡ c′ → d ≡ d′ → e ≡ e′ → f ≡ f′ → Point a b c d e f ≡ Point a′ b′ c′ d′ e′ f′
+      same p q r s t u = cc
 
   pub read-record : (f o p : ℕ) → 0 < j .last → j .last ≤ 3 → j .records < limit.RECORDS → f ≤ 3 → o < 65536 → p < 65536 → fieldOf j (bytesOf (Record f o p) ++ rest) ≡ Read (Record f o p) 8
   read-record f o p a b c hf ho hp =

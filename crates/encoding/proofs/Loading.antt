@@ -16,7 +16,7 @@ use Rattle.job.specs.declared.Job.{Job}
 use Rattle.job.specs.declared.field.Field.{Field}
 use Rattle.job.specs.declared.field.Reading.the-variants.{Read}
 use Rattle.job.specs.Field.{fieldOf}
-use Rattle.store.specs.Field.{pt, rc, X, Y, NEXT, PREV, REC, FLAGS, OWNER, FIRST, POINTS, RECORDS}
+use Rattle.store.specs.Field.{pt, rc, X, Y, Z, NEXT, PREV, REC, FLAGS, OWNER, FIRST, POINTS, RECORDS}
 use Rattle.store.specs.Words.{Store, view, write, onWords}
 use Rattle.store.specs.Stores.{onStore}
 use Rattle.store.proofs.Storing.{view-writes, length-writes}
@@ -101,15 +101,15 @@ module _ (t : Sheet) (bytes : List ℕ) where
     -- ---- points
 
     point-got : (j : Job) (w ss js rest : List ℕ) → j .points < t .points → Got j w ss js (bytesOf (pointField t (j .points)) ++ rest) 2
-        → Got (past (pointField t (j .points)) 17 j) (putPoint (j .points) (t .x (j .points)) (t .y (j .points)) (t .next (j .points)) (t .prev (j .points)) (t .rec (j .points)) w) ss js rest 2
+        → Got (past (pointField t (j .points)) 21 j) (putPoint (j .points) (t .x (j .points)) (t .y (j .points)) (t .next (j .points)) (t .prev (j .points)) (t .rec (j .points)) (t .z (j .points)) w) ss js rest 2
     point-got j w ss js rest h g =
         let i = j .points in
         let a = g .numbers .points in
         let l : i < limit.POINTS = omega (arith, f .points) in
-        let xs = write (pt X) i (t .x i) ∷ write (pt Y) i (t .y i) ∷ write (pt NEXT) i (t .next i) ∷ write (pt PREV) i (t .prev i) ∷ write (pt REC) i (t .rec i) ∷ [] in
-        let v : view (onWords w xs) ≡ onStore (view w) xs = view-writes w xs (g .space .words) (l, (l, (l, (l, (l, tt))))) in
+        let xs = write (pt X) i (t .x i) ∷ write (pt Y) i (t .y i) ∷ write (pt NEXT) i (t .next i) ∷ write (pt PREV) i (t .prev i) ∷ write (pt REC) i (t .rec i) ∷ write (pt Z) i (t .z i) ∷ [] in
+        let v : view (onWords w xs) ≡ onStore (view w) xs = view-writes w xs (g .space .words) (l, (l, (l, (l, (l, (l, tt)))))) in
         record {
-          here = onward bytes j w ss js (pointField t i) 17 rest (g .here) refl (omega arith);
+          here = onward bytes j w ss js (pointField t i) 21 rest (g .here) refl (omega arith);
           bits = g .bits;
           some = omega arith;
           last = omega arith;
@@ -121,6 +121,7 @@ module _ (t : Sheet) (bytes : List ℕ) where
               next = λ k b. ap (λ (s : Store). s (pt NEXT) k) v ∙ column-more i (t .next i) (view w (pt NEXT)) (t .next) (a .next) refl k b;
               prev = λ k b. ap (λ (s : Store). s (pt PREV) k) v ∙ column-more i (t .prev i) (view w (pt PREV)) (t .prev) (a .prev) refl k b;
               rec = λ k b. ap (λ (s : Store). s (pt REC) k) v ∙ column-more i (t .rec i) (view w (pt REC)) (t .rec) (a .rec) refl k b;
+              z = λ k b. ap (λ (s : Store). s (pt Z) k) v ∙ column-more i (t .z i) (view w (pt Z)) (t .z) (a .z) refl k b;
             };
             records = records-kept t (j .records) (view w) (view (onWords w xs)) (λ c k. ap (λ (s : Store). s (rc c) k) v) (g .numbers .records);
             segments = g .numbers .segments;
@@ -138,10 +139,10 @@ module _ (t : Sheet) (bytes : List ℕ) where
         let rest = allBytes (table (pointField t) (i + 1) m ++ fs) in
         let q : allBytes (table (pointField t) i (suc m) ++ fs) ≡ bytesOf (pointField t i) ++ rest = ap (λ (n : ℕ). bytesOf (pointField t i) ++ allBytes (table (pointField t) n m ++ fs)) (omega arith) in
         let g′ : Got j w ss js (bytesOf (pointField t i) ++ rest) 2 = subst (λ (z : List ℕ). Got j w ss js z 2) q g in
-        later fuel j w ss js (allBytes fs) 2 m (t .points) (j .records) (j .segments) (j .joins) (past (pointField t i) 17 j) (putPoint i (t .x i) (t .y i) (t .next i) (t .prev i) (t .rec i) w) ss js
-        (turn bytes j w ss js (pointField t i) 17 rest (g′ .here) refl (omega arith) fuel
-        (read-point j rest (t .x i) (t .y i) (t .next i) (t .prev i) (t .rec i) (g .some) (g .last) (omega (arith, f .points)) (f .x i b) (f .y i b) (f .next i b) (f .prev i b) (f .rec i b)))
-        (points-read m fuel (past (pointField t i) 17 j) (putPoint i (t .x i) (t .y i) (t .next i) (t .prev i) (t .rec i) w) ss js fs (omega arith) (omega arith) (point-got j w ss js rest b g′))
+        later fuel j w ss js (allBytes fs) 2 m (t .points) (j .records) (j .segments) (j .joins) (past (pointField t i) 21 j) (putPoint i (t .x i) (t .y i) (t .next i) (t .prev i) (t .rec i) (t .z i) w) ss js
+        (turn bytes j w ss js (pointField t i) 21 rest (g′ .here) refl (omega arith) fuel
+        (read-point j rest (t .x i) (t .y i) (t .next i) (t .prev i) (t .rec i) (t .z i) (g .some) (g .last) (omega (arith, f .points)) (f .x i b) (f .y i b) (f .next i b) (f .prev i b) (f .rec i b) (f .z i b)))
+        (points-read m fuel (past (pointField t i) 21 j) (putPoint i (t .x i) (t .y i) (t .next i) (t .prev i) (t .rec i) (t .z i) w) ss js fs (omega arith) (omega arith) (point-got j w ss js rest b g′))
 
     -- ---- records
 

@@ -4,7 +4,7 @@ use mathlib.Core.Path.{_≡_, _∙_}
 use mathlib.Core.List.{List}
 use lib.ListN.{getD}
 use Rattle.job.specs.Limits as limit
-use Rattle.store.specs.Field.{PointCol, RecordCol, pt, rc, X, Y, NEXT, PREV, REC, FLAGS, OWNER, FIRST}
+use Rattle.store.specs.Field.{PointCol, RecordCol, pt, rc, X, Y, Z, NEXT, PREV, REC, FLAGS, OWNER, FIRST}
 use Rattle.store.specs.Words.{Store, view}
 use Rattle.encoding.specs.Sheet.{Sheet}
 
@@ -20,6 +20,7 @@ pub record SheetFits (t : Sheet) : Type 0 where
   pub next : (k : ℕ) → k < t .points → t .next k < 65536
   pub prev : (k : ℕ) → k < t .points → t .prev k < 65536
   pub rec : (k : ℕ) → k < t .points → t .rec k < 65536
+  pub z : (k : ℕ) → k < t .points → t .z k < 4294967296
   pub flags : (i : ℕ) → i < t .records → t .flags i ≤ 3
   pub owner : (i : ℕ) → i < t .records → t .owner i < 65536
   pub first : (i : ℕ) → i < t .records → t .first i < 65536
@@ -36,6 +37,7 @@ pub record PointsAs (t : Sheet) (n : ℕ) (s : Store) : Type 0 where
   pub next : (k : ℕ) → k < n → s (pt NEXT) k ≡ t .next k
   pub prev : (k : ℕ) → k < n → s (pt PREV) k ≡ t .prev k
   pub rec : (k : ℕ) → k < n → s (pt REC) k ≡ t .rec k
+  pub z : (k : ℕ) → k < n → s (pt Z) k ≡ t .z k
 
 pub record RecordsAs (t : Sheet) (n : ℕ) (s : Store) : Type 0 where
   pub flags : (i : ℕ) → i < n → s (rc FLAGS) i ≡ t .flags i
@@ -66,6 +68,7 @@ points-kept t n s u e a =
       next = λ k h. e NEXT k ∙ a .next k h;
       prev = λ k h. e PREV k ∙ a .prev k h;
       rec = λ k h. e REC k ∙ a .rec k h;
+      z = λ k h. e Z k ∙ a .z k h;
     }
 
 pub records-kept : (t : Sheet) (n : ℕ) (s u : Store) → ((c : RecordCol) (k : ℕ) → u (rc c) k ≡ s (rc c) k) → RecordsAs t n s → RecordsAs t n u

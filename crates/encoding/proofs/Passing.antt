@@ -16,7 +16,7 @@ use Rattle.rings.proofs.Counting.{one-here}
 use Rattle.rings.proofs.Walking as walking
 use Rattle.job.specs.Limits as limit
 use Rattle.job.specs.declared.Job.{Job}
-use Rattle.store.specs.Field.{pt, rc, X, Y, FLAGS, NONE}
+use Rattle.store.specs.Field.{pt, rc, X, Y, Z, FLAGS, NONE}
 use Rattle.store.specs.Words.{view}
 use Rattle.store.specs.Named.{settingsOf, pointsOf, recordsOf, nextOf, prevOf, recOf, ownerOf, firstOf}
 use Rattle.store.specs.Sound.{ringAt, isOpen}
@@ -44,6 +44,7 @@ pub record HoldsDrawing (d : Drawing) (w : List ℕ) : Type 0 where
   pub records : recordsOf w ≡ length (d .records)
   pub x : (i p : ℕ) → i < length (d .records) → p < lengthAt d i → view w (pt X) (firstNumber d i + p) ≡ wordOf (cornerAt d i p .x)
   pub y : (i p : ℕ) → i < length (d .records) → p < lengthAt d i → view w (pt Y) (firstNumber d i + p) ≡ wordOf (cornerAt d i p .y)
+  pub z : (i p : ℕ) → i < length (d .records) → p < lengthAt d i → view w (pt Z) (firstNumber d i + p) ≡ cornerAt d i p .z
   pub next : (i p : ℕ) → i < length (d .records) → p < lengthAt d i → nextOf w (firstNumber d i + p) ≡ firstNumber d i + nextPlace p (lengthAt d i)
   pub prev : (i p : ℕ) → i < length (d .records) → p < lengthAt d i → prevOf w (firstNumber d i + p) ≡ firstNumber d i + prevPlace p (lengthAt d i)
   pub rec : (i p : ℕ) → i < length (d .records) → p < lengthAt d i → recOf w (firstNumber d i + p) ≡ i
@@ -61,6 +62,7 @@ holds-drawing d j w ss js t =
       records = t .records;
       x = λ i p h l. t .numbers .points .x (firstNumber d i + p) (low-number d i p h l) ∙ ap (λ (q : Spot). wordOf (cornerAt d (q .ring) (q .place) .x)) (spot i p h l);
       y = λ i p h l. t .numbers .points .y (firstNumber d i + p) (low-number d i p h l) ∙ ap (λ (q : Spot). wordOf (cornerAt d (q .ring) (q .place) .y)) (spot i p h l);
+      z = λ i p h l. t .numbers .points .z (firstNumber d i + p) (low-number d i p h l) ∙ ap (λ (q : Spot). cornerAt d (q .ring) (q .place) .z) (spot i p h l);
       next = λ i p h l. t .numbers .points .next (firstNumber d i + p) (low-number d i p h l) ∙ ap (λ (q : Spot). firstNumber d (q .ring) + nextPlace (q .place) (lengthAt d (q .ring))) (spot i p h l);
       prev = λ i p h l. t .numbers .points .prev (firstNumber d i + p) (low-number d i p h l) ∙ ap (λ (q : Spot). firstNumber d (q .ring) + prevPlace (q .place) (lengthAt d (q .ring))) (spot i p h l);
       rec = λ i p h l. t .numbers .points .rec (firstNumber d i + p) (low-number d i p h l) ∙ ring-at d i p h l;

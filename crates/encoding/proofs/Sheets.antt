@@ -29,7 +29,7 @@ use Rattle.encoding.proofs.Loading.{turn, onward, Got, ReadUpTo, points
 -- every field has bytes
 bytes-some : (f : Field) → 1 ≤ length (bytesOf f)
 bytes-some (Settings b) = omega arith
-bytes-some (Point x y n p r) = omega arith
+bytes-some (Point x y n p r z) = omega arith
 bytes-some (Record f o p) = omega arith
 bytes-some (Segment p) = omega arith
 bytes-some (Join a b) = omega arith
@@ -139,7 +139,7 @@ module _ (t : Sheet) (f : SheetFits t) (w ss js : List ℕ) (sp : Space w ss js)
         last = omega arith;
         space = sp;
         numbers = record {
-          points = record { x = λ k h. absurd (omega arith); y = λ k h. absurd (omega arith); next = λ k h. absurd (omega arith); prev = λ k h. absurd (omega arith); rec = λ k h. absurd (omega arith) };
+          points = record { x = λ k h. absurd (omega arith); y = λ k h. absurd (omega arith); next = λ k h. absurd (omega arith); prev = λ k h. absurd (omega arith); rec = λ k h. absurd (omega arith); z = λ k h. absurd (omega arith) };
           records = record { flags = λ k h. absurd (omega arith); owner = λ k h. absurd (omega arith); first = λ k h. absurd (omega arith) };
           segments = λ k h. absurd (omega arith);
           joins = record { one = λ k h. absurd (omega arith); two = λ k h. absurd (omega arith) };

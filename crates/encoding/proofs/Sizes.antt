@@ -22,15 +22,15 @@ bytes-table : (g : ℕ → Field) (s : ℕ) → ((i : ℕ) → length (bytesOf (
 bytes-table g s h k zero = omega arith
 bytes-table g s h k (suc n) = omega (arith, length-append (bytesOf (g k)) (allBytes (table g (suc k) n)), h k, bytes-table g s h (suc k) n)
 
-sheet-length : (t : Sheet) → length (sheetBytes t) ≡ 4 + 17 * t .points + 8 * t .records + 5 * t .segments + 7 * t .joins
+sheet-length : (t : Sheet) → length (sheetBytes t) ≡ 4 + 21 * t .points + 8 * t .records + 5 * t .segments + 7 * t .joins
 sheet-length t =
     let a = table (pointField t) 0 (t .points) in
     let b = table (recordField t) 0 (t .records) in
     let c = table (segmentField t) 0 (t .segments) in
     let e = table (joinField t) 0 (t .joins) in
-    omega (arith, bytes-append a (b ++ (c ++ e)), bytes-append b (c ++ e), bytes-append c e, bytes-table (pointField t) 17 (λ i. refl) 0 (t .points), bytes-table (recordField t) 8 (λ i. refl) 0 (t .records), bytes-table (segmentField t) 5 (λ i. refl) 0 (t .segments), bytes-table (joinField t) 7 (λ i. refl) 0 (t .joins))
+    omega (arith, bytes-append a (b ++ (c ++ e)), bytes-append b (c ++ e), bytes-append c e, bytes-table (pointField t) 21 (λ i. refl) 0 (t .points), bytes-table (recordField t) 8 (λ i. refl) 0 (t .records), bytes-table (segmentField t) 5 (λ i. refl) 0 (t .segments), bytes-table (joinField t) 7 (λ i. refl) 0 (t .joins))
 
-pub encode-length : (d : Drawing) → length (encode d) ≡ 4 + 17 * firstNumber d (length (d .records)) + 8 * length (d .records) + 5 * length (d .segments) + 7 * (length (d .joins) / 2)
+pub encode-length : (d : Drawing) → length (encode d) ≡ 4 + 21 * firstNumber d (length (d .records)) + 8 * length (d .records) + 5 * length (d .segments) + 7 * (length (d .joins) / 2)
 unfolding encode sheetOf
 encode-length d = sheet-length (sheetOf d)
 
@@ -45,8 +45,8 @@ all-append (x ∷ l) m h g = (h .0, all-append l m (h .1) g)
 
 field-bytes : (f : Field) → All (λ x. x < 256) (bytesOf f)
 field-bytes (Settings b) = (omega arith, (omega arith, (omega arith, (small _, tt))))
-field-bytes (Point x y n p r) =
-    (omega arith, (omega arith, (omega arith, (small _, (small _, (small _, (small _, (small _, (small _, (small _, (small _, (small _, (small _, (small _, (small _, (small _, (small _, tt)))))))))))))))))
+field-bytes (Point x y n p r z) =
+    (omega arith, (omega arith, (omega arith, (small _, (small _, (small _, (small _, (small _, (small _, (small _, (small _, (small _, (small _, (small _, (small _, (small _, (small _, (small _, (small _, (small _, (small _, tt)))))))))))))))))))))
 field-bytes (Record f o p) = (omega arith, (omega arith, (omega arith, (small _, (small _, (small _, (small _, (small _, tt))))))))
 field-bytes (Segment p) = (omega arith, (omega arith, (omega arith, (small _, (small _, tt)))))
 field-bytes (Join a b) = (omega arith, (omega arith, (omega arith, (small _, (small _, (small _, (small _, tt)))))))

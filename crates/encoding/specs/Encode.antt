@@ -27,7 +27,7 @@ abbrev pub noSpot : Spot
 noSpot = record { ring = 0; place = 0 }
 
 abbrev pub origin : Point
-origin = record { x = pos 0; y = pos 0 }
+origin = record { x = pos 0; y = pos 0; z = 0 }
 
 module _ (d : Drawing) where
   abbrev pub recordAt : ℕ → Drawn
@@ -67,6 +67,7 @@ module _ (d : Drawing) where
         next = λ k. firstNumber (itsRing k) + nextPlace (itsPlace k) (lengthAt (itsRing k));
         prev = λ k. firstNumber (itsRing k) + prevPlace (itsPlace k) (lengthAt (itsRing k));
         rec = itsRing;
+        z = λ k. cornerAt (itsRing k) (itsPlace k) .z;
         flags = λ i. recordAt i .flags;
         owner = λ i. recordAt i .owner;
         first = λ i. cond (eqb (lengthAt i) 0) NONE (firstNumber i);

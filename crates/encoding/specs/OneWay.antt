@@ -23,6 +23,7 @@ pub record Agree (d e : Drawing) : Type 0 where
   pub settings : d .settings ≡ e .settings
   pub flags : map (λ (r : Drawn). r .flags) (d .records) ≡ map (λ (r : Drawn). r .flags) (e .records)
   pub owners : map (λ (r : Drawn). r .owner) (d .records) ≡ map (λ (r : Drawn). r .owner) (e .records)
+  -- x, y and z: document 02, Ask 9, "one that differs gives different bytes"
   pub rings : map (λ (r : Drawn). r .ring) (d .records) ≡ map (λ (r : Drawn). r .ring) (e .records)
   pub segments : d .segments ≡ e .segments
   pub joins : d .joins ≡ e .joins
@@ -36,7 +37,7 @@ pub record OneWay : Type 0 where
   pub again : (a x : List ℕ) → rewritten a ≡ some x → rewritten x ≡ some x
   -- "finishing either job gives the same lists, or the same refusal": in any work space, on any tray
   pub finishing : (a x : List ℕ) → rewritten a ≡ some x → (lent t : List ℕ) → SameFinish (finishOf a lent t) (finishOf x lent t)
-  -- as many bytes as the job has, so 41,988 at most; and bytes they are
+  -- as many bytes as the job has, so 50,180 at most; and bytes they are
   pub as-long : (a x : List ℕ) → rewritten a ≡ some x → length x ≡ length a
   pub never-longer : (a x : List ℕ) → rewritten a ≡ some x → length x ≤ LONGEST
   pub bytes : (a x : List ℕ) → rewritten a ≡ some x → All (λ (r : ℕ). r < 256) x

@@ -19,7 +19,7 @@ coordinateBytes x = lowBytes 4 (lowered limit.COORDINATE x)
 
 abbrev pub bytesOf : Field → List ℕ
 bytesOf (Settings bits) = withHeader 1 (lowBytes 1 bits)
-bytesOf (Point x y next prev rec) = withHeader 2 (coordinateBytes x ++ coordinateBytes y ++ lowBytes 2 next ++ lowBytes 2 prev ++ lowBytes 2 rec)
+bytesOf (Point x y next prev rec z) = withHeader 2 (coordinateBytes x ++ coordinateBytes y ++ lowBytes 2 next ++ lowBytes 2 prev ++ lowBytes 2 rec ++ lowBytes 4 z)
 bytesOf (Record flags owner first) = withHeader 3 (lowBytes 1 flags ++ lowBytes 2 owner ++ lowBytes 2 first)
 bytesOf (Segment p) = withHeader 4 (lowBytes 2 p)
 bytesOf (Join a b) = withHeader 5 (lowBytes 2 a ++ lowBytes 2 b)
@@ -40,6 +40,7 @@ pub record Sheet : Type 0 where
   pub next : ℕ → ℕ
   pub prev : ℕ → ℕ
   pub rec : ℕ → ℕ
+  pub z : ℕ → ℕ
   pub flags : ℕ → ℕ
   pub owner : ℕ → ℕ
   pub first : ℕ → ℕ
@@ -49,7 +50,7 @@ pub record Sheet : Type 0 where
 
 module _ (t : Sheet) where
   abbrev pub pointField : ℕ → Field
-  pointField k = Point (t .x k) (t .y k) (t .next k) (t .prev k) (t .rec k)
+  pointField k = Point (t .x k) (t .y k) (t .next k) (t .prev k) (t .rec k) (t .z k)
 
   abbrev pub recordField : ℕ → Field
   recordField i = Record (t .flags i) (t .owner i) (t .first i)

@@ -83,7 +83,7 @@ field-rows j s = go (tornHeader s) (strangeTag (j .last) (tagOf s)) (tornValue (
 
 placed-rows : (f : Field) (n : ℕ) (j : Job) (w ss js : List ℕ) → FilledTo 8 (placed f n j w ss js)
 placed-rows (Settings bits) n j w ss js = tt
-placed-rows (Point x y next prev rec) n j w ss js = tt
+placed-rows (Point x y next prev rec z) n j w ss js = tt
 placed-rows (Record flags owner first) n j w ss js = tt
 placed-rows (Segment p) n j w ss js = tt
 placed-rows (Join a b) n j w ss js = tt

@@ -10,7 +10,7 @@ use Rattle.exact.specs.Equal.{eqZ}
 use Rattle.exact.proofs.Size.{eq-eqZ}
 use Rattle.exact.proofs.Poly.{Term, var, num, _:-_, _:*_, solve}
 use Rattle.geometry.specs.declared.Point.{Point}
-use Rattle.geometry.specs.Plane.{samePoint, divisor, alongFirst, alongSecond, strictlyWithin, segmentsIntersect}
+use Rattle.geometry.specs.Plane.{ground, samePoint, divisor, alongFirst, alongSecond, strictlyWithin, segmentsIntersect}
 use Rattle.geometry.proofs.Points.{same-false}
 
 -- ---- the tests of one number
@@ -99,15 +99,25 @@ pub record Apart (a b c d : Point) : Type 0 where
   pub end-start : samePoint b c ≡ false
   pub ends : samePoint b d ≡ false
 
+-- the test sees places only
+on-ground : (a b c d : Point) → segmentsIntersect a b c d ≡ segmentsIntersect (ground a) (ground b) (ground c) (ground d)
+unfolding segmentsIntersect
+on-ground a b c d = refl
+
 pub crossing-apart : (a b c d : Point) → segmentsIntersect a b c d ≡ true → Apart a b c d
-crossing-apart a b c d h = record {
-  first = same-false a b (λ e. no (ap (λ (p : Point). segmentsIntersect a p c d) (sym e) ∙ first-empty a c d));
-  second = same-false c d (λ e. no (ap (λ (p : Point). segmentsIntersect a b c p) (sym e) ∙ second-empty a b c));
-  starts = same-false a c (λ e. no (ap (λ (p : Point). segmentsIntersect a b p d) (sym e) ∙ starts-meet a b d));
-  start-end = same-false a d (λ e. no (ap (λ (p : Point). segmentsIntersect a b c p) (sym e) ∙ start-meets-end a b c));
-  end-start = same-false b c (λ e. no (ap (λ (p : Point). segmentsIntersect a b p d) (sym e) ∙ end-meets-start a b d));
-  ends = same-false b d (λ e. no (ap (λ (p : Point). segmentsIntersect a b c p) (sym e) ∙ ends-meet a b c));
-}
+crossing-apart a b c d h =
+    let A : Point = ground a in
+    let B : Point = ground b in
+    let C : Point = ground c in
+    let D : Point = ground d in
+    record {
+      first = same-false a b (λ e. no (ap (λ (p : Point). segmentsIntersect A p C D) (sym e) ∙ first-empty A C D));
+      second = same-false c d (λ e. no (ap (λ (p : Point). segmentsIntersect A B C p) (sym e) ∙ second-empty A B C));
+      starts = same-false a c (λ e. no (ap (λ (p : Point). segmentsIntersect A B p D) (sym e) ∙ starts-meet A B D));
+      start-end = same-false a d (λ e. no (ap (λ (p : Point). segmentsIntersect A B C p) (sym e) ∙ start-meets-end A B C));
+      end-start = same-false b c (λ e. no (ap (λ (p : Point). segmentsIntersect A B p D) (sym e) ∙ end-meets-start A B D));
+      ends = same-false b d (λ e. no (ap (λ (p : Point). segmentsIntersect A B C p) (sym e) ∙ ends-meet A B C));
+    }
   where
-    no : segmentsIntersect a b c d ≡ false → ⊥
-    no e = true≢false (sym h ∙ e)
+    no : segmentsIntersect (ground a) (ground b) (ground c) (ground d) ≡ false → ⊥
+    no e = true≢false (sym h ∙ on-ground a b c d ∙ e)

@@ -2,7 +2,7 @@
 -- Request 6 cites `area-turned` and `area-in-line`, request 10 `area-reversed`.
 use mathlib.Core.Path.{_≡_, refl, sym, ap, _∙_}
 use mathlib.Core.Bool.{true}
-use mathlib.Core.List.{List, [], _∷_, _++_, append-nil, reverse, reverse-cons}
+use mathlib.Core.List.{List, [], _∷_, _++_, map, append-nil, reverse, reverse-cons}
 use Prim.Native.Nat.{_*_, _≤_, _^_, zero-le}
 use native.Mathlib.Omega.{arith}
 use lib.ListN.{length}
@@ -12,7 +12,7 @@ use Rattle.exact.proofs.Size.{size-add, eqZ-true}
 use Rattle.exact.proofs.Poly.{var, _:+_, solve}
 use Rattle.rings.specs.Circle.{turn, lastOf}
 use Rattle.geometry.specs.declared.Point.{Point}
-use Rattle.geometry.specs.Plane.{isCollinear, edgeArea, areaTriangle, areaFrom, areaOutpt}
+use Rattle.geometry.specs.Plane.{ground, isCollinear, edgeArea, areaTriangle, areaFrom, areaOutpt}
 use Rattle.geometry.specs.Table.{InTable, AllInTable}
 use Rattle.geometry.proofs.Coordinates.{edge-within}
 use Rattle.geometry.proofs.Triangles.{edge, three, edge-back, triangle-in-line}
@@ -63,6 +63,20 @@ unfolding areaOutpt
 area-reversed [] = refl
 area-reversed (x ∷ xs) =
     ap areaOutpt (reverse-cons x xs) ∙ area-rotated (reverse xs) (x ∷ []) ∙ area-round x (reverse xs) ∙ back-way x x xs ∙ ap negℤ (sym (area-round x xs))
+
+-- ---- z has no part in it
+last-ground : (p : Point) (ps : List Point) → lastOf (ground p) (map ground ps) ≡ ground (lastOf p ps)
+last-ground p [] = refl
+last-ground p (q ∷ qs) = last-ground q qs
+
+from-ground : (p : Point) (ps : List Point) → areaFrom (ground p) (map ground ps) ≡ areaFrom p ps
+from-ground p [] = refl
+from-ground p (q ∷ qs) = ap (λ (z : ℤ). edgeArea p q +ℤ z) (from-ground q qs)
+
+pub area-ground : (c : List Point) → areaOutpt (map ground c) ≡ areaOutpt c
+unfolding areaOutpt
+area-ground [] = refl
+area-ground (p ∷ ps) = ap (λ (q : Point). areaFrom q (map ground (p ∷ ps))) (last-ground p ps) ∙ from-ground (lastOf p ps) (p ∷ ps)
 
 -- ---- without a point: the area of its triangle less
 pub area-dropped : (pt next : Point) (ps : List Point) → areaOutpt (pt ∷ next ∷ ps) ≡ areaOutpt (next ∷ ps) +ℤ areaTriangle (lastOf next ps) pt next

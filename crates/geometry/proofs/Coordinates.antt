@@ -46,10 +46,10 @@ edge-of h k e = held-is e (held-here (edge-within h k))
 
 -- ---- equality of points, by the bits
 pub same-of :
-    {p q : Point} → SFits w32 (p .x) → SFits w32 (q .x) → SFits w32 (p .y) → SFits w32 (q .y) →
+    (p q : Point) → SFits w32 (p .x) → SFits w32 (q .x) → SFits w32 (p .y) → SFits w32 (q .y) →
     (eqb (ofZ w32 (p .x)) (ofZ w32 (q .x)) && eqb (ofZ w32 (p .y)) (ofZ w32 (q .y))) ≡ samePoint p q
 unfolding samePoint
-same-of {p} {q} h k l m = rw (bits-eqZ w32 (p .x) (q .x) h k, bits-eqZ w32 (p .y) (q .y) l m)
+same-of p q h k l m = rw (bits-eqZ w32 (p .x) (q .x) h k, bits-eqZ w32 (p .y) (q .y) l m)
 
 -- ---- closeness
 under-two : (z : ℤ) → (ltZ (negsuc 1) z && ltZ z (pos 2)) ≡ ltb (natAbs z) 2
@@ -67,11 +67,11 @@ close-of {a} {b} {d} h k e =
 
 -- the answers of `close` on both coordinates
 pub both-close :
-    {p q : Point} {r s : Bool} →
+    (p q : Point) {r s : Bool} →
     SFits w32 (p .x) → SFits w32 (q .x) → SFits w32 (p .y) → SFits w32 (q .y) →
     r ≡ closeBy (i32 (p .x)) (i32 (q .x)) → s ≡ closeBy (i32 (p .y)) (i32 (q .y)) → (r && s) ≡ ptsReallyClose p q
 unfolding ptsReallyClose
-both-close h k l m e f = rw (e, f, toZ-ofZ h, toZ-ofZ k, toZ-ofZ l, toZ-ofZ m)
+both-close p q h k l m e f = rw (e, f, toZ-ofZ h, toZ-ofZ k, toZ-ofZ l, toZ-ofZ m)
 
 -- ---- the removal test, from the answers of its parts
 pub removable-of :

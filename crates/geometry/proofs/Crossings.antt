@@ -58,7 +58,7 @@ module _ {e : Edges} {t : Float} (m : MeetAt e t) where
   pub on-y : Reach (i32 (e .a .y)) (e .pair .dy1) t
   on-y = rw (back (A .y)) (reach (A .y) (B .y) first-y part)
 
-  pub inside-of : {x y : ℤ} → x ≡ steppedF (i32 (e .a .x)) (e .pair .dx1) t → y ≡ steppedF (i32 (e .a .y)) (e .pair .dy1) t → _≡_ {A = Point} (record { x = i32 x; y = i32 y }) (pointAt (e .a) (e .b) t)
+  pub inside-of : {x y : ℤ} → x ≡ steppedF (i32 (e .a .x)) (e .pair .dx1) t → y ≡ steppedF (i32 (e .a .y)) (e .pair .dy1) t → _≡_ {A = Point} (record { x = i32 x; y = i32 y; z = 0 }) (pointAt (e .a) (e .b) t)
   inside-of {x} {y} g k =
       let ex : i32 x ≡ coordinateAt (e .a .x) (e .b .x) t = ap i32 g ∙ back (stepped-within on-x) ∙ rw (back (A .x), first-x) (stepped-coordinate (e .a .x) (e .b .x) t) in
       let ey : i32 y ≡ coordinateAt (e .a .y) (e .b .y) t = ap i32 k ∙ back (stepped-within on-y) ∙ rw (back (A .y), first-y) (stepped-coordinate (e .a .y) (e .b .y) t) in

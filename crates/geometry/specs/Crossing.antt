@@ -44,9 +44,9 @@ crossing a b c d = fractionOf (alongFirst a b c d) (alongSecond a b c d) (diviso
 unfoldable pub coordinateAt : ℤ → ℤ → Float → ℤ
 coordinateAt a b t = toSigned 63 (add binary64 (float a) (mul binary64 t (float (b -ℤ a))))
 
--- the point of the edge from a to b at its fraction t
+-- the point of the edge from a to b at its fraction t: "a crossing inside an edge gets 0"
 abbrev pub pointAt : Point → Point → Float → Point
-pointAt a b t = record { x = coordinateAt (a .x) (b .x) t; y = coordinateAt (a .y) (b .y) t }
+pointAt a b t = record { x = coordinateAt (a .x) (b .x) t; y = coordinateAt (a .y) (b .y) t; z = 0 }
 
 -- the point of the edge from a to b, and ip where there is none
 abbrev pub pointOf : Point → Point → Point → Crossing → Point

@@ -8,7 +8,11 @@ use Rattle.exact.specs.Equal.{eqZ}
 use Rattle.rings.specs.Circle.{lastOf}
 use Rattle.geometry.specs.declared.Point.{Point}
 
--- equality of points, `==` of the Rust
+-- the point's place: what is left of it without its depth
+abbrev pub ground : Point → Point
+ground p = record { x = p .x; y = p .y; z = 0 }
+
+-- equality of points, `==` of the Rust: "Equality of points ignores z"
 unfoldable pub samePoint : Point → Point → Bool
 samePoint p q = eqZ (p .x) (q .x) && eqZ (p .y) (q .y)
 

@@ -4,7 +4,7 @@ use Prim.Native.Nat.{_^_}
 use Rattle.exact.specs.Num.{Within}
 use Rattle.geometry.specs.declared.Point.{Point}
 
--- "A coordinate is within ±1,048,576"
+-- "A coordinate is within ±1,048,576"; z is any
 pub record InTable (p : Point) : Type 0 where
   pub x : Within (2 ^ 20) (p .x)
   pub y : Within (2 ^ 20) (p .y)

@@ -10,10 +10,11 @@ ghost use Rattle.geometry.specs.Crossing.{edgePair, crossing, pointAt};
 ghost use Rattle.geometry.specs.Within.{edgesOf, Paired, MeetAt};
 ghost use Rattle.geometry.specs.Floats.{divisorF, alongF, strictlyWithinF, quotientF, fractionF, Reach, steppedF};
 
-// A point; its coordinates are micrometres.
+// A point: x and y in micrometres, and its depth z, a signed number of 32 bits kept as its word in two's complement. Only x and y are compared.
 pub struct Point {
     pub x: i32,
     pub y: i32,
+    pub z: u32,
 }
 
 // The differences of two edges: the first from a to b, the second from c to d.
@@ -42,7 +43,7 @@ pub enum Crossing {
     Inside { first: f64, second: f64 },
 }
 
-// Equality of points: the only one.
+// Equality of points: the only one. z does not count.
 pub fn same_point(p: Point, q: Point) -> bool
     ensures { λ r. ⌜ r ≡ samePoint p q ⌝ }
 {
@@ -255,7 +256,7 @@ fn stepped(a: i32, d: f64, t: f64) -> i32
     std::num::truncating_f64_to_i64(a as f64 + t * d) as i32
 }
 
-// The point of the first edge at its fraction t, where the edges meet inside it: `ip` of `get_segment_intersect_pt`.
+// The point of the first edge at its fraction t, where the edges meet inside it: `ip` of `get_segment_intersect_pt`. Its z is 0.
 pub fn point_inside(e: Edges, t: f64) -> Point
     requires { ⌜ MeetAt e t ⌝ }
     ensures { λ r. ⌜ r ≡ pointAt (e .a) (e .b) t ⌝ }
@@ -263,5 +264,6 @@ pub fn point_inside(e: Edges, t: f64) -> Point
     Point {
         x: stepped(e.a.x, e.pair.dx1, t),
         y: stepped(e.a.y, e.pair.dy1, t),
+        z: 0,
     }
 }

@@ -14,7 +14,7 @@ use Rattle.job.specs.declared.field.Field.the-variants.{Settings, Point,
 use Rattle.job.specs.declared.field.Reading.{Reading}
 use Rattle.job.specs.declared.field.Reading.the-variants.{Read, Refused}
 use Rattle.job.specs.Limits.{POINTS, RECORDS, SEGMENTS, JOINS}
-use Rattle.job.specs.Coordinate.{wordAt}
+use Rattle.job.specs.Coordinate.{wordAt, depthAt}
 
 -- "tag one byte, length two bytes, value"
 abbrev pub HEADER : ℕ
@@ -41,7 +41,7 @@ kindOf tag =
 -- the bytes of each kind's value
 abbrev pub sizeOf : Kind → ℕ
 sizeOf kind.Settings = 1
-sizeOf kind.Point = 14
+sizeOf kind.Point = 18
 sizeOf kind.Record = 5
 sizeOf kind.Segment = 2
 sizeOf kind.Join = 4
@@ -59,6 +59,9 @@ PREV-AT = 10
 abbrev pub RECORD-AT : ℕ
 RECORD-AT = 12
 
+abbrev pub Z-AT : ℕ
+Z-AT = 14
+
 abbrev pub OWNER-AT : ℕ
 OWNER-AT = 1
 
@@ -68,10 +71,10 @@ FIRST-AT = 3
 abbrev pub SECOND-AT : ℕ
 SECOND-AT = 2
 
--- the numbers of each kind's value; a coordinate as its word
+-- the numbers of each kind's value; x, y and z as their words
 abbrev pub fieldIn : Kind → List ℕ → Field
 fieldIn kind.Settings v = Settings (le 1 0 v)
-fieldIn kind.Point v = Point (wordAt 0 v) (wordAt Y-AT v) (le 2 NEXT-AT v) (le 2 PREV-AT v) (le 2 RECORD-AT v)
+fieldIn kind.Point v = Point (wordAt 0 v) (wordAt Y-AT v) (le 2 NEXT-AT v) (le 2 PREV-AT v) (le 2 RECORD-AT v) (depthAt Z-AT v)
 fieldIn kind.Record v = Record (le 1 0 v) (le 2 OWNER-AT v) (le 2 FIRST-AT v)
 fieldIn kind.Segment v = Segment (le 2 0 v)
 fieldIn kind.Join v = Join (le 2 0 v) (le 2 SECOND-AT v)
@@ -92,7 +95,7 @@ tornValue k s = not (eqb (lengthOf s) (sizeOf k)) || ltb (length s) (HEADER + si
 -- row 2: "an unused bit set": the settings and a record's flags use bits 0 and 1
 abbrev pub strangeBits : Field → Bool
 strangeBits (Settings bits) = ltb 3 bits
-strangeBits (Point x y next prev rec) = false
+strangeBits (Point x y next prev rec z) = false
 strangeBits (Record flags owner first) = ltb 3 flags
 strangeBits (Segment p) = false
 strangeBits (Join a b) = false

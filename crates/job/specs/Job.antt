@@ -13,7 +13,7 @@ fresh = record { at = 0; last = 0; bits = 0; points = 0; records = 0; segments =
 abbrev pub past : Field → ℕ → Job → Job
 past (Settings bits) n j =
     record { at = j .at + n; last = 1; bits = bits; points = j .points; records = j .records; segments = j .segments; joins = j .joins }
-past (Point x y next prev rec) n j =
+past (Point x y next prev rec z) n j =
     record { at = j .at + n; last = 2; bits = j .bits; points = j .points + 1; records = j .records; segments = j .segments; joins = j .joins }
 past (Record flags owner first) n j =
     record { at = j .at + n; last = 3; bits = j .bits; points = j .points; records = j .records + 1; segments = j .segments; joins = j .joins }

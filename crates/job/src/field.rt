@@ -18,6 +18,8 @@ pub const PREV_AT: usize = 10;
 
 pub const RECORD_AT: usize = 12;
 
+pub const Z_AT: usize = 14;
+
 pub const OWNER_AT: usize = 1;
 
 pub const FIRST_AT: usize = 3;
@@ -32,7 +34,7 @@ pub enum Kind {
     Join,
 }
 
-// A field's numbers; a coordinate as a word raised by the limit.
+// A field's numbers; x and y as words raised by the limit, z as a word in two's complement.
 pub enum Field {
     Settings {
         bits: u32,
@@ -43,6 +45,7 @@ pub enum Field {
         next: u32,
         prev: u32,
         record: u32,
+        z: u32,
     },
     Record {
         flags: u32,
@@ -82,7 +85,7 @@ pub fn size_of(k: Kind) -> usize
 {
     match k {
         Kind::Settings => 1,
-        Kind::Point => 14,
+        Kind::Point => 18,
         Kind::Record => 5,
         Kind::Segment => 2,
         Kind::Join => 4,
@@ -99,6 +102,7 @@ fn read_point(v: &[u8]) -> Field
         next: numbers::read_u16(v, NEXT_AT),
         prev: numbers::read_u16(v, PREV_AT),
         record: numbers::read_u16(v, RECORD_AT),
+        z: numbers::read_raised(v, Z_AT, 0),
     }
 }
 
@@ -152,6 +156,7 @@ fn strange_bits(f: Field) -> bool
             next: _,
             prev: _,
             record: _,
+            z: _,
         } => false,
         Field::Record {
             flags,

@@ -66,6 +66,7 @@ impl Job {
                 next: _,
                 prev: _,
                 record: _,
+                z: _,
             } => {
                 j.last = 2;
                 j.points = self.points + 1;

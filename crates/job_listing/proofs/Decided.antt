@@ -1,4 +1,4 @@
--- 42,005 bytes decide a job's listing: what follows them changes nothing.
+-- 50,201 bytes decide a job's listing: what follows them changes nothing.
 use mathlib.Core.Path.{_≡_, ap}
 use mathlib.Core.List.{List}
 use Prim.Native.Nat.{ℕ}

@@ -42,10 +42,10 @@ never c o x w t w′ t′ e =
     absurd (omega arith)
 
 -- the words are ready to be written out, and the tray is what writing them out left
-record From (c o : ℕ) (w′ t′ : List ℕ) : Type 0 where
-  ready : SoundWords w′
-  before : List ℕ
-  is : wrote (Paths c o) t′ ≡ buildPaths64 (view w′) before
+pub record From (c o : ℕ) (w′ t′ : List ℕ) : Type 0 where
+  pub ready : SoundWords w′
+  pub before : List ℕ
+  pub is : wrote (Paths c o) t′ ≡ buildPaths64 (view w′) before
 
 module _ (c o : ℕ) (w′ t′ t : List ℕ) where
   after-writing : (w : List ℕ) → SoundWords w → (b : Wrote) → buildPaths64 (view w) t ≡ b → finished (Paths c o) w′ t′ ≡ afterWriting w (b .answer) (b .tray) → From c o w′ t′
@@ -63,7 +63,7 @@ module _ (c o : ℕ) (w′ t′ t : List ℕ) where
   after-steps w l (ringsDone w₁) h e = after-writing w₁ (done-ready w w₁ l h) (buildPaths64 (view w₁) t) refl e
   after-steps w l (ringsFull w₁) h e = never c o _ _ _ _ _ e
 
-  finish-from : (bytes lent : List ℕ) → finished (Paths c o) w′ t′ ≡ finishOf bytes lent t → From c o w′ t′
+  pub finish-from : (bytes lent : List ℕ) → finished (Paths c o) w′ t′ ≡ finishOf bytes lent t → From c o w′ t′
   unfolding finishOf
   finish-from bytes lent e = go (openOf bytes lent) refl e
     where

@@ -44,29 +44,48 @@ use Rattle.job_listing.specs.Cutlist.{cutlistOf}
 abbrev job : ℕ → List ℕ
 job settings =
     (1 ∷ 1 ∷ 0 ∷ settings ∷ [])
-    ++ (2 ∷ 14 ∷ 0 ∷ 0 ∷ 0 ∷ 0 ∷ 0 ∷ 0 ∷ 0 ∷ 0 ∷ 0 ∷ 1 ∷ 0 ∷ 3 ∷ 0 ∷ 0 ∷ 0 ∷ [])
-    ++ (2 ∷ 14 ∷ 0 ∷ 10 ∷ 0 ∷ 0 ∷ 0 ∷ 10 ∷ 0 ∷ 0 ∷ 0 ∷ 2 ∷ 0 ∷ 0 ∷ 0 ∷ 0 ∷ 0 ∷ [])
-    ++ (2 ∷ 14 ∷ 0 ∷ 10 ∷ 0 ∷ 0 ∷ 0 ∷ 0 ∷ 0 ∷ 0 ∷ 0 ∷ 3 ∷ 0 ∷ 1 ∷ 0 ∷ 0 ∷ 0 ∷ [])
-    ++ (2 ∷ 14 ∷ 0 ∷ 0 ∷ 0 ∷ 0 ∷ 0 ∷ 12 ∷ 0 ∷ 0 ∷ 0 ∷ 0 ∷ 0 ∷ 2 ∷ 0 ∷ 0 ∷ 0 ∷ [])
+    ++ (2 ∷ 18 ∷ 0 ∷ 0 ∷ 0 ∷ 0 ∷ 0 ∷ 0 ∷ 0 ∷ 0 ∷ 0 ∷ 1 ∷ 0 ∷ 3 ∷ 0 ∷ 0 ∷ 0 ∷ 0 ∷ 0 ∷ 0 ∷ 0 ∷ [])
+    ++ (2 ∷ 18 ∷ 0 ∷ 10 ∷ 0 ∷ 0 ∷ 0 ∷ 10 ∷ 0 ∷ 0 ∷ 0 ∷ 2 ∷ 0 ∷ 0 ∷ 0 ∷ 0 ∷ 0 ∷ 0 ∷ 0 ∷ 0 ∷ 0 ∷ [])
+    ++ (2 ∷ 18 ∷ 0 ∷ 10 ∷ 0 ∷ 0 ∷ 0 ∷ 0 ∷ 0 ∷ 0 ∷ 0 ∷ 3 ∷ 0 ∷ 1 ∷ 0 ∷ 0 ∷ 0 ∷ 0 ∷ 0 ∷ 0 ∷ 0 ∷ [])
+    ++ (2 ∷ 18 ∷ 0 ∷ 0 ∷ 0 ∷ 0 ∷ 0 ∷ 12 ∷ 0 ∷ 0 ∷ 0 ∷ 0 ∷ 0 ∷ 2 ∷ 0 ∷ 0 ∷ 0 ∷ 0 ∷ 0 ∷ 0 ∷ 0 ∷ [])
+    ++ (3 ∷ 5 ∷ 0 ∷ 0 ∷ 255 ∷ 255 ∷ 0 ∷ 0 ∷ [])
+
+-- the same ring with z 1, 2, 3 and -4
+abbrev deepJob : List ℕ
+deepJob =
+    (1 ∷ 1 ∷ 0 ∷ 0 ∷ [])
+    ++ (2 ∷ 18 ∷ 0 ∷ 0 ∷ 0 ∷ 0 ∷ 0 ∷ 0 ∷ 0 ∷ 0 ∷ 0 ∷ 1 ∷ 0 ∷ 3 ∷ 0 ∷ 0 ∷ 0 ∷ 1 ∷ 0 ∷ 0 ∷ 0 ∷ [])
+    ++ (2 ∷ 18 ∷ 0 ∷ 10 ∷ 0 ∷ 0 ∷ 0 ∷ 10 ∷ 0 ∷ 0 ∷ 0 ∷ 2 ∷ 0 ∷ 0 ∷ 0 ∷ 0 ∷ 0 ∷ 2 ∷ 0 ∷ 0 ∷ 0 ∷ [])
+    ++ (2 ∷ 18 ∷ 0 ∷ 10 ∷ 0 ∷ 0 ∷ 0 ∷ 0 ∷ 0 ∷ 0 ∷ 0 ∷ 3 ∷ 0 ∷ 1 ∷ 0 ∷ 0 ∷ 0 ∷ 3 ∷ 0 ∷ 0 ∷ 0 ∷ [])
+    ++ (2 ∷ 18 ∷ 0 ∷ 0 ∷ 0 ∷ 0 ∷ 0 ∷ 12 ∷ 0 ∷ 0 ∷ 0 ∷ 0 ∷ 0 ∷ 2 ∷ 0 ∷ 0 ∷ 0 ∷ 252 ∷ 255 ∷ 255 ∷ 255 ∷ [])
     ++ (3 ∷ 5 ∷ 0 ∷ 0 ∷ 255 ∷ 255 ∷ 0 ∷ 0 ∷ [])
 
 -- closed 2 open 0
--- piece 3 60 5,5 0,12 0,0
--- hole 3 -50 10,10 10,0 5,5
+-- piece 3 60 5,5,0 0,12,0 0,0,0
+-- hole 3 -50 10,10,0 10,0,0 5,5,0
 abbrev text : List ℕ
 text =
     (99 ∷ 108 ∷ 111 ∷ 115 ∷ 101 ∷ 100 ∷ 32 ∷ 50 ∷ 32 ∷ 111 ∷ 112 ∷ 101 ∷ 110 ∷ 32 ∷ 48 ∷ 10 ∷ [])
-    ++ (112 ∷ 105 ∷ 101 ∷ 99 ∷ 101 ∷ 32 ∷ 51 ∷ 32 ∷ 54 ∷ 48 ∷ 32 ∷ 53 ∷ 44 ∷ 53 ∷ 32 ∷ 48 ∷ 44 ∷ 49 ∷ 50 ∷ 32 ∷ 48 ∷ 44 ∷ 48 ∷ 10 ∷ [])
-    ++ (104 ∷ 111 ∷ 108 ∷ 101 ∷ 32 ∷ 51 ∷ 32 ∷ 45 ∷ 53 ∷ 48 ∷ 32 ∷ 49 ∷ 48 ∷ 44 ∷ 49 ∷ 48 ∷ 32 ∷ 49 ∷ 48 ∷ 44 ∷ 48 ∷ 32 ∷ 53 ∷ 44 ∷ 53 ∷ 10 ∷ [])
+    ++ (112 ∷ 105 ∷ 101 ∷ 99 ∷ 101 ∷ 32 ∷ 51 ∷ 32 ∷ 54 ∷ 48 ∷ 32 ∷ 53 ∷ 44 ∷ 53 ∷ 44 ∷ 48 ∷ 32 ∷ 48 ∷ 44 ∷ 49 ∷ 50 ∷ 44 ∷ 48 ∷ 32 ∷ 48 ∷ 44 ∷ 48 ∷ 44 ∷ 48 ∷ 10 ∷ [])
+    ++ (104 ∷ 111 ∷ 108 ∷ 101 ∷ 32 ∷ 51 ∷ 32 ∷ 45 ∷ 53 ∷ 48 ∷ 32 ∷ 49 ∷ 48 ∷ 44 ∷ 49 ∷ 48 ∷ 44 ∷ 48 ∷ 32 ∷ 49 ∷ 48 ∷ 44 ∷ 48 ∷ 44 ∷ 48 ∷ 32 ∷ 53 ∷ 44 ∷ 53 ∷ 44 ∷ 48 ∷ 10 ∷ [])
 
 -- closed 2 open 0
--- piece 3 -60 0,0 0,12 5,5
--- hole 3 50 5,5 10,0 10,10
+-- piece 3 -60 0,0,0 0,12,0 5,5,0
+-- hole 3 50 5,5,0 10,0,0 10,10,0
 abbrev reversedText : List ℕ
 reversedText =
     (99 ∷ 108 ∷ 111 ∷ 115 ∷ 101 ∷ 100 ∷ 32 ∷ 50 ∷ 32 ∷ 111 ∷ 112 ∷ 101 ∷ 110 ∷ 32 ∷ 48 ∷ 10 ∷ [])
-    ++ (112 ∷ 105 ∷ 101 ∷ 99 ∷ 101 ∷ 32 ∷ 51 ∷ 32 ∷ 45 ∷ 54 ∷ 48 ∷ 32 ∷ 48 ∷ 44 ∷ 48 ∷ 32 ∷ 48 ∷ 44 ∷ 49 ∷ 50 ∷ 32 ∷ 53 ∷ 44 ∷ 53 ∷ 10 ∷ [])
-    ++ (104 ∷ 111 ∷ 108 ∷ 101 ∷ 32 ∷ 51 ∷ 32 ∷ 53 ∷ 48 ∷ 32 ∷ 53 ∷ 44 ∷ 53 ∷ 32 ∷ 49 ∷ 48 ∷ 44 ∷ 48 ∷ 32 ∷ 49 ∷ 48 ∷ 44 ∷ 49 ∷ 48 ∷ 10 ∷ [])
+    ++ (112 ∷ 105 ∷ 101 ∷ 99 ∷ 101 ∷ 32 ∷ 51 ∷ 32 ∷ 45 ∷ 54 ∷ 48 ∷ 32 ∷ 48 ∷ 44 ∷ 48 ∷ 44 ∷ 48 ∷ 32 ∷ 48 ∷ 44 ∷ 49 ∷ 50 ∷ 44 ∷ 48 ∷ 32 ∷ 53 ∷ 44 ∷ 53 ∷ 44 ∷ 48 ∷ 10 ∷ [])
+    ++ (104 ∷ 111 ∷ 108 ∷ 101 ∷ 32 ∷ 51 ∷ 32 ∷ 53 ∷ 48 ∷ 32 ∷ 53 ∷ 44 ∷ 53 ∷ 44 ∷ 48 ∷ 32 ∷ 49 ∷ 48 ∷ 44 ∷ 48 ∷ 44 ∷ 48 ∷ 32 ∷ 49 ∷ 48 ∷ 44 ∷ 49 ∷ 48 ∷ 44 ∷ 48 ∷ 10 ∷ [])
+
+-- closed 2 open 0
+-- piece 3 60 5,5,0 0,12,-4 0,0,1
+-- hole 3 -50 10,10,2 10,0,3 5,5,0
+abbrev deepText : List ℕ
+deepText =
+    (99 ∷ 108 ∷ 111 ∷ 115 ∷ 101 ∷ 100 ∷ 32 ∷ 50 ∷ 32 ∷ 111 ∷ 112 ∷ 101 ∷ 110 ∷ 32 ∷ 48 ∷ 10 ∷ [])
+    ++ (112 ∷ 105 ∷ 101 ∷ 99 ∷ 101 ∷ 32 ∷ 51 ∷ 32 ∷ 54 ∷ 48 ∷ 32 ∷ 53 ∷ 44 ∷ 53 ∷ 44 ∷ 48 ∷ 32 ∷ 48 ∷ 44 ∷ 49 ∷ 50 ∷ 44 ∷ 45 ∷ 52 ∷ 32 ∷ 48 ∷ 44 ∷ 48 ∷ 44 ∷ 49 ∷ 10 ∷ [])
+    ++ (104 ∷ 111 ∷ 108 ∷ 101 ∷ 32 ∷ 51 ∷ 32 ∷ 45 ∷ 53 ∷ 48 ∷ 32 ∷ 49 ∷ 48 ∷ 44 ∷ 49 ∷ 48 ∷ 44 ∷ 50 ∷ 32 ∷ 49 ∷ 48 ∷ 44 ∷ 48 ∷ 44 ∷ 51 ∷ 32 ∷ 53 ∷ 44 ∷ 53 ∷ 44 ∷ 48 ∷ 10 ∷ [])
 
 -- the definitions that a listing computes with: `unfolding computing` opens them all
 unfoldable computing : Unit {0}
@@ -74,11 +93,16 @@ unfolding cutlistOf finishOf openOf stagesOf acceptOf readOf fillOf run turnOf f
 computing = tt
 
 -- in a tray that holds sevens
-pub paper : cutlistOf NoRate (job 0) (replicate LENGTH 0) (replicate 64 7) ≡ text
+pub paper : cutlistOf NoRate (job 0) (replicate LENGTH 0) (replicate 96 7) ≡ text
 unfolding computing
 paper = refl
 
 -- with bit 1 of the settings the piece is a piece and the hole a hole
-pub paper-reversed : cutlistOf NoRate (job 2) (replicate LENGTH 0) (replicate 64 7) ≡ reversedText
+pub paper-reversed : cutlistOf NoRate (job 2) (replicate LENGTH 0) (replicate 96 7) ≡ reversedText
 unfolding computing
 paper-reversed = refl
+
+-- depths go with their points, and the crossing has 0
+pub paper-deep : cutlistOf NoRate deepJob (replicate LENGTH 0) (replicate 96 7) ≡ deepText
+unfolding computing
+paper-deep = refl

@@ -165,7 +165,7 @@ module _ (s u : Store) (o : Resolved s) (a b i : ℕ) (l r : List ℕ) (hi : i <
         reasons = q .reasons;
         takers = q .takers;
         closed = rw (q .flags-new);
-        unmoved = record { points = q .points; xs = q .xs; ys = q .ys; flags = λ j h. q .flags-else j (λ e. omega arith) };
+        unmoved = record { points = q .points; xs = q .xs; ys = q .ys; zs = q .zs; flags = λ j h. q .flags-else j (λ e. omega arith) };
       }
 
 -- ---- two records
@@ -208,7 +208,7 @@ module _ (s u : Store) (o : Resolved s) (a b i j : ℕ) (r : List ℕ) (ij : i �
             reasons = q .reason-else;
             taker = q .taker-gone;
             takers = q .taker-else;
-            unmoved = record { points = q .points; xs = q .xs; ys = q .ys; flags = λ k h. q .flags k };
+            unmoved = record { points = q .points; xs = q .xs; ys = q .ys; zs = q .zs; flags = λ k h. q .flags k };
           }
         where
           ring : Whole (s (pt NEXT)) (s (pt PREV)) (pts s) (f ++ a ∷ g)

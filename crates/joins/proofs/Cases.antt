@@ -18,7 +18,7 @@ use Rattle.rings.proofs.Counting.{all-in, one-here, one-else}
 use Rattle.rings.proofs.Members.{occ-append, parted, seg-part, seg-next, whole-kept}
 use Rattle.rings.proofs.Splicing.{occ-halves, whole-cut-new}
 use Rattle.rings.proofs.Walking.{Seen, seen}
-use Rattle.store.specs.Field.{Field, pt, rc, ct, X, Y, NEXT, PREV, REC, FLAGS, OWNER, FIRST, REASON, TAKER, POINTS, RECORDS, NONE, BLOCK, same}
+use Rattle.store.specs.Field.{Field, pt, rc, ct, X, Y, Z, NEXT, PREV, REC, FLAGS, OWNER, FIRST, REASON, TAKER, POINTS, RECORDS, NONE, BLOCK, same}
 use Rattle.store.specs.Words.{Store, view, Write, onWords}
 use Rattle.store.specs.Stores.{onStore}
 use Rattle.store.specs.Named.{nextOf, prevOf, recOf, firstOf, pointsOf, recordsOf}
@@ -103,6 +103,7 @@ module _ (w : List ℕ) (a c i j : ℕ) (t : Unknotted w a c i j) where
             named = λ k. refl;
             xs = λ k. refl;
             ys = λ k. refl;
+            zs = λ k. refl;
             flags = λ t. refl;
           }
 
@@ -354,6 +355,7 @@ module _ (w : List ℕ) (a c i k : ℕ) (t : Unknotted w a c i i) (kn : k ≡ re
         named-else = λ m h d. z .rec-else m d ∙ y-else m h;
         xs = λ m. z .cols (pt X) m refl refl;
         ys = λ m. z .cols (pt Y) m refl refl;
+        zs = λ m. z .cols (pt Z) m refl refl;
         flags-new = rw (← kn) (z .cols (rc FLAGS) k refl refl ∙ rw (eq-eqb k k refl));
         flags-else = λ j e. z .cols (rc FLAGS) j refl refl ∙ rw (ne-eqb j k (λ h. e (h ∙ kn)));
       }

@@ -13,7 +13,7 @@ use Rattle.rings.specs.Table.{Table, with, Starts, nowhere, on-it}
 use Rattle.rings.specs.Table as rings
 use Rattle.rings.proofs.Counting.{all-in, one-else, one-here}
 use Rattle.rings.proofs.Tables.{found, table-insert, total-insert, walked, table-walked, total-walked}
-use Rattle.store.specs.Field.{pt, rc, X, Y, NEXT, PREV, REC, OWNER, FIRST, REASON, TAKER, NONE}
+use Rattle.store.specs.Field.{pt, rc, X, Y, Z, NEXT, PREV, REC, OWNER, FIRST, REASON, TAKER, NONE}
 use Rattle.store.specs.Words.{Store}
 use Rattle.store.specs.Sound.{pts, recs, ringAt}
 use Rattle.store.specs.Good.{total}
@@ -36,7 +36,9 @@ pub record Grown (s u : Store) (q like : ℕ) : Type 0 where
   pub x-new : u (pt X) (pts s) ≡ s (pt X) like
   pub x-else : (x : ℕ) → x ≢ pts s → u (pt X) x ≡ s (pt X) x
   pub y-new : u (pt Y) (pts s) ≡ s (pt Y) like
+  pub z-new : u (pt Z) (pts s) ≡ s (pt Z) like
   pub y-else : (x : ℕ) → x ≢ pts s → u (pt Y) x ≡ s (pt Y) x
+  pub z-else : (x : ℕ) → x ≢ pts s → u (pt Z) x ≡ s (pt Z) x
 
 module _ (s u : Store) (o : Resolved s) (i q like : ℕ) (room : pts s < limit.POINTS) (a : Lives s i q) (b : Lives s i like) (c : Grown s u q like) where
   pub grown-res : (x t : ℕ) → Resolves s x t → Resolves u x t

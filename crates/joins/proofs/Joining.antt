@@ -11,7 +11,7 @@ use Rattle.rings.specs.Walk.{walk}
 use Rattle.rings.specs.Relink.{Crossed}
 use Rattle.rings.proofs.Walking.{run-agree}
 use Rattle.rings.proofs.Tables.{elsewhere}
-use Rattle.store.specs.Field.{pt, rc, X, Y, NEXT, PREV, REC, FLAGS, OWNER, FIRST, REASON, TAKER, NONE}
+use Rattle.store.specs.Field.{pt, rc, X, Y, Z, NEXT, PREV, REC, FLAGS, OWNER, FIRST, REASON, TAKER, NONE}
 use Rattle.store.specs.Words.{Store}
 use Rattle.store.specs.Sound.{pts, recs, ringless, ringAt, isOpen}
 use Rattle.store.specs.Reason.{JOINED}
@@ -37,6 +37,7 @@ pub record Split (s u : Store) (a b i : ℕ) (l r : List ℕ) : Type 0 where
   pub named-else : (k : ℕ) → occ k (b ∷ l) ≡ 0 → k ≢ a → u (pt REC) k ≡ s (pt REC) k
   pub xs : (k : ℕ) → u (pt X) k ≡ s (pt X) k
   pub ys : (k : ℕ) → u (pt Y) k ≡ s (pt Y) k
+  pub zs : (k : ℕ) → u (pt Z) k ≡ s (pt Z) k
   pub flags-new : u (rc FLAGS) (recs s) ≡ 0
   pub flags-else : (j : ℕ) → j ≢ recs s → u (rc FLAGS) j ≡ s (rc FLAGS) j
 
@@ -56,6 +57,7 @@ pub record Merged (s u : Store) (a b i j : ℕ) : Type 0 where
   pub named : (k : ℕ) → u (pt REC) k ≡ s (pt REC) k
   pub xs : (k : ℕ) → u (pt X) k ≡ s (pt X) k
   pub ys : (k : ℕ) → u (pt Y) k ≡ s (pt Y) k
+  pub zs : (k : ℕ) → u (pt Z) k ≡ s (pt Z) k
   pub flags : (j : ℕ) → u (rc FLAGS) j ≡ s (rc FLAGS) j
 
 -- the point is on no open ring
@@ -71,6 +73,7 @@ pub record OpenKept (s u : Store) : Type 0 where
   pub rings : (i : ℕ) → i < recs s → isOpen s i ≡ true → ringAt u i ≡ ringAt s i
   pub xs : (k : ℕ) → k < pts s → u (pt X) k ≡ s (pt X) k
   pub ys : (k : ℕ) → k < pts s → u (pt Y) k ≡ s (pt Y) k
+  pub zs : (k : ℕ) → k < pts s → u (pt Z) k ≡ s (pt Z) k
   pub shut : (k : ℕ) → k < pts s → Shut s k → Shut u k
 
 -- a ring whose first point and links stay

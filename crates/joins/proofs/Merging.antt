@@ -156,6 +156,7 @@ module _ (s u : Store) (o : Resolved s) (a b i j : ℕ) (l r : List ℕ) (ij : i
         rings = λ t h g. merge-others t h (differ s t i g shut-i) (differ s t j g shut-j);
         xs = λ k h. c .xs k;
         ys = λ k h. c .ys k;
+        zs = λ k h. c .zs k;
         shut = λ k h g.
             let z = home-of s o k h in
             go k (z .0) (z .1) (g (z .0) (z .1)) (ℕ-discrete (z .0) j);

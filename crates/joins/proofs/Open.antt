@@ -30,6 +30,7 @@ opened-self s =
       rings = λ i h e. refl;
       xs = λ k h. refl;
       ys = λ k h. refl;
+      zs = λ k h. refl;
       shut = λ k h g. g;
     }
 
@@ -43,6 +44,7 @@ opened-on s u v a b =
       rings = λ i h e. b .rings i (omega (arith, a .records)) (rw (a .flags i h) e) ∙ a .rings i h e;
       xs = λ k h. b .xs k (omega (arith, a .points)) ∙ a .xs k h;
       ys = λ k h. b .ys k (omega (arith, a .points)) ∙ a .ys k h;
+      zs = λ k h. b .zs k (omega (arith, a .points)) ∙ a .zs k h;
       shut = λ k h g. b .shut k (omega (arith, a .points)) (a .shut k h g);
     }
   where

@@ -176,6 +176,7 @@ module _ (s u : Store) (o : Resolved s) (a b i : ℕ) (l r : List ℕ) (hi : i <
         rings = λ j h g. split-others j h (differ s j i g shut);
         xs = λ k h. c .xs k;
         ys = λ k h. c .ys k;
+        zs = λ k h. c .zs k;
         shut = λ k h g.
             let z = home-of s o k h in
             go k (z .0) (z .1) (g (z .0) (z .1)) (ℕ-discrete (z .0) i);

@@ -10,7 +10,7 @@ use lib.ListN.{getD}
 use Rattle.job.specs.Limits as limit
 use Rattle.rings.specs.Circle.{turn, rest}
 use Rattle.rings.specs.Count.{occ}
-use Rattle.store.specs.Field.{pt, rc, X, Y, FLAGS, OWNER, FIRST, REASON, TAKER}
+use Rattle.store.specs.Field.{pt, rc, X, Y, Z, FLAGS, OWNER, FIRST, REASON, TAKER}
 use Rattle.store.specs.Reason.{JOINED}
 use Rattle.store.specs.Words.{Store, view}
 use Rattle.store.specs.Named.{nextOf, recordsOf}
@@ -56,6 +56,7 @@ pub record Unmoved (s u : Store) : Type 0 where
   pub points : pts u ≡ pts s
   pub xs : (k : ℕ) → u (pt X) k ≡ s (pt X) k
   pub ys : (k : ℕ) → u (pt Y) k ≡ s (pt Y) k
+  pub zs : (k : ℕ) → u (pt Z) k ≡ s (pt Z) k
   pub flags : (j : ℕ) → j < recs s → u (rc FLAGS) j ≡ s (rc FLAGS) j
 
 -- ---- the two cases

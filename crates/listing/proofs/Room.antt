@@ -1,5 +1,5 @@
 -- How many bytes a listing has: `TEXT` always suffice for a tray that was written from a sound store, and for a refusal.
-use Prim.Native.Nat.{ℕ, zero, suc, _+_, _*_, _/_, _%_, _≤_}
+use Prim.Native.Nat.{ℕ, zero, suc, _+_, _*_, _/_, _%_, _^_, _≤_}
 use mathlib.Core.Path.{_≡_, refl, ap}
 use mathlib.Core.Bool.{Bool, true, false, cond, Bool·beq}
 use mathlib.Core.List.{List, [], _∷_, _++_}
@@ -8,6 +8,7 @@ use native.Mathlib.Omega.{arith}
 use lib.Dec.{ltb}
 use lib.IntN.{ℤ, pos, negsuc, natAbs}
 use lib.ListN.{length, length-append}
+use Rattle.numbers.specs.Raised.{signed}
 use Rattle.rings.specs.Count.{sumTo}
 use Rattle.geometry.specs.declared.Point.{Point}
 use Rattle.geometry.specs.Plane.{areaOutpt}
@@ -22,11 +23,11 @@ use Rattle.rates.specs.declared.Charge.{Charge}
 use Rattle.rates.specs.Charge.{chargeOf}
 use Rattle.listing.specs.Text.{SPACE, COMMA, NEWLINE, digit, digits, decimal, signedText, CLOSED, OPEN, LINE, REFUSED, CHARGE}
 use Rattle.listing.specs.Fields.{pathsIn}
-use Rattle.listing.specs.Lines.{wordOf, pointText, pointsText, headOf, lineOf, linesOf, firstLine, listingOf, refusedLine}
+use Rattle.listing.specs.Lines.{wordOf, placeText, depthText, pointText, pointsText, headOf, lineOf, linesOf, firstLine, listingOf, refusedLine}
 use Rattle.listing.specs.Charge.{netArea, chargeText, chargedOf}
 use Rattle.listing.specs.Needs.{Summable, pointCount}
 use Rattle.listing.specs.Room.{TEXT}
-use Rattle.listing.proofs.Trays.{written-closed, written-listable, written-listing}
+use Rattle.listing.proofs.Trays.{words-count, written-closed, written-listable, written-listing}
 
 -- ---- numbers
 
@@ -52,13 +53,23 @@ word-le false (negsuc n) = omega arith
 
 -- ---- lines
 
-point-le : (p : Point) → length (pointText p) ≤ 44
+point-le : (p : Point) → length (pointText p) ≤ 66
 point-le p =
     let x = signedText (p .x) in
     let y = signedText (p .y) in
-    omega (arith, length-append ((SPACE ∷ []) ++ x ++ (COMMA ∷ [])) y, length-append ((SPACE ∷ []) ++ x) (COMMA ∷ []), signed-le (p .x), signed-le (p .y))
+    let z = depthText (p .z) in
+    omega (
+      arith,
+      length-append (placeText p ++ (COMMA ∷ [])) z,
+      length-append (placeText p) (COMMA ∷ []),
+      length-append ((SPACE ∷ []) ++ x ++ (COMMA ∷ [])) y,
+      length-append ((SPACE ∷ []) ++ x) (COMMA ∷ []),
+      signed-le (p .x),
+      signed-le (p .y),
+      signed-le (signed (p .z % 2 ^ 32)),
+    )
 
-points-le : (path : List Point) → length (pointsText path) ≤ 44 * length path
+points-le : (path : List Point) → length (pointsText path) ≤ 66 * length path
 points-le [] = omega arith
 points-le (p ∷ ps) = omega (arith, length-append (pointText p) (pointsText ps), point-le p, points-le ps)
 
@@ -78,7 +89,7 @@ head-le rev false path =
     )
 head-le rev true path = omega (arith, length-append (LINE ++ (SPACE ∷ [])) (decimal (length path)), digits-le 20 (length path))
 
-line-le : (rev o : Bool) (path : List Point) → length (lineOf rev o path) ≤ 49 + 44 * length path
+line-le : (rev o : Bool) (path : List Point) → length (lineOf rev o path) ≤ 49 + 66 * length path
 line-le rev o path = omega (arith, length-append (headOf rev o path ++ pointsText path) (NEWLINE ∷ []), length-append (headOf rev o path) (pointsText path), head-le rev o path, points-le path)
 
 lines-append : (rev o : Bool) (a b : List (List Point)) → length (linesOf rev o (a ++ b)) ≡ length (linesOf rev o a) + length (linesOf rev o b)
@@ -124,7 +135,7 @@ count-listed (some p) = omega arith
 
 -- ---- the paths of a store: a record has one line at most
 
-line-of : (rev o : Bool) (x : Option (List Point)) → length (linesOf rev o (listed x)) ≤ 49 + 44 * sizeOf x
+line-of : (rev o : Bool) (x : Option (List Point)) → length (linesOf rev o (listed x)) ≤ 49 + 66 * sizeOf x
 line-of rev o none = omega arith
 line-of rev o (some p) = omega (arith, length-append (lineOf rev o p) [], line-le rev o p)
 
@@ -133,14 +144,14 @@ module _ (s : Store) (rev : Bool) where
   unfolding pathIf
   none-of o i e = rw e
 
-  one-line : (i : ℕ) → length (linesOf rev false (listed (pathIf s false i))) + length (linesOf rev true (listed (pathIf s true i))) ≤ 49 + 44 * length (ringAt s i)
+  one-line : (i : ℕ) → length (linesOf rev false (listed (pathIf s false i))) + length (linesOf rev true (listed (pathIf s true i))) ≤ 49 + 66 * length (ringAt s i)
   one-line i = go (isOpen s i) refl
     where
-      go : (b : Bool) → isOpen s i ≡ b → length (linesOf rev false (listed (pathIf s false i))) + length (linesOf rev true (listed (pathIf s true i))) ≤ 49 + 44 * length (ringAt s i)
+      go : (b : Bool) → isOpen s i ≡ b → length (linesOf rev false (listed (pathIf s false i))) + length (linesOf rev true (listed (pathIf s true i))) ≤ 49 + 66 * length (ringAt s i)
       go true e = omega (arith, none-of false i (rw e), line-of rev true (pathIf s true i), size-le s true i)
       go false e = omega (arith, none-of true i (rw e), line-of rev false (pathIf s false i), size-le s false i)
 
-  all-lines : (n : ℕ) → length (linesOf rev false (pathsBelow n false s)) + length (linesOf rev true (pathsBelow n true s)) ≤ 49 * n + 44 * sumTo n (λ i. length (ringAt s i))
+  all-lines : (n : ℕ) → length (linesOf rev false (pathsBelow n false s)) + length (linesOf rev true (pathsBelow n true s)) ≤ 49 * n + 66 * sumTo n (λ i. length (ringAt s i))
   all-lines zero = omega arith
   all-lines (suc n) =
       omega (
@@ -189,7 +200,7 @@ module _ (s : Store) where
   written-summable o n =
       record {
         fields = written-listable s o n .closed-in;
-        few = rw (written-closed s o n) (omega (arith, points-below false (recs s), rings-few s o, o .few-points));
+        few = rw (written-closed s o n, words-count (closedPaths s)) (omega (arith, points-below false (recs s), rings-few s o, o .few-points));
       }
 
 pub refusal-le : (n : ℕ) → length (refusedLine n) ≤ TEXT

@@ -1,9 +1,10 @@
 -- The listing: document 01's section of that name. A line with the two counts, then a line for each path, closed ones first; or a refusal's line.
-use Prim.Native.Nat.{ℕ, zero, suc, _+_}
+use Prim.Native.Nat.{ℕ, zero, suc, _+_, _%_, _^_}
 use mathlib.Core.Bool.{Bool, true, false, cond}
 use mathlib.Core.List.{List, [], _∷_, _++_}
 use lib.IntN.{ℤ, pos, negsuc}
 use lib.ListN.{length}
+use Rattle.numbers.specs.Raised.{signed}
 use Rattle.geometry.specs.declared.Point.{Point}
 use Rattle.geometry.specs.Plane.{areaOutpt}
 use Rattle.listing.specs.Text.{SPACE, COMMA, NEWLINE, decimal, signedText, CLOSED, OPEN, PIECE, HOLE, FLAT, LINE, REFUSED}
@@ -17,8 +18,16 @@ wordOf rev (pos (suc n)) = cond rev HOLE PIECE
 wordOf rev (negsuc n) = cond rev PIECE HOLE
 
 -- a space and `x,y`
+abbrev pub placeText : Point → List ℕ
+placeText p = (SPACE ∷ []) ++ signedText (p .x) ++ (COMMA ∷ []) ++ signedText (p .y)
+
+-- the signed number of 32 bits that z's word is
+abbrev pub depthText : ℕ → List ℕ
+depthText z = signedText (signed (z % 2 ^ 32))
+
+-- "Listings show `x,y,z`"
 abbrev pub pointText : Point → List ℕ
-pointText p = (SPACE ∷ []) ++ signedText (p .x) ++ (COMMA ∷ []) ++ signedText (p .y)
+pointText p = placeText p ++ (COMMA ∷ []) ++ depthText (p .z)
 
 abbrev pub pointsText : List Point → List ℕ
 pointsText [] = []

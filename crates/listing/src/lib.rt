@@ -3,11 +3,12 @@ pub mod charge;
 
 use geometry::Point;
 use job::Job;
+use paths::POINT;
 use store::points::lower;
 ghost use mathlib.Core.Path.{_≡_};
 ghost use mathlib.Core.Bool.{cond};
 ghost use mathlib.Core.List.{[], _∷_, _++_};
-ghost use Prim.Native.Nat.{_+_, _<_, _≤_, _^_};
+ghost use Prim.Native.Nat.{_+_, _-_, _<_, _≤_, _^_};
 ghost use lib.IntN.{natAbs};
 ghost use lib.ListN.{length};
 ghost use Rattle.geometry.specs.Plane.{edgeArea, areaOutpt};
@@ -16,13 +17,13 @@ ghost use Rattle.listing.specs.Pour.{poured, pour};
 ghost use Rattle.listing.specs.Text.{SPACE, decimal, signedText, PIECE, HOLE};
 ghost use Rattle.listing.specs.Fields.{pointIn, pointsIn, valueLength, pathIn, pathsIn, fieldAfter};
 ghost use Rattle.listing.specs.Needs.{Held, Run, Sized, FieldIn, FieldsIn};
-ghost use Rattle.listing.specs.Lines.{wordOf, pointText, pointsText, closedHead, headOf, lineOf, linesOf, firstLine, listingOf, refusedLine};
+ghost use Rattle.listing.specs.Lines.{wordOf, pointText, placeText, depthText, pointsText, closedHead, headOf, lineOf, linesOf, firstLine, listingOf, refusedLine};
 ghost use Rattle.listing.specs.Room as lines;
 ghost use Rattle.listing.specs.Told.{told, answerAt, tell};
 ghost use Rattle.listing.specs.Needs.{Listable};
 
 // A slice of so many bytes has room for the listing of any job.
-pub const TEXT: usize = 54 + 49 * Job::RECORDS + 44 * Job::POINTS + 49;
+pub const TEXT: usize = 54 + 49 * Job::RECORDS + 66 * Job::POINTS + 49;
 
 // The number that definitions cite is the code's.
 fn text_agrees()
@@ -120,16 +121,55 @@ fn put_word(out: &mut [u8], at: usize, a: i64, rev: bool) -> usize
 // ---- points of a tray
 
 // The point whose bytes begin at `at`.
-fn point_in(t: &[u8], at: usize) -> Point
+pub fn point_in(t: &[u8], at: usize) -> Point
     requires { ⌜ Held (now t) at ⌝ }
     ensures { λ r. ⌜ r ≡ pointIn (now (t .entry)) at ⌝ }
 {
     let x = numbers::read_raised(t, at, Job::COORDINATE);
     let y = numbers::read_raised(t, at + 4, Job::COORDINATE);
+    let z = numbers::read_u32(t, at + 8);
     Point {
         x: lower(x as usize),
         y: lower(y as usize),
+        z,
     }
+}
+
+// A point's x and y after a space.
+fn put_place(t: &[u8], from: usize, out: &mut [u8], at: usize) -> usize
+    requires { ⌜ Held (now t) from ⌝ }
+    ensures { λ r. ⌜ poured r (now (out .exit)) ≡ pour (placeText (pointIn (now (t .entry)) from)) at (now (out .entry)) ⌝ }
+{
+    let p = point_in(t, from);
+    let a = put(out, at, b' ');
+    let b = put_signed(out, a, p.x as i64);
+    let c = put(out, b, b',');
+    put_signed(out, c, p.y as i64)
+}
+
+// From this word on, 2^31, the sign's bit is set and z is below zero.
+const SIGN: u32 = 2147483648;
+
+// Its number is then so much less than its word: 2^32.
+const WORDS: u64 = 4294967296;
+
+// How far below zero the signed number is that a z's word stands for.
+fn depth_below(z: u32) -> u64
+    ensures { λ r. ⌜ (r ≡ 4294967296 - z) × (z < 4294967296) ⌝ }
+{
+    WORDS - z as u64
+}
+
+// The signed number that a z's word is.
+fn put_depth(out: &mut [u8], at: usize, z: u32) -> usize
+    ensures { λ r. ⌜ poured r (now (out .exit)) ≡ pour (depthText z) at (now (out .entry)) ⌝ }
+{
+    if z < SIGN {
+        return put_decimal(out, at, z as u64);
+    }
+    let n = depth_below(z);
+    let k = put(out, at, b'-');
+    put_decimal(out, k, n)
 }
 
 // A point after a space.
@@ -137,11 +177,10 @@ fn put_point(t: &[u8], from: usize, out: &mut [u8], at: usize) -> usize
     requires { ⌜ Held (now t) from ⌝ }
     ensures { λ r. ⌜ poured r (now (out .exit)) ≡ pour (pointText (pointIn (now (t .entry)) from)) at (now (out .entry)) ⌝ }
 {
-    let p = point_in(t, from);
-    let a = put(out, at, b' ');
-    let b = put_signed(out, a, p.x as i64);
-    let c = put(out, b, b',');
-    put_signed(out, c, p.y as i64)
+    let k = put_place(t, from, out, at);
+    let c = put(out, k, b',');
+    let z = numbers::read_u32(t, from + 8);
+    put_depth(out, c, z)
 }
 
 // The points of a path, one after another.
@@ -154,7 +193,7 @@ fn put_points(t: &[u8], from: usize, n: usize, out: &mut [u8], at: usize) -> usi
     let mut left = n;
     while 0 < left {
         k = put_point(t, f, out, k);
-        f += 8;
+        f += POINT;
         left -= 1;
     }
     k
@@ -179,14 +218,14 @@ fn area_in(t: &[u8], from: usize, n: usize) -> i64
         return 0;
     }
     let mut a: i64 = 0;
-    let mut prev = from + 8 * (n - 1);
+    let mut prev = from + POINT * (n - 1);
     let mut at = from;
     let mut left = n;
     while 0 < left {
         let e = edge_in(t, prev, at);
         a = a + e;
         prev = at;
-        at += 8;
+        at += POINT;
         left -= 1;
     }
     a
@@ -227,7 +266,7 @@ fn put_head(
 }
 
 // The length of the value of the field at `from`.
-fn value_length(t: &[u8], from: usize) -> usize
+pub fn value_length(t: &[u8], from: usize) -> usize
     requires { ⌜ from + 3 ≤ length (now t) ⌝ }
     ensures { λ r. ⌜ (r ≡ valueLength (now (t .entry)) from) × (r < 65536) ⌝ }
 {
@@ -240,7 +279,7 @@ fn put_line(t: &[u8], from: usize, rev: bool, opened: bool, out: &mut [u8], at: 
     ensures { λ r. ⌜ poured r (now (out .exit)) ≡ pour (lineOf rev opened (pathIn (now (t .entry)) from)) at (now (out .entry)) ⌝ }
 {
     let length = value_length(t, from);
-    let n = length / 8;
+    let n = length / POINT;
     let body = from + 3;
     let a = put_head(t, body, n, rev, opened, out, at);
     let b = put_points(t, body, n, out, a);

@@ -117,8 +117,8 @@ fn run(s: &[u8], w: &mut [u32])
 }
 
 fn main() {
-    let mut buf = io::large_buffer();
-    let n = io::read_full(STDIN_FILENO, &mut buf);
+    let mut input = [0u8; 131072];
     let mut w = [0u32; LENGTH];
-    run(&buf[..n], &mut w);
+    let n = io::read_full(STDIN_FILENO, &mut input);
+    run(&input[..n], &mut w);
 }

@@ -11,7 +11,7 @@ use Rattle.rings.specs.Count.{occ}
 use Rattle.job.specs.Limits as limit
 use Rattle.job.specs.declared.Job.{Job}
 use Rattle.job.specs.declared.refusal.Refusal.the-variants as refusal
-use Rattle.store.specs.Field.{rc, X, Y, FLAGS, BLOCK, KEPT, LENGTH}
+use Rattle.store.specs.Field.{rc, X, Y, Z, FLAGS, BLOCK, KEPT, LENGTH}
 use Rattle.store.specs.Words.{Store, view}
 use Rattle.store.specs.Named.{recordsOf}
 use Rattle.store.specs.Sound.{recs, ringAt, isOpen}
@@ -69,6 +69,7 @@ given-started s t u o b =
       rings = λ i h e. ring-same t u b i ∙ o .rings i h e;
       xs = λ k h. ap (λ (c : ℕ → ℕ). c k) (b .points X) ∙ o .xs k h;
       ys = λ k h. ap (λ (c : ℕ → ℕ). c k) (b .points Y) ∙ o .ys k h;
+      zs = λ k h. ap (λ (c : ℕ → ℕ). c k) (b .points Z) ∙ o .zs k h;
     }
   where
     flag : (i : ℕ) → u (rc FLAGS) i ≡ t (rc FLAGS) i

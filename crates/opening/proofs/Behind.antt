@@ -22,7 +22,7 @@ use Rattle.job.proofs.Accepted.{accepted}
 use Rattle.rings.specs.Links.{All}
 use Rattle.rings.proofs.Counting.{all-in}
 use Rattle.rings.proofs.Walking.{ring-is}
-use Rattle.store.specs.Field.{Field, pt, rc, ct, X, Y, NEXT, PREV, REC, FLAGS, OWNER, FIRST, SETTINGS, POINTS, RECORDS, NONE, size, base, BLOCK, STATES, NAMES, KEPT, LENGTH}
+use Rattle.store.specs.Field.{Field, pt, rc, ct, X, Y, Z, NEXT, PREV, REC, FLAGS, OWNER, FIRST, SETTINGS, POINTS, RECORDS, NONE, size, base, BLOCK, STATES, NAMES, KEPT, LENGTH}
 use Rattle.store.specs.States.{isName, nameAt, keptBlock, Apart}
 use Rattle.store.specs.Words.{Write, write, put, view, onWords}
 use Rattle.store.specs.Stores.{Within}
@@ -86,8 +86,8 @@ module _ (rest : List ℕ) where
   module _ (j : Job) (w ss js : List ℕ) (z : RestSame w) where
     placed-behind : (f : job.Field) (n : ℕ) → Room f j → FilledBehind (fill.placed f n j w ss js)
     placed-behind (Settings b) n h = z
-    placed-behind (Point x y nx pv r) n h =
-        writes-behind w (write (pt X) (j .points) x ∷ write (pt Y) (j .points) y ∷ write (pt NEXT) (j .points) nx ∷ write (pt PREV) (j .points) pv ∷ write (pt REC) (j .points) r ∷ []) (h, (h, (h, (h, (h, tt))))) z
+    placed-behind (Point x y nx pv r d) n h =
+        writes-behind w (write (pt X) (j .points) x ∷ write (pt Y) (j .points) y ∷ write (pt NEXT) (j .points) nx ∷ write (pt PREV) (j .points) pv ∷ write (pt REC) (j .points) r ∷ write (pt Z) (j .points) d ∷ []) (h, (h, (h, (h, (h, (h, tt)))))) z
     placed-behind (Record f o p) n h =
         writes-behind w (fill.recordRead (j .records) f o p) (h, (h, (h, (h, tt)))) z
     placed-behind (Segment p) n h = z
@@ -153,10 +153,10 @@ module _ (rest : List ℕ) where
       go : (m s : Bool) → ltb (pointsOf w) limit.POINTS ≡ m → TakenBehind (cond m (taken (room.At (pointsOf w)) (cond s (onWords w (afterWrites (view w) p)) (onWords w (beforeWrites (view w) p)))) (taken room.Full w))
       go true true e =
           let h : pointsOf w < limit.POINTS = ltb-true _ _ e in
-          writes-behind w (afterWrites (view w) p) (omega arith, (h, (h, (h, (h, (h, (b .here, (b .next, tt)))))))) z
+          writes-behind w (afterWrites (view w) p) (omega arith, (h, (h, (h, (h, (h, (h, (b .here, (b .next, tt))))))))) z
       go true false e =
           let h : pointsOf w < limit.POINTS = ltb-true _ _ e in
-          writes-behind w (beforeWrites (view w) p) (omega arith, (h, (h, (h, (h, (h, (b .prev, (b .here, tt)))))))) z
+          writes-behind w (beforeWrites (view w) p) (omega arith, (h, (h, (h, (h, (h, (h, (b .prev, (b .here, tt))))))))) z
       go false s e = z
 
   make-behind : (w js : List ℕ) (m a b : ℕ) → Making w js m a b → RestSame w → MadeBehind (makeJoin w js m a b)

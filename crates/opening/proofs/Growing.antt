@@ -48,7 +48,7 @@ module _ (z : List ℕ) where
   module _ (j : Job) (w ss js : List ℕ) (long : 2 * limit.JOINS ≤ length js) where
     placed-grown : (f : Field) (n : ℕ) → Room f j → placed f n j w ss (js ++ z) ≡ grow z (placed f n j w ss js)
     placed-grown (Settings b) n r = refl
-    placed-grown (Point x y nx pv rec) n r = refl
+    placed-grown (Point x y nx pv rec z) n r = refl
     placed-grown (Record f o p) n r = refl
     placed-grown (Segment p) n r = refl
     placed-grown (Join a b) n r =
@@ -74,7 +74,7 @@ module _ (z : List ℕ) where
     where
       by : (r : Reading) → JoinsAs (length js) (taken r j w ss js)
       by (reading.Read (Settings b) n) = refl
-      by (reading.Read (Point x y nx pv rec) n) = refl
+      by (reading.Read (Point x y nx pv rec z) n) = refl
       by (reading.Read (Record f o p) n) = refl
       by (reading.Read (Segment p) n) = refl
       by (reading.Read (Join a b) n) = length-set (set js (2 * j .joins) a) (2 * j .joins + 1) b ∙ length-set js (2 * j .joins) a

@@ -4,7 +4,7 @@ use mathlib.Core.Path.{_≡_}
 use mathlib.Core.Bool.{true, false}
 use mathlib.Core.List.{List, _++_}
 use lib.ListN.{length, drop, replicate}
-use Rattle.store.specs.Field.{pt, rc, X, Y, FLAGS, START, BLOCK, STATES, KEPT}
+use Rattle.store.specs.Field.{pt, rc, X, Y, Z, FLAGS, START, BLOCK, STATES, KEPT}
 use Rattle.store.specs.Words.{Store, view}
 use Rattle.store.specs.Named.{progressOf, presentOf, firstOf, recordsOf}
 use Rattle.store.specs.Sound.{pts, recs, ringAt, isOpen}
@@ -48,3 +48,4 @@ pub record OpenAsGiven (s u : Store) : Type 0 where
   pub rings : (i : ℕ) → i < recs s → isOpen s i ≡ true → ringAt u i ≡ ringAt s i
   pub xs : (k : ℕ) → k < pts s → u (pt X) k ≡ s (pt X) k
   pub ys : (k : ℕ) → k < pts s → u (pt Y) k ≡ s (pt Y) k
+  pub zs : (k : ℕ) → k < pts s → u (pt Z) k ≡ s (pt Z) k

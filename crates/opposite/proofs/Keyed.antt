@@ -16,7 +16,7 @@ use Rattle.lone.proofs.Paths.{dropped}
 
 -- ---- the order: reversed is forward backwards
 
-order-turned : {A : Type 0} (c : List A) → inOrder true c ≡ reverse (inOrder false c)
+pub order-turned : {A : Type 0} (c : List A) → inOrder true c ≡ reverse (inOrder false c)
 order-turned [] = refl
 order-turned (x ∷ xs) = sym (reverse-append xs (x ∷ []))
 
@@ -119,7 +119,7 @@ module _ {P K : Type 0} (G : Geo P) (key : P → K) (same-key : (p q : P) → G 
   all-there [] e = refl
   all-there (q ∷ qs) e = ap (λ (r : List P). q ∷ r) (none-dropped q qs (omega arith))
 
-  same-length : (l : List P) → length (withoutEquals G (reverse l)) ≡ length (withoutEquals G l)
+  pub same-length : (l : List P) → length (withoutEquals G (reverse l)) ≡ length (withoutEquals G l)
   same-length l = sym (length-map (withoutEquals G (reverse l)) key) ∙ ap length (keys-turned l) ∙ length-reverse (map key (withoutEquals G l)) ∙ length-map (withoutEquals G l) key
 
   -- a ring's forward path and its reversed one

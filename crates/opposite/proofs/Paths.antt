@@ -1,20 +1,23 @@
--- A ring's path forward and its path reversed are the same points in exactly opposite order, or neither is there: the plane, where a point is its own key.
+-- A ring's path forward and its path reversed are the same points in exactly opposite order, or neither is there: the plane, where a point's key is its place. So it is said of x and y; of neighbours at one place
+-- each path keeps the first that it walks, with its z.
 use mathlib.Core.Path.{_≡_, refl, sym, ap, _∙_}
 use mathlib.Core.Bool.{Bool, true, false, not, _||_}
-use mathlib.Core.List.{List, [], _∷_, _++_, map-id, reverse, reverse-reverse}
+use mathlib.Core.List.{List, [], _∷_, _++_, reverse, reverse-reverse}
 use mathlib.Core.Option.{Option, none, some}
 use Prim.Native.Nat.{ℕ}
 use lib.Dec.{ltb}
+use lib.ListN.{length}
 use lib.IntN.{ℤ, pos, natAbs, negℤ, _-ℤ_, +ℤ-idl}
 use Rattle.exact.proofs.Size.{size-neg}
 use Rattle.exact.proofs.Poly.{var, num, _:-_, solve}
 use Rattle.geometry.specs.declared.Point.{Point}
-use Rattle.geometry.specs.Plane.{samePoint, closeBy, ptsReallyClose, isVerySmallTriangle}
-use Rattle.geometry.proofs.Points.{same-true, same-refl}
+use Rattle.geometry.specs.Plane.{ground, closeBy, ptsReallyClose, isVerySmallTriangle}
+use Rattle.geometry.proofs.Points.{same-true, true-same}
 use Rattle.rings.specs.Circle.{turn, omap}
-use Rattle.lone.specs.Path.{isSmallRing, buildPath64FromOutpt}
+use Rattle.lone.specs.Path.{inOrder, withoutEquals, isSmallRing, buildPath64FromOutpt}
 use Rattle.lone.specs.Plane.{plane}
-use Rattle.opposite.proofs.Keyed.{Opposite, neither, each, path-opposite}
+use Rattle.opposite.specs.Opposite.{onGround}
+use Rattle.opposite.proofs.Keyed.{order-turned, same-length, Opposite, neither, each, path-opposite}
 
 -- ---- close by is the same of either
 
@@ -28,7 +31,7 @@ close-swapped a b = rw (close-back (a .x) (b .x), close-back (a .y) (b .y))
 module _ (p : Bool) where
   -- ---- the small test is the same
 
-  small-turned : (c : List Point) → isSmallRing (plane p) c ≡ isSmallRing (plane p) (turn c)
+  pub small-turned : (c : List Point) → isSmallRing (plane p) c ≡ isSmallRing (plane p) (turn c)
   unfolding isVerySmallTriangle
   small-turned [] = refl
   small-turned (a ∷ []) = refl
@@ -52,21 +55,22 @@ module _ (p : Bool) where
 
   -- ---- the path
 
-  key-same : (a b : Point) → a ≡ b → samePoint a b ≡ true
-  key-same a b e = ap (samePoint a) (sym e) ∙ same-refl a
+  -- as many points are left either way
+  pub same-order : (c : List Point) → length (withoutEquals (plane p) (inOrder true c)) ≡ length (withoutEquals (plane p) (inOrder false c))
+  same-order c = ap (λ (l : List Point). length (withoutEquals (plane p) l)) (order-turned c) ∙ same-length (plane p) ground same-true true-same (turn c)
 
   -- what is decided is the same, and the path the other way round
-  pub path-turned : (isOpen : Bool) (c : List Point) → buildPath64FromOutpt (plane p) true isOpen c ≡ omap reverse (buildPath64FromOutpt (plane p) false isOpen c)
-  path-turned isOpen c = go (buildPath64FromOutpt (plane p) false isOpen c) (buildPath64FromOutpt (plane p) true isOpen c) (path-opposite (plane p) (λ (a : Point). a) same-true key-same small-turned isOpen c)
+  pub path-turned : (isOpen : Bool) (c : List Point) → omap onGround (buildPath64FromOutpt (plane p) true isOpen c) ≡ omap reverse (omap onGround (buildPath64FromOutpt (plane p) false isOpen c))
+  path-turned isOpen c = go (buildPath64FromOutpt (plane p) false isOpen c) (buildPath64FromOutpt (plane p) true isOpen c) (path-opposite (plane p) ground same-true true-same small-turned isOpen c)
     where
-      go : (x y : Option (List Point)) → Opposite (plane p) (λ (a : Point). a) same-true key-same c x y → y ≡ omap reverse x
+      go : (x y : Option (List Point)) → Opposite (plane p) ground same-true true-same c x y → omap onGround y ≡ omap reverse (omap onGround x)
       go x y neither = refl
-      go x y (each {a = a} {b = b} h z) = ap some (sym (map-id b) ∙ h ∙ ap reverse (map-id a))
+      go x y (each h z) = ap some h
 
   -- the same whichever of the two is asked first
-  pub path-either : (rev isOpen : Bool) (c : List Point) → buildPath64FromOutpt (plane p) (not rev) isOpen c ≡ omap reverse (buildPath64FromOutpt (plane p) rev isOpen c)
+  pub path-either : (rev isOpen : Bool) (c : List Point) → omap onGround (buildPath64FromOutpt (plane p) (not rev) isOpen c) ≡ omap reverse (omap onGround (buildPath64FromOutpt (plane p) rev isOpen c))
   path-either false isOpen c = path-turned isOpen c
-  path-either true isOpen c = sym (ap (omap reverse) (path-turned isOpen c) ∙ twice (buildPath64FromOutpt (plane p) false isOpen c))
+  path-either true isOpen c = sym (ap (omap reverse) (path-turned isOpen c) ∙ twice (omap onGround (buildPath64FromOutpt (plane p) false isOpen c)))
     where
       twice : (o : Option (List Point)) → omap reverse (omap reverse o) ≡ o
       twice none = refl

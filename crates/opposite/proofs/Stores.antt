@@ -1,4 +1,4 @@
--- The paths of a store under either setting: equally many, each the other's at its place in exactly opposite order. Of any store, sound or not.
+-- The paths of a store under either setting: equally many, each the other's at its place in exactly opposite order, in x and y. Of any store, sound or not.
 use Prim.Native.Nat.{ℕ, zero, suc, _+_, _-_, _/_, _%_}
 use mathlib.Core.Path.{_≡_, refl, sym, ap, _∙_}
 use mathlib.Core.Bool.{Bool, true, false, cond, not, Bool·beq}
@@ -16,7 +16,7 @@ use Rattle.store.specs.Words.{Store}
 use Rattle.store.specs.Sound.{recs, isOpen}
 use Rattle.store.specs.Value.{preserveCollinear, reverseSolution}
 use Rattle.paths.specs.Path.{pointAt, pointsAt, pathAt, pathIf, listed, pathsBelow, closedPaths, openPaths}
-use Rattle.opposite.specs.Opposite.{otherBits, turnedOver, opposite}
+use Rattle.opposite.specs.Opposite.{otherBits, turnedOver, onGround, allOnGround, opposite}
 use Rattle.opposite.proofs.Paths.{path-either}
 
 -- bit 0 stays, bit 1 is the other
@@ -38,34 +38,45 @@ module _ (s : Store) where
   pub reversed-other : reverseSolution (turnedOver s) ≡ not (reverseSolution s)
   reversed-other = other-bit (s (ct SETTINGS) 0)
 
-  pub path-other : (i : ℕ) → pathAt (turnedOver s) i ≡ omap reverse (pathAt s i)
+  pub path-other : (i : ℕ) → omap onGround (pathAt (turnedOver s) i) ≡ omap reverse (omap onGround (pathAt s i))
   unfolding pathAt pointAt
   path-other i =
-      ap (λ (n : ℕ). buildPath64FromOutpt (plane (eqb n 1)) (reverseSolution (turnedOver s)) (isOpen s i) (pointsAt s i)) (kept-bit (s (ct SETTINGS) 0))
-      ∙ ap (λ (b : Bool). buildPath64FromOutpt (plane (preserveCollinear s)) b (isOpen s i) (pointsAt s i)) reversed-other
+      ap (λ (n : ℕ). omap onGround (buildPath64FromOutpt (plane (eqb n 1)) (reverseSolution (turnedOver s)) (isOpen s i) (pointsAt s i))) (kept-bit (s (ct SETTINGS) 0))
+      ∙ ap (λ (b : Bool). omap onGround (buildPath64FromOutpt (plane (preserveCollinear s)) b (isOpen s i) (pointsAt s i))) reversed-other
       ∙ path-either (preserveCollinear s) (reverseSolution s) (isOpen s i) (pointsAt s i)
 
-  if-other : (o : Bool) (i : ℕ) → pathIf (turnedOver s) o i ≡ omap reverse (pathIf s o i)
+  if-other : (o : Bool) (i : ℕ) → omap onGround (pathIf (turnedOver s) o i) ≡ omap reverse (omap onGround (pathIf s o i))
   unfolding pathIf
-  if-other o i = ap (λ (p : Option (List Point)). cond (Bool·beq (isOpen s i) o) p none) (path-other i) ∙ go (Bool·beq (isOpen s i) o) (pathAt s i)
+  if-other o i = go (Bool·beq (isOpen s i) o) (pathAt (turnedOver s) i) (pathAt s i) (path-other i)
     where
-      go : (b : Bool) (p : Option (List Point)) → cond b (omap reverse p) none ≡ omap reverse (cond b p none)
-      go true p = refl
-      go false p = refl
+      go : (b : Bool) (p q : Option (List Point)) → omap onGround p ≡ omap reverse (omap onGround q) → omap onGround (cond b p none) ≡ omap reverse (omap onGround (cond b q none))
+      go true p q e = e
+      go false p q e = refl
+
+  listed-ground : (p : Option (List Point)) → allOnGround (listed p) ≡ listed (omap onGround p)
+  listed-ground none = refl
+  listed-ground (some l) = refl
 
   listed-other : (p : Option (List Point)) → listed (omap reverse p) ≡ opposite (listed p)
   listed-other none = refl
   listed-other (some l) = refl
 
-  below-other : (n : ℕ) (o : Bool) → pathsBelow n o (turnedOver s) ≡ opposite (pathsBelow n o s)
+  below-other : (n : ℕ) (o : Bool) → allOnGround (pathsBelow n o (turnedOver s)) ≡ opposite (allOnGround (pathsBelow n o s))
   below-other zero o = refl
   below-other (suc n) o =
-      ap (λ (l : List (List Point)). l ++ listed (pathIf (turnedOver s) o n)) (below-other n o)
-      ∙ ap (λ (l : List (List Point)). opposite (pathsBelow n o s) ++ l) (ap listed (if-other o n) ∙ listed-other (pathIf s o n))
-      ∙ sym (map-append reverse (pathsBelow n o s) (listed (pathIf s o n)))
+      map-append onGround (pathsBelow n o (turnedOver s)) (listed (pathIf (turnedOver s) o n))
+      ∙ ap (λ (l : List (List Point)). l ++ allOnGround (listed (pathIf (turnedOver s) o n))) (below-other n o)
+      ∙ ap (λ (l : List (List Point)). opposite (allOnGround (pathsBelow n o s)) ++ l) (one n)
+      ∙ sym (map-append reverse (allOnGround (pathsBelow n o s)) (allOnGround (listed (pathIf s o n))))
+      ∙ sym (ap opposite (map-append onGround (pathsBelow n o s) (listed (pathIf s o n))))
+    where
+      one : (i : ℕ) → allOnGround (listed (pathIf (turnedOver s) o i)) ≡ opposite (allOnGround (listed (pathIf s o i)))
+      one i =
+          listed-ground (pathIf (turnedOver s) o i) ∙ ap listed (if-other o i) ∙ listed-other (omap onGround (pathIf s o i))
+          ∙ sym (ap opposite (listed-ground (pathIf s o i)))
 
-  pub closed-other : closedPaths (turnedOver s) ≡ opposite (closedPaths s)
+  pub closed-other : allOnGround (closedPaths (turnedOver s)) ≡ opposite (allOnGround (closedPaths s))
   closed-other = below-other (recs s) false
 
-  pub open-other : openPaths (turnedOver s) ≡ opposite (openPaths s)
+  pub open-other : allOnGround (openPaths (turnedOver s)) ≡ opposite (allOnGround (openPaths s))
   open-other = below-other (recs s) true

@@ -4,6 +4,7 @@ use mathlib.Core.Bool.{cond}
 use mathlib.Core.List.{List, map, reverse}
 use lib.Dec.{eqb}
 use Rattle.geometry.specs.declared.Point.{Point}
+use Rattle.geometry.specs.Plane.{ground}
 use Rattle.store.specs.Field.{pt, rc, ct, SETTINGS, POINTS, RECORDS}
 use Rattle.store.specs.Words.{Store}
 
@@ -18,6 +19,14 @@ turnedOver s (rc f) i = s (rc f) i
 turnedOver s (ct SETTINGS) i = otherBits (s (ct SETTINGS) i)
 turnedOver s (ct POINTS) i = s (ct POINTS) i
 turnedOver s (ct RECORDS) i = s (ct RECORDS) i
+
+-- a path's points without their z
+abbrev pub onGround : List Point → List Point
+onGround path = map ground path
+
+-- each path without them
+abbrev pub allOnGround : List (List Point) → List (List Point)
+allOnGround paths = map onGround paths
 
 -- each path in exactly opposite order, at its place
 abbrev pub opposite : List (List Point) → List (List Point)

@@ -2,38 +2,28 @@
 use Prim.Native.Nat.{ℕ, _+_, _≤_, _<_}
 use mathlib.Core.Path.{_≡_, refl, sym, ap, _∙_}
 use mathlib.Core.Logic.{_≢_}
-use mathlib.Core.Bool.{Bool, true, false, cond, _&&_}
-use mathlib.Core.List.{List, [], _∷_, _++_}
+use mathlib.Core.Bool.{Bool, true, false, cond}
+use mathlib.Core.List.{List, [], _∷_, _++_, map}
 use native.Mathlib.Omega.{arith}
 use lib.Dec.{leb}
 use lib.ListN.{length, length-append}
 use borrow.Author.Tests.{le-leb, lt-leb}
-use lib.IntN.{ℤ}
-use Rattle.exact.specs.Equal.{eqZ}
-use Rattle.exact.proofs.Size.{eqZ-true}
 use Rattle.geometry.specs.declared.Point.{Point}
 use Rattle.geometry.specs.Plane.{samePoint}
+use Rattle.geometry.proofs.Points.{same-as}
 use Rattle.store.specs.Words.{Store, view}
 use Rattle.store.specs.Good.{PointIn}
+use Rattle.store.specs.Value.{preserveCollinear}
+use Rattle.lone.specs.Path.{dropEquals}
+use Rattle.lone.specs.Plane.{plane}
 use Rattle.paths.specs.Path.{pointAt}
 use Rattle.paths.specs.Walking.{linkOf, Readable, Round, Going, afterPoint, pathRound, more, Counting}
 use Rattle.paths.proofs.Walks.{othersOf, walk-is, round-here, round-short, going-begins, going-here, going-on, going-ends}
 
-and-split : (a b : Bool) → (a && b) ≡ true → (a ≡ true) × (b ≡ true)
-and-split true b e = (refl, e)
-and-split false b e = let z : _≡_ {A = ℕ} 0 1 = cc in absurd (omega arith)
-
--- equal points are one value
-pub same-value : (p q : Point) → samePoint p q ≡ true → p ≡ q
-unfolding samePoint
-same-value p q e =
-    let h = and-split (eqZ (p .x) (q .x)) (eqZ (p .y) (q .y)) e in
-    let a : p .x ≡ q .x = eqZ-true (p .x) (q .x) (h .0) in
-    let b : p .y ≡ q .y = eqZ-true (p .y) (q .y) (h .1) in
-    ap (λ (z : ℤ). made z (p .y)) a ∙ ap (λ (z : ℤ). made (q .x) z) b
-  where
-    made : ℤ → ℤ → Point
-    made x y = record { x = x; y = y }
+-- the point before may stand for the last one kept: they are one place, whatever their z
+drop-as : (k : Bool) (p q : Point) (l : List Point) → samePoint p q ≡ true → dropEquals (plane k) p l ≡ dropEquals (plane k) q l
+drop-as k p q [] e = refl
+drop-as k p q (x ∷ l) e = rw (same-as x p q e, drop-as k p q l e)
 
 -- what one point adds to a path, after the point b
 abbrev pub adds : Store → ℕ → ℕ → List Point
@@ -43,7 +33,7 @@ pub after-more : (s : Store) (b q : ℕ) (l : List ℕ) → afterPoint s b (q �
 after-more s b q l = go (samePoint (pointAt s q) (pointAt s b)) refl
   where
     go : (t : Bool) → samePoint (pointAt s q) (pointAt s b) ≡ t → afterPoint s b (q ∷ l) ≡ cond t [] (pointAt s q ∷ []) ++ afterPoint s q l
-    go true e = rw (e, same-value (pointAt s q) (pointAt s b) e)
+    go true e = rw e (sym (drop-as (preserveCollinear s) (pointAt s q) (pointAt s b) (map (pointAt s) l) e))
     go false e = rw e
 
 pub path-is : (s : Store) (rev : Bool) (a : ℕ) → pathRound s rev a ≡ pointAt s a ∷ afterPoint s a (othersOf (linkOf s rev) a)

@@ -13,7 +13,7 @@ use Rattle.rings.specs.Count.{occ}
 use Rattle.rings.specs.Links.{All}
 use Rattle.rings.specs.Walk.{walk}
 use Rattle.rings.specs.Whole.{Whole}
-use Rattle.store.specs.Field.{pt, X, Y, NEXT, PREV, BLOCK}
+use Rattle.store.specs.Field.{pt, X, Y, Z, NEXT, PREV, BLOCK}
 use Rattle.store.specs.Words.{Store, view}
 use Rattle.store.specs.Sound.{pts, recs}
 use Rattle.store.specs.Good.{PointIn, SoundWords}
@@ -23,7 +23,7 @@ use Rattle.geometry.specs.Plane.{samePoint}
 use Rattle.lone.specs.Path.{dropEquals, withoutEquals}
 use Rattle.lone.specs.Plane.{plane}
 use Rattle.paths.specs.Path.{pointAt}
-use Rattle.paths.specs.Tray.{pathBytes, over}
+use Rattle.paths.specs.Tray.{POINT, pathBytes, over}
 
 -- prev in a reversed path, next in a forward one
 abbrev pub linkOf : Store → Bool → ℕ → ℕ
@@ -118,7 +118,7 @@ pub record Counting (w : List ℕ) (b n total : ℕ) (l : List ℕ) : Type 0 whe
 
 -- the bytes of point q, from `at` on
 abbrev pub putPoint : Store → ℕ → ℕ → List ℕ → List ℕ
-putPoint s q at t = putLe 4 (at + 4) (lowered COORDINATE (s (pt Y) q)) (putLe 4 at (lowered COORDINATE (s (pt X) q)) t)
+putPoint s q at t = putLe 4 (at + 8) (s (pt Z) q) (putLe 4 (at + 4) (lowered COORDINATE (s (pt Y) q)) (putLe 4 at (lowered COORDINATE (s (pt X) q)) t))
 
 -- how far a writer is, and the tray
 pub record Laid : Type 0 where
@@ -130,18 +130,18 @@ laid at t = record { at = at; tray = t }
 
 -- point q after b: nothing if the two are equal
 unfoldable pub putMore : Store → ℕ → ℕ → ℕ → List ℕ → Laid
-putMore s b q at t = cond (samePoint (pointAt s q) (pointAt s b)) (laid at t) (laid (at + 8) (putPoint s q at t))
+putMore s b q at t = cond (samePoint (pointAt s q) (pointAt s b)) (laid at t) (laid (at + POINT) (putPoint s q at t))
 
 -- `done` is written, b the last point visited
 pub record Laying (w : List ℕ) (b at : ℕ) (t₀ t : List ℕ) (total : List Point) (l : List ℕ) : Type 0 where
   pub before : PointIn (view w) b
   pub done : List Point
   pub bytes : t ≡ over (pathBytes done) t₀
-  pub here : at ≡ 8 * length done
+  pub here : at ≡ POINT * length done
   pub all : done ++ afterPoint (view w) b l ≡ total
-  pub room : 8 * length total ≤ length t₀
+  pub room : POINT * length total ≤ length t₀
 
 -- a writer's room for the path
 pub record Room (w : List ℕ) (rev : Bool) (a : ℕ) (t : List ℕ) : Type 0 where
   pub round : Round w rev a
-  pub room : 8 * length (pathRound (view w) rev a) ≤ length t
+  pub room : POINT * length (pathRound (view w) rev a) ≤ length t

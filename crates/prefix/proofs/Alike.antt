@@ -1,4 +1,4 @@
--- Inputs that begin alike for 42,005 bytes are read alike, and a job that is read is at most 41,988 bytes long.
+-- Inputs that begin alike for 50,201 bytes are read alike, and a job that is read is at most 50,180 bytes long.
 use mathlib.Core.Path.{_≡_, refl, ap, _∙_}
 use mathlib.Core.Bool.{Bool, true, false, cond}
 use mathlib.Core.List.{List}
@@ -39,7 +39,7 @@ Inside bytes (end (Refused x) w ss js) = Unit {0}
 module _ (j : Job) (w ss js : List ℕ) (i : Spent j) where
   placed-counted : (f : Field) (n : ℕ) → Spent (past f n j) → Counted (placed f n j w ss js)
   placed-counted (Settings b) n h = h
-  placed-counted (Point x y nx pv r) n h = h
+  placed-counted (Point x y nx pv r z) n h = h
   placed-counted (Record f o p) n h = h
   placed-counted (Segment p) n h = h
   placed-counted (Join a b) n h = h
@@ -54,11 +54,11 @@ module _ (j : Job) (w ss js : List ℕ) (i : Spent j) where
 
 module _ (a b : List ℕ) (e : take DECIDES a ≡ take DECIDES b) where
   module _ (j : Job) (i : Spent j) (l : Within j) where
-    -- at least 17 bytes from here on are alike
-    part-same : take 17 (drop (j .at) a) ≡ take 17 (drop (j .at) b)
+    -- at least 21 bytes from here on are alike
+    part-same : take 21 (drop (j .at) a) ≡ take 21 (drop (j .at) b)
     part-same =
         let h = not-past j i l in
-        fewer-same (DECIDES - j .at) (drop (j .at) a) (drop (j .at) b) (rest-same DECIDES a b e (j .at) (DECIDES - j .at) (omega arith)) 17 (omega arith)
+        fewer-same (DECIDES - j .at) (drop (j .at) a) (drop (j .at) b) (rest-same DECIDES a b e (j .at) (DECIDES - j .at) (omega arith)) 21 (omega arith)
 
     turn-same : (w ss js : List ℕ) → turnOf a j w ss js ≡ turnOf b j w ss js
     unfolding turnOf
@@ -100,7 +100,7 @@ inside bytes j w ss js l h = go (fieldOf j (drop (j .at) bytes)) refl
   where
     places : (f : Field) (n : ℕ) → j .at + n ≤ length bytes → Inside bytes (placed f n j w ss js)
     places (Settings b) n h = h
-    places (Point x y nx pv r) n h = h
+    places (Point x y nx pv r z) n h = h
     places (Record f o p) n h = h
     places (Segment p) n h = h
     places (Join a b) n h = h

@@ -1,4 +1,4 @@
--- 42,005 bytes decide a job: what follows them changes nothing of opening it or of finishing it in one call.
+-- 50,201 bytes decide a job: what follows them changes nothing of opening it or of finishing it in one call.
 use mathlib.Core.Path.{_≡_, refl, ap}
 use mathlib.Core.Bool.{Bool, true, false, cond}
 use mathlib.Core.List.{List}
@@ -42,14 +42,14 @@ module _ (a b : List ℕ) (e : take DECIDES a ≡ take DECIDES b) (lent : List �
   unfolding finishOf
   finish-same t = ap (λ (r : End). afterOpening r t) open-same
 
--- THE LAWS: 42,005 bytes, or all where there are fewer
+-- THE LAWS: 50,201 bytes, or all where there are fewer
 pub open-decided : (bytes lent : List ℕ) → openOf (take DECIDES bytes) lent ≡ openOf bytes lent
 open-decided bytes lent = open-same (take DECIDES bytes) bytes (take-take DECIDES DECIDES bytes (omega arith)) lent
 
 pub finish-decided : (bytes lent t : List ℕ) → finishOf (take DECIDES bytes) lent t ≡ finishOf bytes lent t
 finish-decided bytes lent t = finish-same (take DECIDES bytes) bytes (take-take DECIDES DECIDES bytes (omega arith)) lent t
 
--- and no job longer than 41,988 bytes is accepted
+-- and no job longer than 50,180 bytes is accepted
 pub longest : (bytes lent w : List ℕ) → openOf bytes lent ≡ end Accepted w → length bytes ≤ LONGEST
 longest bytes lent w e = by (readIn bytes lent) refl (ltb (length lent) LENGTH) (rw (open-reads bytes lent) at e)
   where
@@ -59,8 +59,8 @@ longest bytes lent w e = by (readIn bytes lent) refl (ltb (length lent) LENGTH) 
     by (fill.end (outcome.Refused x) v ts ks) f false d = absurd (let z : _≡_ {A = ℕ} 0 1 = cc in omega arith)
 
 -- the two numbers
-pub longest-is : LONGEST ≡ 41988
+pub longest-is : LONGEST ≡ 50180
 longest-is = refl
 
-pub decides-is : DECIDES ≡ 42005
+pub decides-is : DECIDES ≡ 50201
 decides-is = refl

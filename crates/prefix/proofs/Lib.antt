@@ -1,4 +1,4 @@
--- Why 42,005 bytes decide a job.
+-- Why 50,201 bytes decide a job.
 pub mod Beginnings
 pub mod Fields
 pub mod Spent

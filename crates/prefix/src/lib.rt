@@ -5,11 +5,11 @@ ghost use Rattle.prefix.specs.Decides as decides;
 
 // A reader may take this much of its input and no more: settings once, as many of each other field as there may be, and one point's field.
 pub const DECIDES: usize = 4
-    + 17 * Job::POINTS
+    + 21 * Job::POINTS
     + 8 * Job::RECORDS
     + 5 * Job::SEGMENTS
     + 7 * Job::JOINS
-    + 17;
+    + 21;
 
 // The number that definitions cite is the code's.
 fn number_agrees()

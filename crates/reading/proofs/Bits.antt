@@ -1,5 +1,5 @@
 -- What reading leaves of settings and records: row 2 has passed, so they use bits 0 and 1 only; and each record keeps whether the job has a ring for it.
-use Prim.Native.Nat.{ℕ, zero, suc, _+_, _≤_, _<_}
+use Prim.Native.Nat.{ℕ, zero, suc, _+_, _^_, _≤_, _<_}
 use mathlib.Core.Path.{_≡_, refl, ap, _∙_, sym, subst}
 use mathlib.Core.Bool.{Bool, true, false, cond}
 use mathlib.Core.List.{List, [], _∷_}
@@ -19,7 +19,7 @@ use Rattle.job.specs.declared.field.Field.the-variants.{Settings, Point, Record
 use Rattle.job.specs.declared.field.Reading.{Reading}
 use Rattle.job.specs.declared.field.Reading.the-variants as reading
 use Rattle.job.proofs.Accepted.{passed, accepted}
-use Rattle.store.specs.Field.{pt, rc, ct, X, Y, NEXT, PREV, REC, FLAGS, FIRST, REASON, SETTINGS, POINTS, RECORDS, BLOCK}
+use Rattle.store.specs.Field.{pt, rc, ct, X, Y, NEXT, PREV, REC, Z, FLAGS, FIRST, REASON, SETTINGS, POINTS, RECORDS, BLOCK}
 use Rattle.store.specs.Words.{Store, view, Write, write, onWords}
 use Rattle.store.specs.Stores.{onStore}
 use Rattle.store.specs.Named.{settingsOf, recordsOf}
@@ -50,11 +50,30 @@ bits-read j s f n e =
     let b = passed (strangeTag (j .last) (tagOf s)) Strange (bodyOf (kindOf (tagOf s)) j s) f n (a .1) in
     bits-body (kindOf (tagOf s)) j s f n (b .1)
 
+-- and a point's z has 32
+abbrev Depth : Field → Type 0
+Depth (Settings b) = Unit {0}
+Depth (Point x y nx pv r z) = z < 2 ^ 32
+Depth (Record f o p) = Unit {0}
+Depth (Segment p) = Unit {0}
+Depth (Join a b) = Unit {0}
+
+depth-read : (j : Job) (s : List ℕ) (f : Field) (n : ℕ) → fieldOf j s ≡ reading.Read f n → Depth f
+depth-read j s f n e = let a = accepted j s f n e in subst Depth (sym (a .is)) (go (a .kind) (valueOf s))
+  where
+    go : (k : Kind) (v : List ℕ) → Depth (fieldIn k v)
+    go kind.Settings v = tt
+    go kind.Point v = omega arith
+    go kind.Record v = tt
+    go kind.Segment v = tt
+    go kind.Join v = tt
+
 -- what reading keeps from field to field
 record Tame (j : Job) (w : List ℕ) : Type 0 where
   bits : j .bits ≤ 3
   flags : (i : ℕ) → i < j .records → view w (rc FLAGS) i ≤ 3
   reasons : (i : ℕ) → i < j .records → view w (rc REASON) i ≡ reasonRead (view w (rc FIRST) i)
+  depths : (k : ℕ) → k < j .points → view w (pt Z) k < 2 ^ 32
   long : BLOCK ≤ length w
 
 abbrev TameEnd : ReadEnd → Type 0
@@ -62,14 +81,18 @@ TameEnd (end (Ok j) w ss js) = Tame j w
 TameEnd (end (Refused r) w ss js) = Unit {0}
 
 module _ (j : Job) (w ss js : List ℕ) (t : Tame j w) where
-  tame-placed : (f : Field) (n : ℕ) → Room f j → strangeBits f ≡ false → TameEnd (placed f n j w ss js)
-  tame-placed (Settings b) n l c = record { bits = ltb-false 3 b c; flags = t .flags; reasons = t .reasons; long = t .long }
-  tame-placed (Point x y nx pv r) n l c =
+  tame-placed : (f : Field) (n : ℕ) → Room f j → strangeBits f ≡ false → Depth f → TameEnd (placed f n j w ss js)
+  tame-placed (Settings b) n l c q = record { bits = ltb-false 3 b c; flags = t .flags; reasons = t .reasons; depths = t .depths; long = t .long }
+  tame-placed (Point x y nx pv r z) n l c q =
       let i = j .points in
-      let xs = write (pt X) i x ∷ write (pt Y) i y ∷ write (pt NEXT) i nx ∷ write (pt PREV) i pv ∷ write (pt REC) i r ∷ [] in
-      let v : view (onWords w xs) ≡ onStore (view w) xs = view-writes w xs (t .long) (l, (l, (l, (l, (l, tt))))) in
-      record { bits = t .bits; flags = λ k h. omega (arith, ap (λ (z : Store). z (rc FLAGS) k) v, t .flags k h); reasons = λ k h. subst (λ (z : Store). z (rc REASON) k ≡ reasonRead (z (rc FIRST) k)) (sym v) (t .reasons k h); long = omega (arith, t .long, length-writes w xs) }
-  tame-placed (Record b o p) n l c =
+      let xs = write (pt X) i x ∷ write (pt Y) i y ∷ write (pt NEXT) i nx ∷ write (pt PREV) i pv ∷ write (pt REC) i r ∷ write (pt Z) i z ∷ [] in
+      let v : view (onWords w xs) ≡ onStore (view w) xs = view-writes w xs (t .long) (l, (l, (l, (l, (l, (l, tt)))))) in
+      record { bits = t .bits; flags = λ k h. omega (arith, ap (λ (z : Store). z (rc FLAGS) k) v, t .flags k h); reasons = λ k h. subst (λ (z : Store). z (rc REASON) k ≡ reasonRead (z (rc FIRST) k)) (sym v) (t .reasons k h); depths = λ k h. subst (λ (u : Store). u (pt Z) k < 2 ^ 32) (sym v) (deep k h (ℕ-discrete k i)); long = omega (arith, t .long, length-writes w xs) }
+    where
+      deep : (k : ℕ) → k < j .points + 1 → Dec (k ≡ j .points) → cond (eqb k (j .points)) z (view w (pt Z) k) < 2 ^ 32
+      deep k h (yes e) = rw (eq-eqb k (j .points) e) q
+      deep k h (no e) = rw (ne-eqb k (j .points) e) (t .depths k (omega arith))
+  tame-placed (Record b o p) n l c q =
       let i = j .records in
       let xs = recordRead i b o p in
       let v : view (onWords w xs) ≡ onStore (view w) xs = view-writes w xs (t .long) (l, (l, (l, (l, tt)))) in
@@ -77,6 +100,7 @@ module _ (j : Job) (w ss js : List ℕ) (t : Tame j w) where
         bits = t .bits;
         flags = λ k h. subst (λ (z : Store). z (rc FLAGS) k ≤ 3) (sym v) (one k h (ltb-false 3 b c) (ℕ-discrete k i));
         reasons = λ k h. subst (λ (z : Store). z (rc REASON) k ≡ reasonRead (z (rc FIRST) k)) (sym v) (why k h (ℕ-discrete k i));
+        depths = λ k h. omega (arith, ap (λ (z : Store). z (pt Z) k) v, t .depths k h);
         long = omega (arith, t .long, length-writes w xs);
       }
     where
@@ -87,15 +111,15 @@ module _ (j : Job) (w ss js : List ℕ) (t : Tame j w) where
       why : (k : ℕ) → k < j .records + 1 → Dec (k ≡ j .records) → cond (eqb k (j .records)) (reasonRead p) (view w (rc REASON) k) ≡ reasonRead (cond (eqb k (j .records)) p (view w (rc FIRST) k))
       why k h (yes e) = rw (eq-eqb k (j .records) e)
       why k h (no e) = rw (ne-eqb k (j .records) e) (t .reasons k (omega arith))
-  tame-placed (Segment p) n l c = record { bits = t .bits; flags = t .flags; reasons = t .reasons; long = t .long }
-  tame-placed (Join a′ b′) n l c = record { bits = t .bits; flags = t .flags; reasons = t .reasons; long = t .long }
+  tame-placed (Segment p) n l c q = record { bits = t .bits; flags = t .flags; reasons = t .reasons; depths = t .depths; long = t .long }
+  tame-placed (Join a′ b′) n l c q = record { bits = t .bits; flags = t .flags; reasons = t .reasons; depths = t .depths; long = t .long }
 
   tame-turn : (bytes : List ℕ) → TameEnd (turnOf bytes j w ss js)
   unfolding turnOf
   tame-turn bytes = go (fieldOf j (drop (j .at) bytes)) refl
     where
       go : (r : Reading) → fieldOf j (drop (j .at) bytes) ≡ r → TameEnd (taken r j w ss js)
-      go (reading.Read f n) e = tame-placed f n (has-room j (drop (j .at) bytes) f n (accepted j (drop (j .at) bytes) f n e)) (bits-read j (drop (j .at) bytes) f n e)
+      go (reading.Read f n) e = tame-placed f n (has-room j (drop (j .at) bytes) f n (accepted j (drop (j .at) bytes) f n e)) (bits-read j (drop (j .at) bytes) f n e) (depth-read j (drop (j .at) bytes) f n e)
       go (reading.Refused x) e = tt
 
 tame-run : (k : ℕ) (bytes : List ℕ) (j : Job) (w ss js : List ℕ) → Tame j w → TameEnd (run k bytes j w ss js)
@@ -117,7 +141,7 @@ tame-fill bytes w ss js l = go (eqb (length bytes) 0)
   where
     go : (b : Bool) → TameEnd (cond b (end (Refused Strange) w ss js) (run (suc (length bytes)) bytes fresh w ss js))
     go true = tt
-    go false = tame-run (suc (length bytes)) bytes fresh w ss js (record { bits = omega arith; flags = λ i h. absurd (omega arith); reasons = λ i h. absurd (omega arith); long = l })
+    go false = tame-run (suc (length bytes)) bytes fresh w ss js (record { bits = omega arith; flags = λ i h. absurd (omega arith); reasons = λ i h. absurd (omega arith); depths = λ k h. absurd (omega arith); long = l })
 
 pub fields-of : (bytes w ss js : List ℕ) → BLOCK ≤ length w → (j : Job) (v ts ks : List ℕ) → readOf bytes w ss js ≡ end (Ok j) v ts ks → Bits v × Unringed v
 unfolding readOf
@@ -131,7 +155,7 @@ fields-of bytes w ss js l j v ts ks e = go (fillOf bytes w ss js) (tame-fill byt
         let p : settingsOf (counted i u) ≡ i .bits = ap (λ (z : Store). z (ct SETTINGS) 0) c in
         let q : recordsOf (counted i u) ≡ i .records = ap (λ (z : Store). z (ct RECORDS) 0) c in
         subst (λ (x : List ℕ). Bits x × Unringed x) b (
-          record { settings = omega (arith, p, t .bits); flags = λ k h. omega (arith, ap (λ (z : Store). z (rc FLAGS) k) c, t .flags k (omega (arith, q))) },
+          record { settings = omega (arith, p, t .bits); flags = λ k h. omega (arith, ap (λ (z : Store). z (rc FLAGS) k) c, t .flags k (omega (arith, q))); depths = λ k h. omega (arith, ap (λ (z : Store). z (pt Z) k) c, t .depths k (omega (arith, ap (λ (z : Store). z (ct POINTS) 0) c))) },
           record { reasons = λ k h. subst (λ (z : Store). z (rc REASON) k ≡ reasonRead (z (rc FIRST) k)) (sym c) (t .reasons k (omega (arith, q))) },
         )
     go (end (Refused x) u us ls) t d = absurd (let z : _≡_ {A = ℕ} 0 1 = cc in omega arith)

@@ -16,7 +16,7 @@ use Rattle.job.specs.declared.field.Field.{Field}
 use Rattle.job.specs.declared.field.Field.the-variants.{Settings, Point, Record, Segment, Join}
 use Rattle.job.specs.declared.field.Reading.{Reading}
 use Rattle.job.specs.declared.field.Reading.the-variants as reading
-use Rattle.store.specs.Field.{BLOCK, ct, SETTINGS, POINTS, RECORDS, pt, X, Y, NEXT, PREV, REC}
+use Rattle.store.specs.Field.{BLOCK, ct, SETTINGS, POINTS, RECORDS, pt, X, Y, NEXT, PREV, REC, Z}
 use Rattle.store.specs.Words.{write}
 use Rattle.store.proofs.Storing.{length-writes, view-writes}
 use Rattle.reading.specs.declared.fill.Outcome.{Outcome}
@@ -33,8 +33,8 @@ Kept w ss js (end o w′ ss′ js′) = (length w′ ≡ length w) × (length ss
 module _ (j : Job) (w ss js : List ℕ) where
   placed-kept : (f : Field) (n : ℕ) → Kept w ss js (placed f n j w ss js)
   placed-kept (Settings b) n = (refl, refl, refl)
-  placed-kept (Point x y nx pv r) n =
-      (length-writes w (write (pt X) (j .points) x ∷ write (pt Y) (j .points) y ∷ write (pt NEXT) (j .points) nx ∷ write (pt PREV) (j .points) pv ∷ write (pt REC) (j .points) r ∷ []), refl, refl)
+  placed-kept (Point x y nx pv r z) n =
+      (length-writes w (write (pt X) (j .points) x ∷ write (pt Y) (j .points) y ∷ write (pt NEXT) (j .points) nx ∷ write (pt PREV) (j .points) pv ∷ write (pt REC) (j .points) r ∷ write (pt Z) (j .points) z ∷ []), refl, refl)
   placed-kept (Record f o p) n =
       (length-writes w (recordRead (j .records) f o p), refl, refl)
   placed-kept (Segment p) n = (refl, length-set ss (j .segments) p, refl)

@@ -31,14 +31,14 @@ After j (end (Refused r) w ss js) = Unit {0}
 module _ (bytes : List ℕ) (j : Job) (w ss js : List ℕ) where
   moved : (f : Field) (n : ℕ) → Forward j (past f n j) → After j (placed f n j w ss js)
   moved (Settings b) n h = h
-  moved (Point x y nx pv r) n h = h
+  moved (Point x y nx pv r z) n h = h
   moved (Record f o p) n h = h
   moved (Segment p) n h = h
   moved (Join a b) n h = h
 
   further : (f : Field) (n : ℕ) → 3 < n → j .at < (past f n j) .at
   further (Settings b) n h = omega arith
-  further (Point x y nx pv r) n h = omega arith
+  further (Point x y nx pv r z) n h = omega arith
   further (Record f o p) n h = omega arith
   further (Segment p) n h = omega arith
   further (Join a b) n h = omega arith

@@ -19,7 +19,7 @@ use Rattle.job.specs.declared.field.Field.{Field}
 use Rattle.job.specs.declared.field.Field.the-variants.{Settings, Point, Record, Segment, Join}
 use Rattle.job.specs.declared.field.Reading.{Reading}
 use Rattle.job.specs.declared.field.Reading.the-variants as reading
-use Rattle.store.specs.Field.{PointCol, pt, rc, ct, X, Y, NEXT, PREV, REC, FLAGS, OWNER, FIRST, REASON, SETTINGS, POINTS, RECORDS, BLOCK}
+use Rattle.store.specs.Field.{PointCol, pt, rc, ct, X, Y, NEXT, PREV, REC, Z, FLAGS, OWNER, FIRST, REASON, SETTINGS, POINTS, RECORDS, BLOCK}
 use Rattle.store.specs.Words.{Store, view, Write, write, onWords}
 use Rattle.store.specs.Stores.{onStore}
 use Rattle.store.proofs.Storing.{view-writes, length-writes}
@@ -58,8 +58,8 @@ BothEnd (end (Ok j) w ss js) (end (Refused r′) w′ ss′ js′) = ⊥
 BothEnd (end (Refused r) w ss js) (end (Ok j′) w′ ss′ js′) = ⊥
 BothEnd (end (Refused r) w ss js) (end (Refused r′) w′ ss′ js′) = r′ ≡ r
 
-abbrev pointList : ℕ → ℕ → ℕ → ℕ → ℕ → ℕ → List Write
-pointList i x y n p r = write (pt X) i x ∷ write (pt Y) i y ∷ write (pt NEXT) i n ∷ write (pt PREV) i p ∷ write (pt REC) i r ∷ []
+abbrev pointList : ℕ → ℕ → ℕ → ℕ → ℕ → ℕ → ℕ → List Write
+pointList i x y n p r z = write (pt X) i x ∷ write (pt Y) i y ∷ write (pt NEXT) i n ∷ write (pt PREV) i p ∷ write (pt REC) i r ∷ write (pt Z) i z ∷ []
 
 abbrev countList : Job → List Write
 countList j = write (ct SETTINGS) 0 (j .bits) ∷ write (ct POINTS) 0 (j .points) ∷ write (ct RECORDS) 0 (j .records) ∷ []
@@ -74,12 +74,12 @@ module _ (j : Job) (w w′ ss ss′ js js′ : List ℕ) (b : Both j w w′ ss s
   both-placed (Settings c) n l i =
       let s = b .same in
       (refl, record { within = i; space = b .space; space′ = b .space′; same = record { points = s .points; flags = s .flags; owners = s .owners; firsts = s .firsts; reasons = s .reasons; segments = s .segments; joins = s .joins } })
-  both-placed (Point x y nx pv r) n l i =
+  both-placed (Point x y nx pv r z) n l i =
       let s = b .same in
       let k = j .points in
-      let xs = pointList k x y nx pv r in
-      let e = view-writes w xs (b .space .words) (l, (l, (l, (l, (l, tt))))) in
-      let e′ = view-writes w′ xs (b .space′ .words) (l, (l, (l, (l, (l, tt))))) in
+      let xs = pointList k x y nx pv r z in
+      let e = view-writes w xs (b .space .words) (l, (l, (l, (l, (l, (l, tt)))))) in
+      let e′ = view-writes w′ xs (b .space′ .words) (l, (l, (l, (l, (l, (l, tt)))))) in
       let to : (P : Store → Store → Type 0) → P (onStore (view w) xs) (onStore (view w′) xs) → P (view (onWords w xs)) (view (onWords w′ xs)) = λ P. at-both w w′ xs P e e′ in (
         refl,
         record {
@@ -98,12 +98,13 @@ module _ (j : Job) (w w′ ss ss′ js js′ : List ℕ) (b : Both j w w′ ss s
         },
       )
     where
-      col : (c : PointCol) (i : ℕ) → i < j .points + 1 → onStore (view w′) (pointList (j .points) x y nx pv r) (pt c) i ≡ onStore (view w) (pointList (j .points) x y nx pv r) (pt c) i
+      col : (c : PointCol) (i : ℕ) → i < j .points + 1 → onStore (view w′) (pointList (j .points) x y nx pv r z) (pt c) i ≡ onStore (view w) (pointList (j .points) x y nx pv r z) (pt c) i
       col X = more (j .points) x (view w (pt X)) (view w′ (pt X)) (b .same .points X)
       col Y = more (j .points) y (view w (pt Y)) (view w′ (pt Y)) (b .same .points Y)
       col NEXT = more (j .points) nx (view w (pt NEXT)) (view w′ (pt NEXT)) (b .same .points NEXT)
       col PREV = more (j .points) pv (view w (pt PREV)) (view w′ (pt PREV)) (b .same .points PREV)
       col REC = more (j .points) r (view w (pt REC)) (view w′ (pt REC)) (b .same .points REC)
+      col Z = more (j .points) z (view w (pt Z)) (view w′ (pt Z)) (b .same .points Z)
   both-placed (Record f o p) n l i =
       let s = b .same in
       let k = j .records in

@@ -38,8 +38,8 @@ module _ (f : Field) (n : ℕ) (j r : Job) (w ss js : List ℕ) where
   pub placed-settings : (b : ℕ) → f ≡ Settings b → r ≡ past f n j → end (Ok r) w ss js ≡ placed f n j w ss js
   placed-settings b e p = rw (p, e)
 
-  pub placed-point : (x y nx pv rc : ℕ) (w′ : List ℕ) → f ≡ Point x y nx pv rc → w′ ≡ putPoint (j .points) x y nx pv rc w → r ≡ past (Point x y nx pv rc) n j → end (Ok r) w′ ss js ≡ placed f n j w ss js
-  placed-point x y nx pv rc w′ e a p = rw (p, a, e)
+  pub placed-point : (x y nx pv rc z : ℕ) (w′ : List ℕ) → f ≡ Point x y nx pv rc z → w′ ≡ putPoint (j .points) x y nx pv rc z w → r ≡ past (Point x y nx pv rc z) n j → end (Ok r) w′ ss js ≡ placed f n j w ss js
+  placed-point x y nx pv rc z w′ e a p = rw (p, a, e)
 
   pub placed-record : (fl o fi : ℕ) (w′ : List ℕ) → f ≡ Record fl o fi → w′ ≡ putRecord (j .records) fl o fi w → r ≡ past (Record fl o fi) n j → end (Ok r) w′ ss js ≡ placed f n j w ss js
   placed-record fl o fi w′ e a p = rw (p, a, e)

@@ -29,48 +29,48 @@ and-split false b h = let y : _≡_ {A = ℕ} 0 1 = cc in absurd (omega arith)
 
 -- what the test says of a part
 record Next (j : Job) (s : List ℕ) : Type 0 where
-  long : 17 ≤ length s
+  long : 21 ≤ length s
   tag : tagOf s ≡ 2
-  says : lengthOf s ≡ 14
+  says : lengthOf s ≡ 18
   begun : 0 < j .last
   in-turn : j .last < 3
   room : j .points < POINTS
 
 next-says : (j : Job) (s : List ℕ) → pointNext j s ≡ true → Next j s
 unfolding pointNext
-next-says j s = by (ltb (length s) 17) refl
+next-says j s = by (ltb (length s) 21) refl
   where
-    by : (b : Bool) → ltb (length s) 17 ≡ b → cond b false (eqb (tagOf s) 2 && eqb (lengthOf s) 14 && ltb 0 (j .last) && ltb (j .last) 3 && ltb (j .points) POINTS) ≡ true → Next j s
+    by : (b : Bool) → ltb (length s) 21 ≡ b → cond b false (eqb (tagOf s) 2 && eqb (lengthOf s) 18 && ltb 0 (j .last) && ltb (j .last) 3 && ltb (j .points) POINTS) ≡ true → Next j s
     by true l h = let y : _≡_ {A = ℕ} 0 1 = cc in absurd (omega arith)
     by false l h =
         let a = and-split _ (ltb (j .points) POINTS) h in
         let b = and-split _ (ltb (j .last) 3) (a .0) in
         let c = and-split _ (ltb 0 (j .last)) (b .0) in
-        let d = and-split (eqb (tagOf s) 2) (eqb (lengthOf s) 14) (c .0) in
-        record { long = ltb-false (length s) 17 l; tag = eqb-true (tagOf s) 2 (d .0); says = eqb-true (lengthOf s) 14 (d .1); begun = ltb-true 0 (j .last) (c .1); in-turn = ltb-true (j .last) 3 (b .1); room = ltb-true (j .points) POINTS (a .1) }
+        let d = and-split (eqb (tagOf s) 2) (eqb (lengthOf s) 18) (c .0) in
+        record { long = ltb-false (length s) 21 l; tag = eqb-true (tagOf s) 2 (d .0); says = eqb-true (lengthOf s) 18 (d .1); begun = ltb-true 0 (j .last) (c .1); in-turn = ltb-true (j .last) 3 (b .1); room = ltb-true (j .points) POINTS (a .1) }
 
 -- such a part is read as a point
-reads : (j : Job) (s : List ℕ) → Next j s → fieldOf j s ≡ reading.Read (fieldIn kind.Point (valueOf s)) 17
+reads : (j : Job) (s : List ℕ) → Next j s → fieldOf j s ≡ reading.Read (fieldIn kind.Point (valueOf s)) 21
 unfolding fieldOf bodyOf
 reads j s n =
     let h = n .in-turn in
     let l = n .long in
-    rw (le-ltb (length s) 3 (omega arith), n .tag, n .says, le-ltb 2 (j .last) (omega arith), ne-eqb (j .last) 0 (λ z. absurd (omega (arith, n .begun))), lt-ltb 0 (j .last) (n .begun), le-ltb (length s) 17 l, lt-leb POINTS (j .points) (n .room))
+    rw (le-ltb (length s) 3 (omega arith), n .tag, n .says, le-ltb 2 (j .last) (omega arith), ne-eqb (j .last) 0 (λ z. absurd (omega (arith, n .begun))), lt-ltb 0 (j .last) (n .begun), le-ltb (length s) 21 l, lt-leb POINTS (j .points) (n .room))
 
 -- ---- the needs of the code
 module _ (j : Job) (s : List ℕ) where
-  pub next-short : length s < 17 → false ≡ pointNext j s
+  pub next-short : length s < 21 → false ≡ pointNext j s
   unfolding pointNext
-  next-short h = rw (lt-ltb (length s) 17 h)
+  next-short h = rw (lt-ltb (length s) 21 h)
 
-  pub next-tests : (says : ℕ) → 17 ≤ length s → Number 2 1 s says → (eqb (getD s 0 0) 2 && eqb says 14 && ltb 0 (j .last) && ltb (j .last) 3 && ltb (j .points) 2048) ≡ pointNext j s
+  pub next-tests : (says : ℕ) → 21 ≤ length s → Number 2 1 s says → (eqb (getD s 0 0) 2 && eqb says 18 && ltb 0 (j .last) && ltb (j .last) 3 && ltb (j .points) 2048) ≡ pointNext j s
   unfolding pointNext
-  next-tests says h n = rw (le-ltb (length s) 17 h, n .is)
+  next-tests says h n = rw (le-ltb (length s) 21 h, n .is)
 
-pub value-put : (v : List ℕ) (i : ℕ) (w w′ : List ℕ) (x y nx pv rc : ℕ) → x ≡ raised COORDINATE (le 4 0 v) → y ≡ raised COORDINATE (le 4 4 v) → Number 2 8 v nx → Number 2 10 v pv → Number 2 12 v rc
-    → w′ ≡ putPoint i x y nx pv rc w → w′ ≡ putValue v i w
+pub value-put : (v : List ℕ) (i : ℕ) (w w′ : List ℕ) (x y nx pv rc z : ℕ) → x ≡ raised COORDINATE (le 4 0 v) → y ≡ raised COORDINATE (le 4 4 v) → Number 2 8 v nx → Number 2 10 v pv → Number 2 12 v rc → z ≡ raised 0 (le 4 14 v)
+    → w′ ≡ putPoint i x y nx pv rc z w → w′ ≡ putValue v i w
 unfolding putValue
-value-put v i w w′ x y nx pv rc ex ey en ep er e = e ∙ rw (ex, ey, en .is, ep .is, er .is)
+value-put v i w w′ x y nx pv rc z ex ey en ep er ez e = e ∙ rw (ex, ey, en .is, ep .is, er .is, ez)
 
 -- ---- the loop: the turns so far
 pub record Placed (bytes : List ℕ) (j : Job) (w₀ : List ℕ) (k : Job) (w : List ℕ) : Type 0 where
@@ -92,14 +92,14 @@ module _ (k : Job) (part : List ℕ) (b : Bool) (eb : b ≡ pointNext k part) (h
   pub header-there : 3 ≤ length part
   header-there = omega (arith, fact .long)
 
-  pub value-there : (v : List ℕ) → Part 3 part v → 14 ≤ length v
+  pub value-there : (v : List ℕ) → Part 3 part v → 18 ≤ length v
   value-there v q = omega (arith, fact .long, q .long)
 
   pub place-free : k .points < 2048
   place-free = fact .room
 
   module _ (bytes : List ℕ) (p : Part (k .at) bytes part) where
-    pub not-far : length bytes < 2 ^ 63 → k .at + 17 < 2 ^ 64
+    pub not-far : length bytes < 2 ^ 63 → k .at + 21 < 2 ^ 64
     not-far l = omega (arith, fact .long, p .long)
 
     module _ (n : Job) (en : n ≡ pastPoint k) where

@@ -9,12 +9,12 @@ use native.Mathlib.Decide.{decLt}
 use lib.Dec.{eqb, ltb}
 use lib.ListN.{length, drop, length-drop}
 use borrow.Author.Tests.{ltb-true, ltb-false, eqb-true, eqb-false}
-use Rattle.job.specs.Field.{HEADER, Y-AT, NEXT-AT, PREV-AT, RECORD-AT, OWNER-AT, FIRST-AT, tagOf, lengthOf, valueOf, kindOf, sizeOf, fieldIn, tornHeader, strangeTag, tornValue, strangeBits, crowded, bodyOf, fieldOf}
+use Rattle.job.specs.Field.{HEADER, Y-AT, NEXT-AT, PREV-AT, RECORD-AT, Z-AT, OWNER-AT, FIRST-AT, tagOf, lengthOf, valueOf, kindOf, sizeOf, fieldIn, tornHeader, strangeTag, tornValue, strangeBits, crowded, bodyOf, fieldOf}
 use Rattle.numbers.specs.Bytes.{le}
 use Rattle.numbers.specs.Raised.{raised}
 use Rattle.numbers.proofs.Widths.{shifted}
 use Rattle.job.specs.Limits.{COORDINATE}
-use Rattle.job.specs.Coordinate.{wordAt}
+use Rattle.job.specs.Coordinate.{wordAt, depthAt}
 use Rattle.job.specs.Job.{fresh, past}
 use Rattle.job.specs.declared.Job.{Job}
 use Rattle.job.specs.declared.field.Kind.{Kind}
@@ -25,7 +25,7 @@ use Rattle.job.specs.declared.field.Reading.{Reading}
 use Rattle.job.specs.declared.field.Reading.the-variants as reading
 use Rattle.job.specs.declared.refusal.Refusal.the-variants.{Torn, Strange, Crowded}
 use Rattle.job.proofs.Accepted.{passed, accepted}
-use Rattle.store.specs.Field.{pt, ct, X, Y, NEXT, PREV, REC, SETTINGS, POINTS, RECORDS, BLOCK}
+use Rattle.store.specs.Field.{pt, ct, X, Y, NEXT, PREV, REC, Z, SETTINGS, POINTS, RECORDS, BLOCK}
 use Rattle.store.specs.Words.{view, write, onWords}
 use Rattle.store.specs.Stores.{onStore}
 use Rattle.store.proofs.Storing.{view-writes, length-writes}
@@ -38,7 +38,7 @@ use Rattle.reading.specs.Standing.{fieldAt, valueAt, AtBytes, Standing}
 use Rattle.reading.proofs.Placing.{has-room}
 
 -- ---- tags
-abbrev tagIs : Kind → ℕ
+abbrev pub tagIs : Kind → ℕ
 tagIs kind.Settings = 1
 tagIs kind.Point = 2
 tagIs kind.Record = 3
@@ -59,11 +59,11 @@ kind-tag (suc (suc (suc (suc (suc zero))))) h = refl
 kind-tag (suc (suc (suc (suc (suc (suc n)))))) h = absurd (omega (arith, ltb-false 5 (suc (suc (suc (suc (suc (suc n)))))) (none (eqb (suc (suc (suc (suc (suc (suc n)))))) 0) (ltb 5 (suc (suc (suc (suc (suc (suc n))))))) h .1)))
 
 -- a tag that may come after the last one
-record Tagged (last tag : ℕ) : Type 0 where
-  known : tag ≡ tagIs (kindOf tag)
-  rises : last ≤ tag
-  first : last ≡ 0 → tag ≡ 1
-  once : 0 < last → tag ≢ 1
+pub record Tagged (last tag : ℕ) : Type 0 where
+  pub known : tag ≡ tagIs (kindOf tag)
+  pub rises : last ≤ tag
+  pub first : last ≡ 0 → tag ≡ 1
+  pub once : 0 < last → tag ≢ 1
 
 tagged : (last tag : ℕ) → strangeTag last tag ≡ false → Tagged last tag
 tagged last tag h =
@@ -83,17 +83,17 @@ tagged last tag h =
     twice false y g p q l e = omega (arith, p refl)
 
 -- ---- a field that is read
-record ReadAs (j : Job) (s : List ℕ) (f : Field) (n : ℕ) (k : Kind) : Type 0 where
-  kind-is : kindOf (tagOf s) ≡ k
-  is : f ≡ fieldIn k (valueOf s)
-  size : n ≡ HEADER + sizeOf k
-  header : tornHeader s ≡ false
-  tag : strangeTag (j .last) (tagOf s) ≡ false
-  whole : tornValue k s ≡ false
-  bits : strangeBits (fieldIn k (valueOf s)) ≡ false
-  room : crowded k j ≡ false
+pub record ReadAs (j : Job) (s : List ℕ) (f : Field) (n : ℕ) (k : Kind) : Type 0 where
+  pub kind-is : kindOf (tagOf s) ≡ k
+  pub is : f ≡ fieldIn k (valueOf s)
+  pub size : n ≡ HEADER + sizeOf k
+  pub header : tornHeader s ≡ false
+  pub tag : strangeTag (j .last) (tagOf s) ≡ false
+  pub whole : tornValue k s ≡ false
+  pub bits : strangeBits (fieldIn k (valueOf s)) ≡ false
+  pub room : crowded k j ≡ false
 
-read-as : (j : Job) (s : List ℕ) (f : Field) (n : ℕ) → fieldOf j s ≡ reading.Read f n → ReadAs j s f n (kindOf (tagOf s))
+pub read-as : (j : Job) (s : List ℕ) (f : Field) (n : ℕ) → fieldOf j s ≡ reading.Read f n → ReadAs j s f n (kindOf (tagOf s))
 unfolding fieldOf bodyOf
 read-as j s f n e =
     let k : Kind = kindOf (tagOf s) in
@@ -107,26 +107,26 @@ read-as j s f n e =
     record { kind-is = refl; is = sym z; size = sym y; header = a .0; tag = b .0; whole = c .0; bits = d .0; room = g .0 }
 
 -- ---- the layout
-record Lay (j : Job) : Type 0 where
-  fresh : j .last ≡ 0 → (j .at ≡ 0) × (j .points ≡ 0)
-  early : 0 < j .last → j .last ≤ 2 → j .at ≡ fieldAt (j .points)
-  late : 2 < j .last → fieldAt (j .points) ≤ j .at
+pub record Lay (j : Job) : Type 0 where
+  pub fresh : j .last ≡ 0 → (j .at ≡ 0) × (j .points ≡ 0)
+  pub early : 0 < j .last → j .last ≤ 2 → j .at ≡ fieldAt (j .points)
+  pub late : 2 < j .last → fieldAt (j .points) ≤ j .at
 
-lay-fresh : Lay fresh
+pub lay-fresh : Lay fresh
 lay-fresh = record { fresh = λ h. (refl, refl); early = λ h l. absurd (omega arith); late = λ h. absurd (omega arith) }
 
-tag-of : (j : Job) (s : List ℕ) (f : Field) (n : ℕ) (k : Kind) → ReadAs j s f n k → (tagOf s ≡ tagIs k) × Tagged (j .last) (tagOf s)
+pub tag-of : (j : Job) (s : List ℕ) (f : Field) (n : ℕ) (k : Kind) → ReadAs j s f n k → (tagOf s ≡ tagIs k) × Tagged (j .last) (tagOf s)
 tag-of j s f n k r = let t = tagged (j .last) (tagOf s) (r .tag) in (t .known ∙ ap tagIs (r .kind-is), t)
 
 module _ (j : Job) (s : List ℕ) (l : Lay j) where
-  after-points : (k : Kind) → 3 ≤ tagIs k → (tagOf s ≡ tagIs k) × Tagged (j .last) (tagOf s) → fieldAt (j .points) ≤ j .at
+  pub after-points : (k : Kind) → 3 ≤ tagIs k → (tagOf s ≡ tagIs k) × Tagged (j .last) (tagOf s) → fieldAt (j .points) ≤ j .at
   after-points k h t = go (decLt 2 (j .last))
     where
       go : Dec (2 < j .last) → fieldAt (j .points) ≤ j .at
       go (yes g) = l .late g
       go (no g) = let nz : j .last ≢ 0 = λ z. omega (arith, h, t .0, t .1 .first z) in omega (arith, l .early (omega (arith, nz)) (omega arith))
 
-  lay-past : (f : Field) (n : ℕ) (k : Kind) → ReadAs j s f n k → Lay (past f n j)
+  pub lay-past : (f : Field) (n : ℕ) (k : Kind) → ReadAs j s f n k → Lay (past f n j)
   lay-past f n k r = subst (λ (g : Field). Lay (past g n j)) (sym (r .is)) (go k (tag-of j s f n k r) (r .size))
     where
       go : (k : Kind) → (tagOf s ≡ tagIs k) × Tagged (j .last) (tagOf s) → n ≡ HEADER + sizeOf k → Lay (past (fieldIn k (valueOf s)) n j)
@@ -166,7 +166,7 @@ more p v a d h e k l = go (eqb k p) refl
     go false q = h k (omega (arith, l, eqb-false k p q))
 
 -- a number of a value, in the job
-from-job : (n at k o : ℕ) (bytes : List ℕ) → at ≡ fieldAt k → le n o (drop HEADER (drop at bytes)) ≡ le n (valueAt k + o) bytes
+pub from-job : (n at k o : ℕ) (bytes : List ℕ) → at ≡ fieldAt k → le n o (drop HEADER (drop at bytes)) ≡ le n (valueAt k + o) bytes
 from-job n at k o bytes e = shifted n HEADER o (drop at bytes) ∙ shifted n at (HEADER + o) bytes ∙ ap (λ (x : ℕ). le n x bytes) (omega (arith, e))
 
 module _ (bytes : List ℕ) (j : Job) (w ss js : List ℕ) (t : Stands bytes j w) where
@@ -190,8 +190,8 @@ module _ (bytes : List ℕ) (j : Job) (w ss js : List ℕ) (t : Stands bytes j w
           let p = j .points in
           let nz : j .last ≢ 0 = λ o. omega (arith, g .0, g .1 .first o) in
           let e : j .at ≡ fieldAt p = t .lay .early (omega (arith, nz)) (omega (arith, g .0, g .1 .rises)) in
-          let xs = write (pt X) p (wordAt 0 v) ∷ write (pt Y) p (wordAt Y-AT v) ∷ write (pt NEXT) p (le 2 NEXT-AT v) ∷ write (pt PREV) p (le 2 PREV-AT v) ∷ write (pt REC) p (le 2 RECORD-AT v) ∷ [] in
-          let q : view (onWords w xs) ≡ onStore (view w) xs = view-writes w xs (t .long) (l, (l, (l, (l, (l, tt))))) in
+          let xs = write (pt X) p (wordAt 0 v) ∷ write (pt Y) p (wordAt Y-AT v) ∷ write (pt NEXT) p (le 2 NEXT-AT v) ∷ write (pt PREV) p (le 2 PREV-AT v) ∷ write (pt REC) p (le 2 RECORD-AT v) ∷ write (pt Z) p (depthAt Z-AT v) ∷ [] in
+          let q : view (onWords w xs) ≡ onStore (view w) xs = view-writes w xs (t .long) (l, (l, (l, (l, (l, (l, tt)))))) in
           record {
             lay = y;
             inside = i;
@@ -202,6 +202,7 @@ module _ (bytes : List ℕ) (j : Job) (w ss js : List ℕ) (t : Stands bytes j w
               next = more p (le 2 NEXT-AT v) (view w (pt NEXT)) (λ k. le 2 (valueAt k + NEXT-AT) bytes) (t .numbers .next) (from-job 2 (j .at) p NEXT-AT bytes e);
               prev = more p (le 2 PREV-AT v) (view w (pt PREV)) (λ k. le 2 (valueAt k + PREV-AT) bytes) (t .numbers .prev) (from-job 2 (j .at) p PREV-AT bytes e);
               rec = more p (le 2 RECORD-AT v) (view w (pt REC)) (λ k. le 2 (valueAt k + RECORD-AT) bytes) (t .numbers .rec) (from-job 2 (j .at) p RECORD-AT bytes e);
+              z = more p (depthAt Z-AT v) (view w (pt Z)) (λ k. depthAt (valueAt k + Z-AT) bytes) (t .numbers .z) (ap (raised 0) (from-job 4 (j .at) p Z-AT bytes e));
             });
           }
       go kind.Record g i y l =
@@ -209,7 +210,7 @@ module _ (bytes : List ℕ) (j : Job) (w ss js : List ℕ) (t : Stands bytes j w
           let xs = recordRead p (le 1 0 v) (le 2 OWNER-AT v) (le 2 FIRST-AT v) in
           let q : view (onWords w xs) ≡ onStore (view w) xs = view-writes w xs (t .long) (l, (l, (l, (l, tt)))) in
           let b = t .numbers in
-          record { lay = y; inside = i; long = omega (arith, t .long, length-writes w xs); numbers = subst (AtBytes bytes (j .points)) (sym q) (record { x = b .x; y = b .y; next = b .next; prev = b .prev; rec = b .rec }) }
+          record { lay = y; inside = i; long = omega (arith, t .long, length-writes w xs); numbers = subst (AtBytes bytes (j .points)) (sym q) (record { x = b .x; y = b .y; next = b .next; prev = b .prev; rec = b .rec; z = b .z }) }
       go kind.Segment g i y l = record { lay = y; inside = i; long = t .long; numbers = t .numbers }
       go kind.Join g i y l = record { lay = y; inside = i; long = t .long; numbers = t .numbers }
 
@@ -248,7 +249,7 @@ stands-fill bytes w ss js l = go (eqb (length bytes) 0)
           lay = lay-fresh;
           inside = omega arith;
           long = l;
-          numbers = record { x = λ k h. absurd (omega arith); y = λ k h. absurd (omega arith); next = λ k h. absurd (omega arith); prev = λ k h. absurd (omega arith); rec = λ k h. absurd (omega arith) };
+          numbers = record { x = λ k h. absurd (omega arith); y = λ k h. absurd (omega arith); next = λ k h. absurd (omega arith); prev = λ k h. absurd (omega arith); rec = λ k h. absurd (omega arith); z = λ k h. absurd (omega arith) };
         })
 
 -- the numbers of a job that was read stand where they were read
@@ -274,6 +275,6 @@ standing bytes w ss js l j v ts ks e = go (fillOf bytes w ss js) (stands-fill by
         rw (← a, ← b)
         (record {
           inside = room i (t .lay) (t .inside);
-          numbers = subst (AtBytes bytes (i .points)) (sym c) (record { x = n .x; y = n .y; next = n .next; prev = n .prev; rec = n .rec });
+          numbers = subst (AtBytes bytes (i .points)) (sym c) (record { x = n .x; y = n .y; next = n .next; prev = n .prev; rec = n .rec; z = n .z });
         })
     go (end (Refused x) u us ls) t d = absurd (let z : _≡_ {A = ℕ} 0 1 = cc in omega arith)

@@ -1,11 +1,11 @@
 -- What reading leaves out: words that were there before, and what is within the limits once a job is read.
-use Prim.Native.Nat.{ℕ, _*_, _≤_, _<_}
+use Prim.Native.Nat.{ℕ, _*_, _^_, _≤_, _<_}
 use mathlib.Core.Path.{_≡_}
 use mathlib.Core.List.{List}
 use lib.ListN.{getD}
 use Rattle.job.specs.Job.{Within}
 use Rattle.job.specs.declared.Job.{Job}
-use Rattle.store.specs.Field.{PointCol, pt}
+use Rattle.store.specs.Field.{PointCol, pt, Z}
 use Rattle.store.specs.Words.{view}
 use Rattle.store.specs.Named.{settingsOf, pointsOf, recordsOf, flagsOf, ownerOf, firstOf, keptOf}
 use Rattle.reading.specs.declared.fill.Outcome.the-variants.{Ok, Refused}
@@ -38,6 +38,8 @@ pub record Ignores (bytes : List ℕ) : Type 0 where
 pub record Bits (w : List ℕ) : Type 0 where
   pub settings : settingsOf w ≤ 3
   pub flags : (i : ℕ) → i < recordsOf w → flagsOf w i ≤ 3
+  -- a z has 32 bits, whatever stands in the job
+  pub depths : (k : ℕ) → k < pointsOf w → view w (pt Z) k < 2 ^ 32
 
 -- each record keeps whether the job has a ring for it
 pub record Unringed (w : List ℕ) : Type 0 where

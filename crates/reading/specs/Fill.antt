@@ -13,7 +13,7 @@ use Rattle.job.specs.declared.field.Field.{Field}
 use Rattle.job.specs.declared.field.Field.the-variants.{Settings, Point, Record, Segment, Join}
 use Rattle.job.specs.declared.field.Reading.{Reading}
 use Rattle.job.specs.declared.field.Reading.the-variants as reading
-use Rattle.store.specs.Field.{pt, rc, X, Y, NEXT, PREV, REC, FLAGS, OWNER, FIRST, REASON, NONE}
+use Rattle.store.specs.Field.{pt, rc, X, Y, NEXT, PREV, REC, Z, FLAGS, OWNER, FIRST, REASON, NONE}
 use Rattle.store.specs.Words.{Write, write, onWords}
 use Rattle.store.specs.Reason.{NO-RING}
 use Rattle.reading.specs.declared.fill.Outcome.{Outcome}
@@ -23,10 +23,10 @@ use Rattle.reading.specs.declared.fill.Outcome.the-variants.{Ok, Refused
 pub data ReadEnd : Type 0 where
   end : Outcome → List ℕ → List ℕ → List ℕ → ReadEnd
 
--- point i, a word in each of five columns
-abbrev pub putPoint : ℕ → ℕ → ℕ → ℕ → ℕ → ℕ → List ℕ → List ℕ
-putPoint i x y next prev rec w =
-    onWords w (write (pt X) i x ∷ write (pt Y) i y ∷ write (pt NEXT) i next ∷ write (pt PREV) i prev ∷ write (pt REC) i rec ∷ [])
+-- point i, a word in each of six columns
+abbrev pub putPoint : ℕ → ℕ → ℕ → ℕ → ℕ → ℕ → ℕ → List ℕ → List ℕ
+putPoint i x y next prev rec z w =
+    onWords w (write (pt X) i x ∷ write (pt Y) i y ∷ write (pt NEXT) i next ∷ write (pt PREV) i prev ∷ write (pt REC) i rec ∷ write (pt Z) i z ∷ [])
 
 -- why a record has no ring, as the job says it: "no ring in the job", or 0 where it has a first point
 abbrev pub reasonRead : ℕ → ℕ
@@ -46,8 +46,8 @@ putJoin i a b js = set (set js (2 * i) a) (2 * i + 1) b
 -- a field of n bytes goes to the next free place of its kind
 abbrev pub placed : Field → ℕ → Job → List ℕ → List ℕ → List ℕ → ReadEnd
 placed (Settings bits) n j w ss js = end (Ok (past (Settings bits) n j)) w ss js
-placed (Point x y next prev rec) n j w ss js =
-    end (Ok (past (Point x y next prev rec) n j)) (putPoint (j .points) x y next prev rec w) ss js
+placed (Point x y next prev rec z) n j w ss js =
+    end (Ok (past (Point x y next prev rec z) n j)) (putPoint (j .points) x y next prev rec z w) ss js
 placed (Record flags owner first) n j w ss js =
     end (Ok (past (Record flags owner first) n j)) (putRecord (j .records) flags owner first w) ss js
 placed (Segment p) n j w ss js = end (Ok (past (Segment p) n j)) w (set ss (j .segments) p) js

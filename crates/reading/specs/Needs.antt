@@ -18,7 +18,7 @@ pub record Space (w ss js : List ℕ) : Type 0 where
 -- a place is free for the field
 abbrev pub Room : Field → Job → Type 0
 Room (Settings bits) j = Unit {0}
-Room (Point x y next prev rec) j = j .points < POINTS
+Room (Point x y next prev rec z) j = j .points < POINTS
 Room (Record flags owner first) j = j .records < RECORDS
 Room (Segment p) j = j .segments < SEGMENTS
 Room (Join a b) j = j .joins < JOINS

@@ -7,8 +7,8 @@ use lib.Dec.{ltb, eqb}
 use lib.ListN.{length}
 use Rattle.numbers.specs.Bytes.{le}
 use Rattle.job.specs.Limits.{POINTS}
-use Rattle.job.specs.Coordinate.{wordAt}
-use Rattle.job.specs.Field.{HEADER, Y-AT, NEXT-AT, PREV-AT, RECORD-AT, tagOf, lengthOf, sizeOf}
+use Rattle.job.specs.Coordinate.{wordAt, depthAt}
+use Rattle.job.specs.Field.{HEADER, Y-AT, NEXT-AT, PREV-AT, RECORD-AT, Z-AT, tagOf, lengthOf, sizeOf}
 use Rattle.job.specs.Job.{past}
 use Rattle.job.specs.declared.Job.{Job}
 use Rattle.job.specs.declared.field.Field.the-variants.{Point}
@@ -28,11 +28,11 @@ pointNext j s =
 
 -- point i by its value's bytes
 unfoldable pub putValue : List ℕ → ℕ → List ℕ → List ℕ
-putValue v i w = putPoint i (wordAt 0 v) (wordAt Y-AT v) (le 2 NEXT-AT v) (le 2 PREV-AT v) (le 2 RECORD-AT v) w
+putValue v i w = putPoint i (wordAt 0 v) (wordAt Y-AT v) (le 2 NEXT-AT v) (le 2 PREV-AT v) (le 2 RECORD-AT v) (depthAt Z-AT v) w
 
 -- past a point's field, whatever its numbers
 abbrev pub pastPoint : Job → Job
-pastPoint j = past (Point 0 0 0 0 0) POINT-BYTES j
+pastPoint j = past (Point 0 0 0 0 0 0) POINT-BYTES j
 
 -- a turn from the state j and the words w to n and v, whatever the lists
 pub record PointTurn (bytes : List ℕ) (j : Job) (w : List ℕ) (n : Job) (v : List ℕ) : Type 0 where

@@ -4,11 +4,11 @@ use mathlib.Core.Path.{_≡_}
 use mathlib.Core.List.{List}
 use lib.ListN.{length}
 use Rattle.numbers.specs.Bytes.{le}
-use Rattle.job.specs.Coordinate.{wordAt}
-use Rattle.job.specs.Field.{HEADER, Y-AT, NEXT-AT, PREV-AT, RECORD-AT, sizeOf}
+use Rattle.job.specs.Coordinate.{wordAt, depthAt}
+use Rattle.job.specs.Field.{HEADER, Y-AT, NEXT-AT, PREV-AT, RECORD-AT, Z-AT, sizeOf}
 use Rattle.job.specs.declared.Job.{Job}
 use Rattle.job.specs.declared.field.Kind.the-variants as kind
-use Rattle.store.specs.Field.{pt, X, Y, NEXT, PREV, REC}
+use Rattle.store.specs.Field.{pt, X, Y, NEXT, PREV, REC, Z}
 use Rattle.store.specs.Words.{Store, view}
 
 -- the field of point k begins here, and its value here
@@ -25,6 +25,7 @@ pub record AtBytes (bytes : List ℕ) (n : ℕ) (s : Store) : Type 0 where
   pub next : (k : ℕ) → k < n → s (pt NEXT) k ≡ le 2 (valueAt k + NEXT-AT) bytes
   pub prev : (k : ℕ) → k < n → s (pt PREV) k ≡ le 2 (valueAt k + PREV-AT) bytes
   pub rec : (k : ℕ) → k < n → s (pt REC) k ≡ le 2 (valueAt k + RECORD-AT) bytes
+  pub z : (k : ℕ) → k < n → s (pt Z) k ≡ depthAt (valueAt k + Z-AT) bytes
 
 -- of a job that was read: each point's field is in the job, and the words have its numbers
 pub record Standing (bytes : List ℕ) (j : Job) (w : List ℕ) : Type 0 where

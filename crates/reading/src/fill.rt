@@ -33,15 +33,25 @@ pub(crate) fn put(w: &mut [u32], c: Col, i: usize, v: u32)
     store::set(w, c, i, v as usize);
 }
 
-pub(crate) fn put_point(w: &mut [u32], i: usize, x: u32, y: u32, next: u32, prev: u32, rec: u32)
+pub(crate) fn put_point(
+    w: &mut [u32],
+    i: usize,
+    x: u32,
+    y: u32,
+    next: u32,
+    prev: u32,
+    rec: u32,
+    z: u32,
+)
     requires { ⌜ (BLOCK ≤ length (now w)) × (i < limit.POINTS) ⌝ }
-    ensures { λ _. ⌜ now (w .exit) ≡ putPoint i x y next prev rec (now (w .entry)) ⌝ }
+    ensures { λ _. ⌜ now (w .exit) ≡ putPoint i x y next prev rec z (now (w .entry)) ⌝ }
 {
     put(w, Col::X, i, x);
     put(w, Col::Y, i, y);
     put(w, Col::Next, i, next);
     put(w, Col::Prev, i, prev);
     put(w, Col::Rec, i, rec);
+    put(w, Col::Z, i, z);
 }
 
 // Why a record has no ring: there is none in the job.
@@ -101,8 +111,9 @@ fn place(
             next,
             prev,
             record,
+            z,
         } => {
-            put_point(w, j.points, x, y, next, prev, record);
+            put_point(w, j.points, x, y, next, prev, record, z);
             Outcome::Ok(j.past(f, n))
         }
         Field::Record {

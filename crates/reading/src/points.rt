@@ -6,6 +6,7 @@ use job::field::NEXT_AT;
 use job::field::PREV_AT;
 use job::field::RECORD_AT;
 use job::field::Y_AT;
+use job::field::Z_AT;
 ghost use mathlib.Core.Path.{_≡_};
 ghost use Prim.Native.Nat.{_+_, _<_, _≤_, _^_};
 ghost use lib.ListN.{length};
@@ -16,8 +17,8 @@ ghost use Rattle.job.specs.declared.field.Kind.the-variants as kind;
 ghost use Rattle.store.specs.Field.{BLOCK};
 ghost use Rattle.reading.specs.Points.{POINT-BYTES, pointNext, putValue, pastPoint, PointTurns};
 
-// The bytes of a point's field: its value has 14.
-const POINT_BYTES: usize = HEADER + 14;
+// The bytes of a point's field: its value has 18.
+const POINT_BYTES: usize = HEADER + 18;
 
 // Whether a point's field that a turn would place begins the part.
 fn point_next(part: &[u8], j: Job) -> bool
@@ -28,7 +29,7 @@ fn point_next(part: &[u8], j: Job) -> bool
     }
     let tag = part[0];
     let says = numbers::read_u16(part, 1);
-    (tag == 2) & (says == 14) & (0 < j.last) & (j.last < 3) & (j.points < Job::POINTS)
+    (tag == 2) & (says == 18) & (0 < j.last) & (j.last < 3) & (j.points < Job::POINTS)
 }
 
 // Point i, by its value's bytes.
@@ -41,7 +42,8 @@ fn put_value(v: &[u8], i: usize, w: &mut [u32])
     let next = numbers::read_u16(v, NEXT_AT);
     let prev = numbers::read_u16(v, PREV_AT);
     let rec = numbers::read_u16(v, RECORD_AT);
-    put_point(w, i, x, y, next, prev, rec);
+    let z = numbers::read_raised(v, Z_AT, 0);
+    put_point(w, i, x, y, next, prev, rec, z);
 }
 
 // Past a point's field.

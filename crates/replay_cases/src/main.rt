@@ -97,7 +97,7 @@ fn double(job: &mut [u8], at: usize, size: usize) {
 // The field before a place once more; a point's next and prev are one higher.
 fn again(job: &mut [u8], at: usize, size: usize) -> usize {
     double(job, at, size);
-    if size == 17 {
+    if size == 21 {
         raise(job, further(at, 11));
         raise(job, further(at, 13));
         return further(at, size);

@@ -129,16 +129,16 @@ module _ (w ss : List ℕ) (m : ℕ) (js : List ℕ) (n : ℕ) (c : Converting w
 
   abbrev drawnPoint : ℕ → ℕ → Field
   drawnPoint i p =
-      field.Point (wordOf (cornerAt d i p .x)) (wordOf (cornerAt d i p .y)) (firstNumber d i + nextPlace p (lengthAt d i)) (firstNumber d i + prevPlace p (lengthAt d i)) i
+      field.Point (wordOf (cornerAt d i p .x)) (wordOf (cornerAt d i p .y)) (firstNumber d i + nextPlace p (lengthAt d i)) (firstNumber d i + prevPlace p (lengthAt d i)) i (cornerAt d i p .z)
 
   point-is : (i p : ℕ) → i < recordsOf w → p < length (ring i) → drawnPoint i p ≡ cornerField w (numbersOf w) i (getD (ring i) p 0)
   unfolding cornerField
   point-is i p h l =
-      five (ap (λ (q : Point). wordOf (q .x)) (corner-is i p h l) ∙ word-back (view w (pt X) (getD (ring i) p 0))) (ap (λ (q : Point). wordOf (q .y)) (corner-is i p h l) ∙ word-back (view w (pt Y) (getD (ring i) p 0)))
-      (ap (λ (k : ℕ). firstNumber d i + nextPlace p k) (length-is i h) ∙ sym (next-number i p h l)) (ap (λ (k : ℕ). firstNumber d i + prevPlace p k) (length-is i h) ∙ sym (prev-number i p h l))
+      all-six (ap (λ (q : Point). wordOf (q .x)) (corner-is i p h l) ∙ word-back (view w (pt X) (getD (ring i) p 0))) (ap (λ (q : Point). wordOf (q .y)) (corner-is i p h l) ∙ word-back (view w (pt Y) (getD (ring i) p 0)))
+      (ap (λ (k : ℕ). firstNumber d i + nextPlace p k) (length-is i h) ∙ sym (next-number i p h l)) (ap (λ (k : ℕ). firstNumber d i + prevPlace p k) (length-is i h) ∙ sym (prev-number i p h l)) (ap (λ (q : Point). q .z) (corner-is i p h l))
     where
-      five : {x x′ y y′ a a′ b b′ : ℕ} → x ≡ x′ → y ≡ y′ → a ≡ a′ → b ≡ b′ → field.Point x y a b i ≡ field.Point x′ y′ a′ b′ i
-      five e f g h = cc
+      all-six : {x x′ y y′ a a′ b b′ z z′ : ℕ} → x ≡ x′ → y ≡ y′ → a ≡ a′ → b ≡ b′ → z ≡ z′ → field.Point x y a b i z ≡ field.Point x′ y′ a′ b′ i z′
+      all-six e f g h k = cc
 
   point-field : (i p : ℕ) → i < recordsOf w → p < length (ring i) → pointField (sheetOf d) (firstNumber d i + p) ≡ cornerField w (numbersOf w) i (getD (ring i) p 0)
   unfolding sheetOf

@@ -11,7 +11,7 @@ use Rattle.rings.specs.Walk.{run}
 use Rattle.job.specs.Limits.{POINTS}
 use Rattle.job.specs.declared.field.Field.{Field}
 use Rattle.job.specs.declared.field.Field.the-variants.{Settings, Point, Record, Segment, Join}
-use Rattle.store.specs.Field.{pt, X, Y, NONE}
+use Rattle.store.specs.Field.{pt, X, Y, Z, NONE}
 use Rattle.store.specs.Words.{view}
 use Rattle.store.specs.Named.{settingsOf, recordsOf, nextOf, prevOf, flagsOf, ownerOf, firstOf, ringOf}
 use Rattle.store.specs.Sound.{ringAt}
@@ -94,10 +94,10 @@ pair-on t l s a b q u h e d f = laid-on s q u h (f ∙ rw (e, d))
 
 -- ---- points
 
-pub corner-poured : (w t : List ℕ) (i p at x y next prev r : ℕ) (o u : List ℕ) → x ≡ view w (pt X) p → y ≡ view w (pt Y) p → next ≡ getD t (nextOf w p) 0 → prev ≡ getD t (prevOf w p) 0
-    → poured r u ≡ pour (bytesOf (Point x y next prev i)) at o → poured r u ≡ pour (bytesOf (cornerField w t i p)) at o
+pub corner-poured : (w t : List ℕ) (i p at x y next prev z r : ℕ) (o u : List ℕ) → x ≡ view w (pt X) p → y ≡ view w (pt Y) p → next ≡ getD t (nextOf w p) 0 → prev ≡ getD t (prevOf w p) 0 → z ≡ view w (pt Z) p
+    → poured r u ≡ pour (bytesOf (Point x y next prev i z)) at o → poured r u ≡ pour (bytesOf (cornerField w t i p)) at o
 unfolding cornerField
-corner-poured w t i p at x y next prev r o u e f g h k = k ∙ rw (e, f, g, h)
+corner-poured w t i p at x y next prev z r o u e f g h j k = k ∙ rw (e, f, g, h, j)
 
 -- the points from p on are yet to be written
 pub record RingLaid (f : ℕ → Field) (w : List ℕ) (a at : ℕ) (t₀ : List ℕ) (k p left : ℕ) (t : List ℕ) : Type 0 where

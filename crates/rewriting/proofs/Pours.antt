@@ -51,11 +51,12 @@ module _ (at a : ℕ) (t u : List ℕ) where
       (pour-more (3 ∷ 5 ∷ 0 ∷ flags % 256 ∷ []) (lowBytes 2 owner) t x y at b c (pour-more (3 ∷ lowBytes 2 5) (flags % 256 ∷ []) t u x at a b e f) g) h
       ∙ ap (λ (k : ℕ). pour (3 ∷ 5 ∷ 0 ∷ k % 256 ∷ (lowBytes 2 owner ++ lowBytes 2 first)) at t) (sym (div-one flags))
 
-  pub point-poured : (x y next prev i b c d e f : ℕ) (o₁ o₂ o₃ o₄ o₅ : List ℕ) → poured a u ≡ pour (2 ∷ lowBytes 2 14) at t → poured b o₁ ≡ pour (coordinateBytes x) a u → poured c o₂ ≡ pour (coordinateBytes y) b o₁
-      → poured d o₃ ≡ pour (lowBytes 2 next) c o₂ → poured e o₄ ≡ pour (lowBytes 2 prev) d o₃ → poured f o₅ ≡ pour (lowBytes 2 i) e o₄ → poured f o₅ ≡ pour (bytesOf (Point x y next prev i)) at t
-  point-poured x y next prev i b c d e f o₁ o₂ o₃ o₄ o₅ h₁ h₂ h₃ h₄ h₅ h₆ =
-      pour-more ((((2 ∷ lowBytes 2 14) ++ coordinateBytes x) ++ coordinateBytes y) ++ lowBytes 2 next ++ lowBytes 2 prev) (lowBytes 2 i) t o₄ o₅ at e f
-      (pour-more ((((2 ∷ lowBytes 2 14) ++ coordinateBytes x) ++ coordinateBytes y) ++ lowBytes 2 next) (lowBytes 2 prev) t o₃ o₄ at d e
-      (pour-more (((2 ∷ lowBytes 2 14) ++ coordinateBytes x) ++ coordinateBytes y) (lowBytes 2 next) t o₂ o₃ at c d
-      (pour-more ((2 ∷ lowBytes 2 14) ++ coordinateBytes x) (coordinateBytes y) t o₁ o₂ at b c
-      (pour-more (2 ∷ lowBytes 2 14) (coordinateBytes x) t u o₁ at a b h₁ h₂) h₃) h₄) h₅) h₆
+  pub point-poured : (x y next prev i z b c d e f g : ℕ) (o₁ o₂ o₃ o₄ o₅ o₆ : List ℕ) → poured a u ≡ pour (2 ∷ lowBytes 2 18) at t → poured b o₁ ≡ pour (coordinateBytes x) a u → poured c o₂ ≡ pour (coordinateBytes y) b o₁
+      → poured d o₃ ≡ pour (lowBytes 2 next) c o₂ → poured e o₄ ≡ pour (lowBytes 2 prev) d o₃ → poured f o₅ ≡ pour (lowBytes 2 i) e o₄ → poured g o₆ ≡ pour (lowBytes 4 z) f o₅ → poured g o₆ ≡ pour (bytesOf (Point x y next prev i z)) at t
+  point-poured x y next prev i z b c d e f g o₁ o₂ o₃ o₄ o₅ o₆ h₁ h₂ h₃ h₄ h₅ h₆ h₇ =
+      pour-more ((((2 ∷ lowBytes 2 18) ++ coordinateBytes x) ++ coordinateBytes y) ++ lowBytes 2 next ++ lowBytes 2 prev ++ lowBytes 2 i) (lowBytes 4 z) t o₅ o₆ at f g
+      (pour-more ((((2 ∷ lowBytes 2 18) ++ coordinateBytes x) ++ coordinateBytes y) ++ lowBytes 2 next ++ lowBytes 2 prev) (lowBytes 2 i) t o₄ o₅ at e f
+      (pour-more ((((2 ∷ lowBytes 2 18) ++ coordinateBytes x) ++ coordinateBytes y) ++ lowBytes 2 next) (lowBytes 2 prev) t o₃ o₄ at d e
+      (pour-more (((2 ∷ lowBytes 2 18) ++ coordinateBytes x) ++ coordinateBytes y) (lowBytes 2 next) t o₂ o₃ at c d
+      (pour-more ((2 ∷ lowBytes 2 18) ++ coordinateBytes x) (coordinateBytes y) t o₁ o₂ at b c
+      (pour-more (2 ∷ lowBytes 2 18) (coordinateBytes x) t u o₁ at a b h₁ h₂) h₃) h₄) h₅) h₆) h₇

@@ -26,9 +26,9 @@ pub record Rewrites : Type 0 where
   pub accepted : (bytes x : List ℕ) → rewritten bytes ≡ some x → (n m : ℕ) → LENGTH ≤ n → rewriteOf bytes n m ≡ writtenIn x n m
   -- no other job is, and the tray has no say in its refusal
   pub others : (bytes : List ℕ) → rewritten bytes ≡ none → (n : ℕ) → LENGTH ≤ n → (x : Refusal) × ((m : ℕ) → rewriteOf bytes n m ≡ notRewritten x n m)
-  -- 41,988 bytes always suffice: a job that is written is no longer
+  -- 50,180 bytes always suffice: a job that is written is no longer
   pub suffices : (bytes x : List ℕ) → rewritten bytes ≡ some x → (n m : ℕ) → LENGTH ≤ n → LONGEST ≤ m → rewriteOf bytes n m ≡ rewrote (Bytes (length x)) (replicate n 0) (padded m x)
   -- an answer's bytes are in the tray, and no more than that
   pub fits : (bytes : List ℕ) (n m : ℕ) → BytesWithin (rewriteOf bytes n m .answer) (min m LONGEST)
-  -- 42,005 bytes decide: what follows them changes nothing
+  -- 50,201 bytes decide: what follows them changes nothing
   pub decided : (bytes : List ℕ) (n m : ℕ) → rewriteOf (take DECIDES bytes) n m ≡ rewriteOf bytes n m

@@ -8,7 +8,7 @@ use Rattle.rings.specs.Count.{table}
 use Rattle.job.specs.Limits.{POINTS}
 use Rattle.job.specs.declared.field.Field.{Field}
 use Rattle.job.specs.declared.field.Field.the-variants.{Settings, Point, Record, Segment, Join}
-use Rattle.store.specs.Field.{pt, X, Y, NONE}
+use Rattle.store.specs.Field.{pt, X, Y, Z, NONE}
 use Rattle.store.specs.Words.{view}
 use Rattle.store.specs.Named.{settingsOf, recordsOf, nextOf, prevOf, flagsOf, ownerOf, firstOf}
 use Rattle.store.specs.Sound.{ringAt}
@@ -18,7 +18,7 @@ use Rattle.rewriting.specs.Numbers.{numberTo}
 module _ (w t : List ℕ) where
   -- point p, on the ring of record i
   unfoldable pub cornerField : ℕ → ℕ → Field
-  cornerField i p = Point (view w (pt X) p) (view w (pt Y) p) (getD t (nextOf w p) 0) (getD t (prevOf w p) 0) i
+  cornerField i p = Point (view w (pt X) p) (view w (pt Y) p) (getD t (nextOf w p) 0) (getD t (prevOf w p) 0) i (view w (pt Z) p)
 
   -- the points of the rings of the records below i
   unfoldable pub cornerFields : ℕ → List Field

@@ -83,17 +83,19 @@ pub(crate) fn put_point(
     next: usize,
     prev: usize,
     i: usize,
+    z: usize,
     out: &mut [u8],
     at: usize,
 ) -> usize
-    ensures { λ r. ⌜ poured r (now (out .exit)) ≡ pour (bytesOf (Point x y next prev i)) at (now (out .entry)) ⌝ }
+    ensures { λ r. ⌜ poured r (now (out .exit)) ≡ pour (bytesOf (Point x y next prev i z)) at (now (out .entry)) ⌝ }
 {
-    let a = put_header(2, 14, out, at);
+    let a = put_header(2, 18, out, at);
     let b = put_coordinate(x, out, a);
     let c = put_coordinate(y, out, b);
     let d = put_u16(next, out, c);
     let e = put_u16(prev, out, d);
-    put_u16(i, out, e)
+    let f = put_u16(i, out, e);
+    put_u32(z, out, f)
 }
 
 pub(crate) fn put_record(

@@ -30,7 +30,7 @@ ghost use Rattle.rewriting.specs.Stages.{Lists, jobWritten, rewrittenAt,
 
 // A tray of so many bytes is never too small: settings once, and as many of each other field as there may be.
 pub const LONGEST: usize = 4
-    + 17 * Job::POINTS
+    + 21 * Job::POINTS
     + 8 * Job::RECORDS
     + 5 * Job::SEGMENTS
     + 7 * Job::JOINS;

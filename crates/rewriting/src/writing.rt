@@ -44,7 +44,8 @@ fn put_corner(w: &[u32], numbers: &[usize], i: usize, p: usize, out: &mut [u8], 
     let y = read(w, Col::Y, p);
     let next = number_at(w, numbers, Col::Next, p);
     let prev = number_at(w, numbers, Col::Prev, p);
-    put_point(x as u32, y as u32, next, prev, i, out, at)
+    let z = read(w, Col::Z, p);
+    put_point(x as u32, y as u32, next, prev, i, z, out, at)
 }
 
 // The points of the ring from a, which is record i's.

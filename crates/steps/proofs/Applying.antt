@@ -124,16 +124,16 @@ module _ (w w₁ w₂ w₃ : List ℕ) (i : ℕ) where
   went-to p m d em e₁ e₂ e₃ = rw (e₃, e₂, e₁, em)
 
 module _ (w w₁ w₂ : List ℕ) (i : ℕ) where
-  pub put-in : (k vx vy r p n : ℕ) → w₁ ≡ onWords w (pointWrites k vx vy r) → w₂ ≡ onWords w₁ (linkWrites p k n) → w₂ ≡ onWords w (putWrites k vx vy r p n)
-  put-in k vx vy r p n e₁ e₂ = rw (e₂, e₁)
+  pub put-in : (k vx vy vz r p n : ℕ) → w₁ ≡ onWords w (pointWrites k vx vy vz r) → w₂ ≡ onWords w₁ (linkWrites p k n) → w₂ ≡ onWords w (putWrites k vx vy vz r p n)
+  put-in k vx vy vz r p n e₁ e₂ = rw (e₂, e₁)
 
-  pub doubled : (m x p r k vx vy : ℕ) (d : Due) → m ≡ markOf d → x ≡ cell (rc PRESENT) w i → p ≡ cell (pt PREV) w x → r ≡ cell (pt REC) w x → k ≡ cell (ct POINTS) w 0
-      → w₁ ≡ onWords w (putWrites k vx vy r p x) → w₂ ≡ put (rc MARK) w₁ i m → w₂ ≡ onWords w (doubleWrites (view w) i vx vy d)
-  doubled m x p r k vx vy d em ex ep er ek e₁ e₂ = rw (e₂, e₁, em, ep, er, ex, ek)
+  pub doubled : (m x p r k vx vy vz : ℕ) (d : Due) → m ≡ markOf d → x ≡ cell (rc PRESENT) w i → p ≡ cell (pt PREV) w x → r ≡ cell (pt REC) w x → k ≡ cell (ct POINTS) w 0
+      → w₁ ≡ onWords w (putWrites k vx vy vz r p x) → w₂ ≡ put (rc MARK) w₁ i m → w₂ ≡ onWords w (doubleWrites (view w) i vx vy vz d)
+  doubled m x p r k vx vy vz d em ex ep er ek e₁ e₂ = rw (e₂, e₁, em, ep, er, ex, ek)
 
-  pub cut-put : (x y z p r k vx vy : ℕ) (d : Due) → x ≡ cell (rc PRESENT) w i → y ≡ cell (pt NEXT) w x → z ≡ cell (pt NEXT) w y → p ≡ cell (pt PREV) w x → r ≡ cell (pt REC) w p → k ≡ cell (ct POINTS) w 0
-      → w₁ ≡ onWords w (putWrites k vx vy r p z) → w₂ ≡ onWords w₁ (placeWrites i p d) → w₂ ≡ onWords w (cutPutWrites (view w) i vx vy d)
-  cut-put x y z p r k vx vy d ex ey ez ep er ek e₁ e₂ = rw (e₂, e₁, er, ez, ey, ep, ex, ek)
+  pub cut-put : (x y z p r k vx vy vz : ℕ) (d : Due) → x ≡ cell (rc PRESENT) w i → y ≡ cell (pt NEXT) w x → z ≡ cell (pt NEXT) w y → p ≡ cell (pt PREV) w x → r ≡ cell (pt REC) w p → k ≡ cell (ct POINTS) w 0
+      → w₁ ≡ onWords w (putWrites k vx vy vz r p z) → w₂ ≡ onWords w₁ (placeWrites i p d) → w₂ ≡ onWords w (cutPutWrites (view w) i vx vy vz d)
+  cut-put x y z p r k vx vy vz d ex ey ez ep er ek e₁ e₂ = rw (e₂, e₁, er, ez, ey, ep, ex, ek)
 
 pub cut-out : (w w₁ w₂ : List ℕ) (i x y z p : ℕ) (d : Due) → x ≡ cell (rc PRESENT) w i → y ≡ cell (pt NEXT) w x → z ≡ cell (pt NEXT) w y → p ≡ cell (pt PREV) w x
     → w₁ ≡ onWords w (unlinkWrites p z) → w₂ ≡ onWords w₁ (placeWrites i p d) → w₂ ≡ onWords w (cutWrites (view w) i d)
@@ -142,10 +142,10 @@ cut-out w w₁ w₂ i x y z p d ex ey ez ep e₁ e₂ = rw (e₂, e₁, ez, ey, 
 pub took-record : (w w₁ w₂ w₃ : List ℕ) (r x y : ℕ) → w₁ ≡ put (ct RECORDS) w 0 (r + 1) → w₂ ≡ put (pt REC) w₁ x r → w₃ ≡ put (pt REC) w₂ y r → w₃ ≡ onWords w (recordWrites r x y)
 took-record w w₁ w₂ w₃ r x y e₁ e₂ e₃ = rw (e₃, e₂, e₁, add-one r)
 
-pub made-offcut : (w w₁ w₂ w₃ : List ℕ) (i x y vx vy r b o : ℕ) → r ≡ cell (ct RECORDS) w 0 → b ≡ cell (ct POINTS) w 0 → o ≡ cell (rc OWNER) w i
-    → w₁ ≡ onWords w (recordWrites r x y) → w₂ ≡ onWords w₁ (putWrites b vx vy r y x) → w₃ ≡ onWords w₂ (startWrites r o b i)
-    → w₃ ≡ onWords w (offcutWrites (view w) i x y vx vy)
-made-offcut w w₁ w₂ w₃ i x y vx vy r b o er eb eo e₁ e₂ e₃ = rw (e₃, e₂, e₁, er, eb, eo)
+pub made-offcut : (w w₁ w₂ w₃ : List ℕ) (i x y vx vy vz r b o : ℕ) → r ≡ cell (ct RECORDS) w 0 → b ≡ cell (ct POINTS) w 0 → o ≡ cell (rc OWNER) w i
+    → w₁ ≡ onWords w (recordWrites r x y) → w₂ ≡ onWords w₁ (putWrites b vx vy vz r y x) → w₃ ≡ onWords w₂ (startWrites r o b i)
+    → w₃ ≡ onWords w (offcutWrites (view w) i x y vx vy vz)
+made-offcut w w₁ w₂ w₃ i x y vx vy vz r b o er eb eo e₁ e₂ e₃ = rw (e₃, e₂, e₁, er, eb, eo)
 
 -- ---- places for new points and records
 pub free-point : (w : List ℕ) (k : ℕ) (v : Point) → BLOCK ≤ length w → PointFits w v → k ≡ cell (ct POINTS) w 0 → NewPoint w k v
@@ -169,7 +169,7 @@ pub cut-free : (w : List ℕ) (i : ℕ) (v : Point) (b : Bool) → CutFits w i v
 cut-free w i v b h e = h .free e
 
 module _ (w w′ : List ℕ) (i : ℕ) (v : Point) (b : Bool) (d : Due) where
-  pub with-put : b ≡ true → w′ ≡ onWords w (cutPutWrites (view w) i (wordOf (v .x)) (wordOf (v .y)) d) → w′ ≡ onWords w (ringWrites raised (view w) i v b d)
+  pub with-put : b ≡ true → w′ ≡ onWords w (cutPutWrites (view w) i (wordOf (v .x)) (wordOf (v .y)) (v .z) d) → w′ ≡ onWords w (ringWrites raised (view w) i v b d)
   with-put e h = subst (λ (b : Bool). w′ ≡ onWords w (ringWrites raised (view w) i v b d)) (sym e) h
 
   pub without-put : b ≡ false → w′ ≡ onWords w (cutWrites (view w) i d) → w′ ≡ onWords w (ringWrites raised (view w) i v b d)
@@ -185,7 +185,7 @@ cut-fits w i v b off d a = record { reach = a .reach; free = λ e. record { free
 
 -- the counts after the ring's own part of a cut with an offcut
 cut-within : (w : List ℕ) (i : ℕ) (v : Point) (b : Bool) (d : Due) → Reach w i → pts (view w) + takesPoints (cut v b true d) ≤ limit.POINTS → Within (ringWrites raised (view w) i v b d)
-cut-within w i v true d r h = let k : pts (view w) < limit.POINTS = omega arith in (omega arith, (k, (k, (k, (k, (k, (r .prev-in, (r .second-in, (r .record-in, (r .record-in, (r .record-in, tt)))))))))))
+cut-within w i v true d r h = let k : pts (view w) < limit.POINTS = omega arith in (omega arith, (k, (k, (k, (k, (k, (k, (r .prev-in, (r .second-in, (r .record-in, (r .record-in, (r .record-in, tt))))))))))))
 cut-within w i v false d r h = (r .prev-in, (r .second-in, (r .record-in, (r .record-in, (r .record-in, tt)))))
 
 points-left : (w : List ℕ) (i : ℕ) (v : Point) (b : Bool) (d : Due) → pts (view w) + takesPoints (cut v b true d) ≤ limit.POINTS → onStore (view w) (ringWrites raised (view w) i v b d) (ct POINTS) 0 < limit.POINTS
@@ -211,7 +211,7 @@ module _ (w w₁ : List ℕ) (i : ℕ) (v : Point) (b : Bool) (d : Due) (x y : �
         in-table = a′ .new-in;
       }
 
-  pub with-off : (w₂ : List ℕ) (off : Bool) → off ≡ true → w₂ ≡ onWords w₁ (offcutWrites (view w₁) i x y (wordOf (v .x)) (wordOf (v .y))) → w₂ ≡ afterW raised w i (cut v b off d)
+  pub with-off : (w₂ : List ℕ) (off : Bool) → off ≡ true → w₂ ≡ onWords w₁ (offcutWrites (view w₁) i x y (wordOf (v .x)) (wordOf (v .y)) (v .z)) → w₂ ≡ afterW raised w i (cut v b off d)
   with-off w₂ off e h = subst (λ (o : Bool). w₂ ≡ afterW raised w i (cut v b o d)) (sym e) (rw (h, ey, ex, e₁))
 
   pub without-off : (off : Bool) → off ≡ false → w₁ ≡ afterW raised w i (cut v b off d)
@@ -231,7 +231,7 @@ module _ (w w′ : List ℕ) (i : ℕ) (t : Act) where
   pub by-first : (d : code.Due) → t ≡ ToFirst d → w′ ≡ onWords w (toFirstWrites (view w) i (dueIs d)) → w′ ≡ afterW raised w i (actIs t)
   by-first d e h = subst (λ (t : Act). w′ ≡ afterW raised w i (actIs t)) (sym e) h
 
-  pub by-double : (v : Point) (d : code.Due) → t ≡ Double v d → w′ ≡ onWords w (doubleWrites (view w) i (wordOf (v .x)) (wordOf (v .y)) (dueIs d)) → w′ ≡ afterW raised w i (actIs t)
+  pub by-double : (v : Point) (d : code.Due) → t ≡ Double v d → w′ ≡ onWords w (doubleWrites (view w) i (wordOf (v .x)) (wordOf (v .y)) (v .z) (dueIs d)) → w′ ≡ afterW raised w i (actIs t)
   by-double v d e h = subst (λ (t : Act). w′ ≡ afterW raised w i (actIs t)) (sym e) h
 
   pub by-cut : (v : Point) (b off : Bool) (d : code.Due) → t ≡ Cut v b off d → w′ ≡ afterW raised w i (cut v b off (dueIs d)) → w′ ≡ afterW raised w i (actIs t)

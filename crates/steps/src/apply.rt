@@ -128,7 +128,7 @@ pub fn drop_point(w: &mut [u32], i: usize)
 // A new point k of value v between p and n.
 fn put_between(w: &mut [u32], k: usize, v: Point, r: usize, p: usize, n: usize)
     requires { ⌜ NewPoint (now w) k v × (r < 2 ^ 32) × (p < limit.POINTS) × (n < limit.POINTS) ⌝ }
-    ensures { λ _. ⌜ now (w .exit) ≡ onWords (now (w .entry)) (putWrites k (wordOf (v .x)) (wordOf (v .y)) r p n) ⌝ }
+    ensures { λ _. ⌜ now (w .exit) ≡ onWords (now (w .entry)) (putWrites k (wordOf (v .x)) (wordOf (v .y)) (v .z) r p n) ⌝ }
 {
     new_out_pt(w, k, v, r);
     link_between(w, p, k, n);
@@ -137,7 +137,7 @@ fn put_between(w: &mut [u32], k: usize, v: Point, r: usize, p: usize, n: usize)
 // A new point of value v before the present one: `duplicate_op`, with the value that `fix_self_intersects` then gives it.
 fn double_point(w: &mut [u32], i: usize, v: Point, d: Due)
     requires { ⌜ Reach (now w) i × PointFits (now w) v ⌝ }
-    ensures { λ _. ⌜ now (w .exit) ≡ onWords (now (w .entry)) (doubleWrites (view (now (w .entry))) i (wordOf (v .x)) (wordOf (v .y)) (dueIs d)) ⌝ }
+    ensures { λ _. ⌜ now (w .exit) ≡ onWords (now (w .entry)) (doubleWrites (view (now (w .entry))) i (wordOf (v .x)) (wordOf (v .y)) (v .z) (dueIs d)) ⌝ }
 {
     let m = mark_of(d);
     let x = get(w, Col::Present, i);
@@ -175,7 +175,7 @@ fn cut_ring(w: &mut [u32], i: usize, d: Due)
 // And a new point of value v goes in in their place.
 fn cut_put(w: &mut [u32], i: usize, v: Point, d: Due)
     requires { ⌜ Reach (now w) i × PointFits (now w) v ⌝ }
-    ensures { λ _. ⌜ now (w .exit) ≡ onWords (now (w .entry)) (cutPutWrites (view (now (w .entry))) i (wordOf (v .x)) (wordOf (v .y)) (dueIs d)) ⌝ }
+    ensures { λ _. ⌜ now (w .exit) ≡ onWords (now (w .entry)) (cutPutWrites (view (now (w .entry))) i (wordOf (v .x)) (wordOf (v .y)) (v .z) (dueIs d)) ⌝ }
 {
     let x = get(w, Col::Present, i);
     let y = get(w, Col::Next, x);
@@ -200,7 +200,7 @@ fn take_record(w: &mut [u32], r: usize, x: usize, y: usize)
 // x and y, and a new point of value v, become the ring of a new record.
 fn make_offcut(w: &mut [u32], i: usize, x: usize, y: usize, v: Point)
     requires { ⌜ OffcutFits (now w) i x y v ⌝ }
-    ensures { λ _. ⌜ now (w .exit) ≡ onWords (now (w .entry)) (offcutWrites (view (now (w .entry))) i x y (wordOf (v .x)) (wordOf (v .y))) ⌝ }
+    ensures { λ _. ⌜ now (w .exit) ≡ onWords (now (w .entry)) (offcutWrites (view (now (w .entry))) i x y (wordOf (v .x)) (wordOf (v .y)) (v .z)) ⌝ }
 {
     let r = get(w, Col::Records, 0);
     let b = get(w, Col::Points, 0);

@@ -18,7 +18,7 @@ use Rattle.numbers.proofs.Raises.{at-least, less}
 use Rattle.job.specs.Limits as limit
 use Rattle.geometry.specs.declared.Point.{Point}
 use Rattle.geometry.specs.Table.{InTable}
-use Rattle.store.specs.Field.{pt, X, Y}
+use Rattle.store.specs.Field.{pt, X, Y, Z}
 use Rattle.store.specs.Words.{Store, cell, view}
 use Rattle.store.specs.Value.{pointAt, pointOf, wordOf}
 
@@ -46,11 +46,11 @@ lower-is v h = toZ-ofZ (lower-fits v h) ∙ ap (λ (z : ℤ). z -ℤ pos 1048576
 pub in-table : (s : Store) (k : ℕ) → s (pt X) k ≤ 2 * limit.COORDINATE → s (pt Y) k ≤ 2 * limit.COORDINATE → InTable (pointAt s k)
 in-table s k hx hy = record { x = lowered-in (s (pt X) k) hx; y = lowered-in (s (pt Y) k) hy }
 
-pub point-is : (w : List ℕ) (k vx vy : ℕ) (x y : ℤ) → view w (pt X) k ≤ 2 * limit.COORDINATE → view w (pt Y) k ≤ 2 * limit.COORDINATE
-    → vx ≡ cell (pt X) w k → vy ≡ cell (pt Y) w k → x ≡ coordinate limit.COORDINATE vx → y ≡ coordinate limit.COORDINATE vy
-    → _≡_ {A = Point} (record { x = toZ w32 (ofZ w32 x); y = toZ w32 (ofZ w32 y) }) (pointOf w k)
-point-is w k vx vy x y hx hy ex ey dx dy =
-    rw (dx, dy, ex, ey, toZ-ofZ (lowered-fits (cell (pt X) w k) hx), toZ-ofZ (lowered-fits (cell (pt Y) w k) hy))
+pub point-is : (w : List ℕ) (k vx vy z : ℕ) (x y : ℤ) → view w (pt X) k ≤ 2 * limit.COORDINATE → view w (pt Y) k ≤ 2 * limit.COORDINATE
+    → vx ≡ cell (pt X) w k → vy ≡ cell (pt Y) w k → x ≡ coordinate limit.COORDINATE vx → y ≡ coordinate limit.COORDINATE vy → z ≡ cell (pt Z) w k
+    → _≡_ {A = Point} (record { x = toZ w32 (ofZ w32 x); y = toZ w32 (ofZ w32 y); z = z }) (pointOf w k)
+point-is w k vx vy z x y hx hy ex ey dx dy ez =
+    rw (dx, dy, ex, ey, ez, toZ-ofZ (lowered-fits (cell (pt X) w k) hx), toZ-ofZ (lowered-fits (cell (pt Y) w k) hy))
 
 -- the word of a coordinate, and that it stands for it
 raised-sum : (z : ℤ) → Within limit.COORDINATE z → (z +ℤ pos limit.COORDINATE ≡ pos (wordOf z)) × (wordOf z ≤ 2 * limit.COORDINATE)

@@ -15,7 +15,7 @@ use Rattle.rings.proofs.Counting.{all-in, sum-same, sum-two, sum-change}
 use Rattle.rings.proofs.Linking.{linked-kept}
 use Rattle.rings.proofs.Walking.{run-agree, Seen}
 use Rattle.job.specs.Limits as limit
-use Rattle.store.specs.Field.{RecordCol, pt, rc, X, Y, NEXT, PREV, REC, FLAGS, OWNER, FIRST, MARK, PRESENT, START, REASON, TAKER, NONE}
+use Rattle.store.specs.Field.{RecordCol, pt, rc, X, Y, Z, NEXT, PREV, REC, FLAGS, OWNER, FIRST, MARK, PRESENT, START, REASON, TAKER, NONE}
 use Rattle.store.specs.Words.{Store}
 use Rattle.store.specs.Sound.{pts, recs, ringless, ringAt, isOpen, dueAt, Closed, looping, loneDue, loneAt}
 use Rattle.store.specs.Reason.{discardOf}
@@ -29,6 +29,7 @@ pub record Kept (s s′ : Store) (i : ℕ) : Type 0 where
   pub records : (f : RecordCol) (j : ℕ) → j < recs s → j ≢ i → s′ (rc f) j ≡ s (rc f) j
   pub xs : (k : ℕ) → k < pts s → s′ (pt X) k ≡ s (pt X) k
   pub ys : (k : ℕ) → k < pts s → s′ (pt Y) k ≡ s (pt Y) k
+  pub zs : (k : ℕ) → k < pts s → s′ (pt Z) k ≡ s (pt Z) k
   pub nexts : (j k : ℕ) → j < recs s → j ≢ i → 0 < occ k (ringAt s j) → s′ (pt NEXT) k ≡ s (pt NEXT) k
   pub prevs : (j k : ℕ) → j < recs s → j ≢ i → 0 < occ k (ringAt s j) → s′ (pt PREV) k ≡ s (pt PREV) k
   pub recordings : (j k : ℕ) → j < recs s → j ≢ i → 0 < occ k (ringAt s j) → s′ (pt REC) k ≡ s (pt REC) k
@@ -40,6 +41,7 @@ pub record Local (s s′ : Store) (i : ℕ) : Type 0 where
   pub records : (f : RecordCol) (j : ℕ) → j < recs s → j ≢ i → s′ (rc f) j ≡ s (rc f) j
   pub xs : (k : ℕ) → k < pts s → s′ (pt X) k ≡ s (pt X) k
   pub ys : (k : ℕ) → k < pts s → s′ (pt Y) k ≡ s (pt Y) k
+  pub zs : (k : ℕ) → k < pts s → s′ (pt Z) k ≡ s (pt Z) k
   pub nexts : (k : ℕ) → k < pts s → occ k (ringAt s i) ≡ 0 → s′ (pt NEXT) k ≡ s (pt NEXT) k
   pub prevs : (k : ℕ) → k < pts s → occ k (ringAt s i) ≡ 0 → s′ (pt PREV) k ≡ s (pt PREV) k
   pub recordings : (k : ℕ) → k < pts s → occ k (ringAt s i) ≡ 0 → s′ (pt REC) k ≡ s (pt REC) k
@@ -60,6 +62,7 @@ module _ (s s′ : Store) (o : Sound s) (i : ℕ) (h : i < recs s) where
         records = L .records;
         xs = L .xs;
         ys = L .ys;
+        zs = L .zs;
         nexts = λ j k l d p. L .nexts k (o .good j l .points-in k p .below) (apart j k l d p);
         prevs = λ j k l d p. L .prevs k (o .good j l .points-in k p .below) (apart j k l d p);
         recordings = λ j k l d p. L .recordings k (o .good j l .points-in k p .below) (apart j k l d p);
@@ -202,6 +205,7 @@ kept-new s s₁ s₂ o i h K e N =
       records = λ f j l d. N .records f j (omega arith) (λ z. omega arith) ∙ K .records f j l d;
       xs = λ k l. N .xs k (omega (arith, K .points-up)) ∙ K .xs k l;
       ys = λ k l. N .ys k (omega (arith, K .points-up)) ∙ K .ys k l;
+      zs = λ k l. N .zs k (omega (arith, K .points-up)) ∙ K .zs k l;
       nexts = λ j k l d p. N .nexts j k (omega arith) (λ z. omega arith) (rw (ring-other s s₁ o i K j l d) p) ∙ K .nexts j k l d p;
       prevs = λ j k l d p. N .prevs j k (omega arith) (λ z. omega arith) (rw (ring-other s s₁ o i K j l d) p) ∙ K .prevs j k l d p;
       recordings = λ j k l d p. N .recordings j k (omega arith) (λ z. omega arith) (rw (ring-other s s₁ o i K j l d) p) ∙ K .recordings j k l d p;

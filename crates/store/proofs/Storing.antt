@@ -9,18 +9,19 @@ use lib.Dec.{ltb, eqb}
 use lib.ListN.{length, getD, set, length-set}
 use lib.Seq.{getD-set-same, getD-set-other}
 use borrow.Author.Tests.{ltb-true, lt-ltb, le-ltb, eqb-true, eqb-false, eq-eqb, ne-eqb}
-use Rattle.store.specs.Field.{Field, PointCol, RecordCol, Count, pt, rc, ct, X, Y, NEXT, PREV, REC, FLAGS, OWNER, FIRST, MARK, PRESENT, START, CUT, REASON, TAKER, SETTINGS, POINTS, RECORDS, pointRank, recordRank, countRank, size, base, same, BLOCK}
+use Rattle.store.specs.Field.{Field, PointCol, RecordCol, Count, pt, rc, ct, X, Y, NEXT, PREV, REC, Z, FLAGS, OWNER, FIRST, MARK, PRESENT, START, CUT, REASON, TAKER, SETTINGS, POINTS, RECORDS, pointRank, recordRank, countRank, size, base, same, BLOCK}
 use Rattle.store.specs.declared.Col.{Col}
 use Rattle.store.specs.Column.{columnOf}
 use Rattle.store.specs.Words.{Store, cell, put, view, Write, write, onWords}
 use Rattle.store.specs.Stores.{upd, onStore, Within, Misses}
 
-point-ranks : (f : PointCol) → pointRank f ≤ 4
+point-ranks : (f : PointCol) → pointRank f ≤ 5
 point-ranks X = omega arith
 point-ranks Y = omega arith
 point-ranks NEXT = omega arith
 point-ranks PREV = omega arith
 point-ranks REC = omega arith
+point-ranks Z = omega arith
 
 record-ranks : (f : RecordCol) → recordRank f ≤ 8
 record-ranks FLAGS = omega arith

@@ -1,6 +1,6 @@
 -- The code's columns are the layout's.
 use Rattle.store.specs.declared.Col.{Col}
-use Rattle.store.specs.declared.Col.the-variants.{X, Y, Next, Prev, Rec, Flags, Owner, First, Mark, Present, Start, Cut, Reason, Taker, Settings, Points, Records}
+use Rattle.store.specs.declared.Col.the-variants.{X, Y, Next, Prev, Rec, Z, Flags, Owner, First, Mark, Present, Start, Cut, Reason, Taker, Settings, Points, Records}
 use Rattle.store.specs.Field.{Field, pt, rc, ct}
 use Rattle.store.specs.Field as f
 
@@ -11,6 +11,7 @@ columnOf Y = pt f.Y
 columnOf Next = pt f.NEXT
 columnOf Prev = pt f.PREV
 columnOf Rec = pt f.REC
+columnOf Z = pt f.Z
 columnOf Flags = rc f.FLAGS
 columnOf Owner = rc f.OWNER
 columnOf First = rc f.FIRST

@@ -7,7 +7,7 @@ pub use Rattle.job.specs.Limits.{NONE}
 
 -- a point's fields
 pub data PointCol : Type 0 where
-  X Y NEXT PREV REC : PointCol
+  X Y NEXT PREV REC Z : PointCol
 
 -- a record's fields: FIRST is its first point, MARK its progress mark, PRESENT its present place, START where its loop began, CUT the record it was cut from,
 -- REASON why it has no ring, TAKER the record that took it in a join
@@ -31,6 +31,7 @@ pointRank Y = 1
 pointRank NEXT = 2
 pointRank PREV = 3
 pointRank REC = 4
+pointRank Z = 5
 
 abbrev pub recordRank : RecordCol → ℕ
 recordRank FLAGS = 0
@@ -61,7 +62,7 @@ size (rc f) = limit.RECORDS
 abbrev pub base : Field → ℕ
 base (ct f) = countRank f
 base (pt f) = HEAD + limit.POINTS * pointRank f
-base (rc f) = HEAD + limit.POINTS * 5 + limit.RECORDS * recordRank f
+base (rc f) = HEAD + limit.POINTS * 6 + limit.RECORDS * recordRank f
 
 -- the same column
 abbrev pub same : Field → Field → Bool
@@ -77,7 +78,7 @@ same (ct f) (ct g) = eqb (countRank f) (countRank g)
 
 -- the live block: all columns. A work space begins with it
 abbrev pub BLOCK : ℕ
-BLOCK = HEAD + limit.POINTS * 5 + limit.RECORDS * 9
+BLOCK = HEAD + limit.POINTS * 6 + limit.RECORDS * 9
 
 -- how many states may be kept
 abbrev pub STATES : ℕ

@@ -7,16 +7,16 @@ use Rattle.job.specs.Limits as limit
 use Rattle.rings.specs.Progress.{validity}
 use Rattle.store.specs.declared.points.Room.{Room}
 use Rattle.store.specs.declared.points.Room.the-variants.{At, Full}
-use Rattle.store.specs.Field.{pt, rc, ct, X, Y, NEXT, PREV, REC, FLAGS, OWNER, FIRST, MARK, PRESENT, START, CUT, POINTS}
+use Rattle.store.specs.Field.{pt, rc, ct, X, Y, Z, NEXT, PREV, REC, FLAGS, OWNER, FIRST, MARK, PRESENT, START, CUT, POINTS}
 use Rattle.store.specs.Words.{Store, view, Write, write, onWords}
 use Rattle.store.specs.Named.{pointsOf}
 use Rattle.store.specs.Sound.{pts, markOf}
 
 -- ---- what is written
 
--- `new_out_pt`: a point's coordinate words and record go to place k, the next free one; its links are its callers'
-abbrev pub pointWrites : ℕ → ℕ → ℕ → ℕ → List Write
-pointWrites k vx vy r = write (ct POINTS) 0 (suc k) ∷ write (pt X) k vx ∷ write (pt Y) k vy ∷ write (pt REC) k r ∷ []
+-- `new_out_pt`: the words of a point's coordinates and z, and its record, go to place k, the next free one; its links are its callers'
+abbrev pub pointWrites : ℕ → ℕ → ℕ → ℕ → ℕ → List Write
+pointWrites k vx vy vz r = write (ct POINTS) 0 (suc k) ∷ write (pt X) k vx ∷ write (pt Y) k vy ∷ write (pt Z) k vz ∷ write (pt REC) k r ∷ []
 
 -- k goes in between p and n
 abbrev pub linkWrites : ℕ → ℕ → ℕ → List Write
@@ -32,9 +32,9 @@ startWrites k o b i =
     write (rc FLAGS) k 0 ∷ write (rc OWNER) k o ∷ write (rc FIRST) k b ∷ write (rc MARK) k (markOf validity)
     ∷ write (rc PRESENT) k b ∷ write (rc START) k b ∷ write (rc CUT) k i ∷ []
 
--- a copy of op goes in after it, or before it
+-- a copy of op goes in after it, or before it: "Copies carry z with them"
 abbrev pub copyWrites : Store → ℕ → List Write
-copyWrites s op = pointWrites (pts s) (s (pt X) op) (s (pt Y) op) (s (pt REC) op)
+copyWrites s op = pointWrites (pts s) (s (pt X) op) (s (pt Y) op) (s (pt Z) op) (s (pt REC) op)
 
 abbrev pub afterWrites : Store → ℕ → List Write
 afterWrites s op = copyWrites s op ++ linkWrites op (pts s) (s (pt NEXT) op)

@@ -7,7 +7,7 @@ use lib.IntN.{ℤ, pos, natAbs, _+ℤ_}
 use Rattle.numbers.specs.Raised.{coordinate}
 use Rattle.job.specs.Limits as limit
 use Rattle.geometry.specs.declared.Point.{Point}
-use Rattle.store.specs.Field.{pt, ct, X, Y, SETTINGS}
+use Rattle.store.specs.Field.{pt, ct, X, Y, Z, SETTINGS}
 use Rattle.store.specs.Words.{Store, view}
 use Rattle.store.specs.Sound.{ringAt}
 
@@ -18,9 +18,9 @@ preserveCollinear s = eqb (s (ct SETTINGS) 0 % 2) 1
 abbrev pub reverseSolution : Store → Bool
 reverseSolution s = eqb (s (ct SETTINGS) 0 / 2 % 2) 1
 
--- a point by value: its words are its coordinates, raised by the largest one
+-- a point by value: its words are its coordinates, raised by the largest one, and its z as it is
 abbrev pub pointAt : Store → ℕ → Point
-pointAt s k = record { x = coordinate limit.COORDINATE (s (pt X) k); y = coordinate limit.COORDINATE (s (pt Y) k) }
+pointAt s k = record { x = coordinate limit.COORDINATE (s (pt X) k); y = coordinate limit.COORDINATE (s (pt Y) k); z = s (pt Z) k }
 
 abbrev pub pointOf : List ℕ → ℕ → Point
 pointOf w k = pointAt (view w) k

@@ -32,6 +32,7 @@ pub enum Col {
     Next,
     Prev,
     Rec,
+    Z,
     Flags,
     Owner,
     First,
@@ -49,7 +50,7 @@ pub enum Col {
 // The settings and the counts stand in the head; then the points' columns, then the records'.
 const HEAD: usize = 16;
 
-const AFTER: usize = HEAD + Job::POINTS * 5;
+const AFTER: usize = HEAD + Job::POINTS * 6;
 
 // The live block, in words: all columns. A work space begins with it.
 pub const BLOCK: usize = AFTER + Job::RECORDS * 9;
@@ -75,6 +76,7 @@ fn base_of(c: Col) -> usize
         Col::Next => HEAD + Job::POINTS * 2,
         Col::Prev => HEAD + Job::POINTS * 3,
         Col::Rec => HEAD + Job::POINTS * 4,
+        Col::Z => HEAD + Job::POINTS * 5,
         Col::Flags => AFTER + Job::RECORDS * 0,
         Col::Owner => AFTER + Job::RECORDS * 1,
         Col::First => AFTER + Job::RECORDS * 2,
@@ -126,6 +128,7 @@ fn size_of(c: Col) -> usize
         Col::Next => Job::POINTS,
         Col::Prev => Job::POINTS,
         Col::Rec => Job::POINTS,
+        Col::Z => Job::POINTS,
         Col::Flags => Job::RECORDS,
         Col::Owner => Job::RECORDS,
         Col::First => Job::RECORDS,

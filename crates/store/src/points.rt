@@ -47,19 +47,21 @@ pub fn point(w: &[u32], k: usize) -> Point
     let vy = get(w, Col::Y, k);
     let x = lower(vx);
     let y = lower(vy);
-    Point { x, y }
+    let z = get(w, Col::Z, k) as u32;
+    Point { x, y, z }
 }
 
 // ---- writes
 
 // A point's words and record go to place k, the next free one.
-pub fn take_point(w: &mut [u32], k: usize, vx: usize, vy: usize, r: usize)
-    requires { ⌜ (BLOCK ≤ length (now w)) × (k < limit.POINTS) × (vx < 2 ^ 32) × (vy < 2 ^ 32) × (r < 2 ^ 32) ⌝ }
-    ensures { λ _. ⌜ now (w .exit) ≡ onWords (now (w .entry)) (pointWrites k vx vy r) ⌝ }
+pub fn take_point(w: &mut [u32], k: usize, vx: usize, vy: usize, vz: usize, r: usize)
+    requires { ⌜ (BLOCK ≤ length (now w)) × (k < limit.POINTS) × (vx < 2 ^ 32) × (vy < 2 ^ 32) × (vz < 2 ^ 32) × (r < 2 ^ 32) ⌝ }
+    ensures { λ _. ⌜ now (w .exit) ≡ onWords (now (w .entry)) (pointWrites k vx vy vz r) ⌝ }
 {
     set(w, Col::Points, 0, k + 1);
     set(w, Col::X, k, vx);
     set(w, Col::Y, k, vy);
+    set(w, Col::Z, k, vz);
     set(w, Col::Rec, k, r);
 }
 
@@ -110,11 +112,11 @@ pub fn raise(x: i32) -> usize
 // Point p goes to place k, the next free one. The Rust links it with itself; here its callers link it at once.
 pub fn new_out_pt(w: &mut [u32], k: usize, p: Point, r: usize)
     requires { ⌜ BLOCK ≤ length (now w) ⌝ ∗ ⌜ InTable p ⌝ ∗ ⌜ k < limit.POINTS ⌝ ∗ ⌜ r < 2 ^ 32 ⌝ }
-    ensures { λ _. ⌜ now (w .exit) ≡ onWords (now (w .entry)) (pointWrites k (wordOf (p .x)) (wordOf (p .y)) r) ⌝ }
+    ensures { λ _. ⌜ now (w .exit) ≡ onWords (now (w .entry)) (pointWrites k (wordOf (p .x)) (wordOf (p .y)) (p .z) r) ⌝ }
 {
     let vx = raise(p.x);
     let vy = raise(p.y);
-    take_point(w, k, vx, vy, r);
+    take_point(w, k, vx, vy, p.z as usize, r);
 }
 
 // A copy of op at place k, after op.
@@ -124,9 +126,10 @@ fn copy_after(w: &mut [u32], k: usize, op: usize)
 {
     let vx = get(w, Col::X, op);
     let vy = get(w, Col::Y, op);
+    let vz = get(w, Col::Z, op);
     let r = get(w, Col::Rec, op);
     let n = get(w, Col::Next, op);
-    take_point(w, k, vx, vy, r);
+    take_point(w, k, vx, vy, vz, r);
     link_between(w, op, k, n);
 }
 
@@ -137,9 +140,10 @@ fn copy_before(w: &mut [u32], k: usize, op: usize)
 {
     let vx = get(w, Col::X, op);
     let vy = get(w, Col::Y, op);
+    let vz = get(w, Col::Z, op);
     let r = get(w, Col::Rec, op);
     let p = get(w, Col::Prev, op);
-    take_point(w, k, vx, vy, r);
+    take_point(w, k, vx, vy, vz, r);
     link_between(w, p, k, op);
 }
 

@@ -29,7 +29,7 @@ use Rattle.turns.proofs.Removing.{removal-is}
 use Rattle.turns.proofs.Splitting.{split-is}
 use Rattle.turns.specs.Decide.{threeFrom, validityAt, decideDue, decideAt}
 
-module _ {P : Type 0} (of : ℕ → ℕ → P) (G : Geo P) (s : Store) where
+module _ {P : Type 0} (of : ℕ → ℕ → ℕ → P) (G : Geo P) (s : Store) where
   three-from : (a : ℕ) (xs : List ℕ) → Whole (s (pt NEXT)) (s (pt PREV)) (pts s) (a ∷ xs) → threeFrom s a ≡ oneOrThree (map (value of s) (a ∷ xs))
   three-from a [] w = let l = w .linked in eq-eqb (s (pt PREV) a) (s (pt NEXT) (s (pt NEXT) a)) (l .1 ∙ sym (ap (s (pt NEXT)) (l .0) ∙ l .0))
   three-from a (b ∷ []) w =

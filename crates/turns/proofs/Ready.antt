@@ -27,7 +27,7 @@ use Rattle.turns.specs.Reads.{Steps, Going}
 use Rattle.turns.specs.Decide.{decideAt}
 use Rattle.turns.proofs.Deciding.{decide-is}
 
--- a value on the table is one that two words hold
+-- a value on the table is one that three words hold
 pub codes : (p : Point) → InTable p → Codes raised p
 codes p t =
     record {
@@ -37,7 +37,7 @@ codes p t =
     }
   where
     made : ℤ → ℤ → Point
-    made a b = record { x = a; y = b }
+    made a b = record { x = a; y = b; z = p .z }
 
 pub in-codes : (p : Point) → Codes raised p → InTable p
 in-codes p c = subst InTable (c .again) (record { x = lowered-in (raised .xw p) (c .x-in); y = lowered-in (raised .yw p) (c .y-in) })
@@ -48,7 +48,7 @@ laws keep =
     record {
       flat = plane-laws keep;
       meets = λ a b c d A B C D h. codes _ (crossing-in-table c d (in-codes a A) (in-codes b B));
-      reads = λ a b ha hb. codes _ (record { x = lowered-in a ha; y = lowered-in b hb });
+      reads = λ a b c ha hb. codes (raised .of a b c) (record { x = lowered-in a ha; y = lowered-in b hb });
     }
 
 module _ (w : List ℕ) (i : ℕ) (s : Steps w i) where

@@ -27,7 +27,7 @@ use Rattle.acts.proofs.Progressing.{turned}
 use Rattle.acts.specs.Value.{value}
 use Rattle.turns.specs.Decide.{validWithout, removalAt}
 
-module _ {P : Type 0} (of : ℕ → ℕ → P) (G : Geo P) (s : Store) where
+module _ {P : Type 0} (of : ℕ → ℕ → ℕ → P) (G : Geo P) (s : Store) where
   valid-is : (x : ℕ) (xs : List ℕ) → Whole (s (pt NEXT)) (s (pt PREV)) (pts s) (x ∷ xs) → validWithout of G s x ≡ isValidClosedPath G (map (value of s) xs)
   unfolding validWithout
   valid-is x [] w = rw (eq-eqb (s (pt NEXT) x) x (w .linked .0))

@@ -32,7 +32,7 @@ use Rattle.turns.proofs.Reading.{back-whole}
 use Rattle.turns.proofs.Removing.{turn-is}
 use Rattle.turns.specs.Decide.{threeLeft, ringFrom, cutAt, splitOpAt, crossedAt, splitAt}
 
-module _ {P : Type 0} (of : ℕ → ℕ → P) (G : Geo P) (s : Store) where
+module _ {P : Type 0} (of : ℕ → ℕ → ℕ → P) (G : Geo P) (s : Store) where
   -- three are left exactly if so after the cut
   left-is : (put : Bool) (v : P) (x y z u : ℕ) (r : List ℕ) → Whole (s (pt NEXT)) (s (pt PREV)) (pts s) (x ∷ y ∷ z ∷ u ∷ r) → threeLeft s put x ≡ oneOrThree (cutCircle put v (back (map (value of s) (x ∷ y ∷ z ∷ u ∷ r))))
   left-is true v x y z u [] w =

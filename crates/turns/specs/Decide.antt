@@ -32,7 +32,7 @@ module _ (s : Store) where
   abbrev pub triangleAt : {P : Type 0} → ℕ → Act P
   triangleAt i = toFirst (cond (threeFrom (s (rc FIRST) i)) done split)
 
-module _ {P : Type 0} (of : ℕ → ℕ → P) (G : Geo P) (s : Store) where
+module _ {P : Type 0} (of : ℕ → ℕ → ℕ → P) (G : Geo P) (s : Store) where
   -- of a ring of three from a: are two of them really close
   abbrev pub smallAt : ℕ → ℕ → ℕ → Bool
   smallAt a b c = G .isVerySmallTriangle (value of s c) (value of s a) (value of s b)

@@ -29,7 +29,7 @@ fn run(job: &[u8]) -> Result<(), Refused> {
     write(&work, &mut tray)?;
     println!("{steps} steps");
     for path in paths(&tray) {
-        let points: String = path.points.iter().map(|(x, y)| format!(" {x},{y}")).collect();
+        let points: String = path.points.iter().map(|point| format!(" {point}")).collect();
         println!("{}{points}", if path.open { "open" } else { "closed" });
     }
     Ok(())

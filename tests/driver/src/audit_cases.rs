@@ -26,7 +26,7 @@ fn built() -> Vec<u32> {
 }
 
 /// The altered words: column, place and what is written there.
-const ALTERED: [(usize, usize, u32); 16] = [
+const ALTERED: [(usize, usize, u32); 17] = [
     (POINTS, 0, MOST_POINTS as u32 + 1),
     (RECORDS, 0, MOST_RECORDS as u32 + 1),
     (X, 2, 2 * AT),
@@ -35,6 +35,7 @@ const ALTERED: [(usize, usize, u32); 16] = [
     (PREV, 5, 8),
     (REC, 0, 2),
     (OWNER, 0, 2),
+    (Z, 2, 2 * AT + 1),
     (FIRST, 1, 8),
     (NEXT, 1, 3),
     (PREV, 1, 3),

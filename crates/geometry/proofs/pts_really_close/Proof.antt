@@ -13,5 +13,5 @@ pts-really-close-spec =
     (λ c.
     let p = c .before .before .before .before .before .struct-told .given in
     let q = c .before .struct-told4 .given in
-    both-close (record { sfits = p .0 .1 }) (record { sfits = q .0 .1 }) (record { sfits = p .1 .0 .1 }) (record { sfits = q .1 .0 .1 }) (c .before .before .before .close .ensures)
+    both-close (c .before .before .before .before .before .before .args .pt1) (c .before .before .before .before .before .before .args .pt2) (record { sfits = p .0 .1 }) (record { sfits = q .0 .1 }) (record { sfits = p .1 .0 .1 }) (record { sfits = q .1 .0 .1 }) (c .before .before .before .close .ensures)
     (c .close2 .ensures)))

@@ -10,4 +10,4 @@ same-point-spec =
     (λ c.
     let p = c .before .before .before .before .before .before .struct-told .given in
     let q = c .struct-told4 .given in
-    same-of (record { sfits = p .0 .1 }) (record { sfits = q .0 .1 }) (record { sfits = p .1 .0 .1 }) (record { sfits = q .1 .0 .1 })))
+    same-of (c .before .before .before .before .before .before .before .before .args .p) (c .before .before .before .before .before .before .before .before .args .q) (record { sfits = p .0 .1 }) (record { sfits = q .0 .1 }) (record { sfits = p .1 .0 .1 }) (record { sfits = q .1 .0 .1 })))

@@ -13,10 +13,13 @@ point-in-spec =
     (λ c. search needs)
     (λ c κs. search needs)
     (λ c. search needs)
-    (λ c κs. raised-low (c .before .before .before .args .t .now) _ _ (λ i. omega (arith, c .before .before .shared-slice-known .given i)) (x-small _ _ (c .before .before .before .pre)) (c .before .read-raised .ensures))
+    (λ c κs. search needs)
     (λ c. search needs)
-    (λ c κs. raised-low (c .before .before .before .before .args .t .now) _ _ (λ i. omega (arith, c .before .before .before .shared-slice-known .given i)) (y-small _ _ (c .before .before .before .before .pre)) (c .before .read-raised2 .ensures))
+    (λ c κs. raised-low (c .before .before .before .before .args .t .now) _ _ (λ i. omega (arith, c .before .before .before .shared-slice-known .given i)) (x-small _ _ (c .before .before .before .before .pre)) (c .before .before .read-raised .ensures))
+    (λ c. search needs)
+    (λ c κs. raised-low (c .before .before .before .before .before .args .t .now) _ _ (λ i. omega (arith, c .before .before .before .before .shared-slice-known .given i)) (y-small _ _ (c .before .before .before .before .before .pre)) (c .before .before .read-raised2 .ensures))
     (λ c.
-    point-made _ _ _ _
-    (raised-is (c .before .before .before .before .before .args .t .now) _ _ (λ i. omega (arith, c .before .before .before .before .shared-slice-known .given i)) (x-small _ _ (c .before .before .before .before .before .pre)) (c .before .before .before .read-raised .ensures) _ (c .before .lower .ensures))
-    (raised-is (c .before .before .before .before .before .args .t .now) _ _ (λ i. omega (arith, c .before .before .before .before .shared-slice-known .given i)) (y-small _ _ (c .before .before .before .before .before .pre)) (c .before .before .read-raised2 .ensures) _ (c .lower2 .ensures))))
+    point-made _ _ _ _ _
+    (raised-is (c .before .before .before .before .before .before .args .t .now) _ _ (λ i. omega (arith, c .before .before .before .before .before .shared-slice-known .given i)) (x-small _ _ (c .before .before .before .before .before .before .pre)) (c .before .before .before .before .read-raised .ensures) _ (c .before .lower .ensures))
+    (raised-is (c .before .before .before .before .before .before .args .t .now) _ _ (λ i. omega (arith, c .before .before .before .before .before .shared-slice-known .given i)) (y-small _ _ (c .before .before .before .before .before .before .pre)) (c .before .before .before .read-raised2 .ensures) _ (c .lower2 .ensures))
+    (c .before .before .read-u32 .ensures)))

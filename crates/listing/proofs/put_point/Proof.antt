@@ -1,8 +1,6 @@
 -- `listing::put_point` meets its contract.
 use borrow.Author.Needs.{needs}
-use mathlib.Core.Path.{ap}
-use Rattle.geometry.specs.declared.Point.{Point}
-use Rattle.listing.proofs.Points.{wide-fits, wide-asked, point-poured}
+use Rattle.listing.proofs.Points.{point-poured}
 use Rattle.listing.proofs.put_point.Statement.{statement}
 use Rattle.listing.proofs.put_point.Tie as tie
 
@@ -12,10 +10,8 @@ put-point-spec =
     (tie.spec
     (λ c κs. search needs)
     (λ c κs. search needs)
-    (λ c. wide-fits _ _ (c .before .before .before .before .before .before .before .before .before .before .pre .small .x) (ap (λ (r : Point). r .x) (c .before .before .before .before .before .before .before .point-in .ensures)))
-    (λ c κs. wide-asked _ _ (c .before .before .before .before .before .before .before .before .before .before .pre .small .x) (ap (λ (r : Point). r .x) (c .before .before .before .before .before .before .before .point-in .ensures)))
-    (λ c κs. search needs)
-    (λ c. wide-fits _ _ (c .before .before .before .before .before .before .before .before .before .before .before .before .before .before .before .before .before .before .before .before .pre .small .y) (ap (λ (r : Point). r .y) (c .before .before .before .before .before .before .before .before .before .before .before .before .before .before .before .before .before .point-in .ensures)))
-    (λ c κs. wide-asked _ _ (c .before .before .before .before .before .before .before .before .before .before .before .before .before .before .before .before .before .before .before .before .pre .small .y) (ap (λ (r : Point). r .y) (c .before .before .before .before .before .before .before .before .before .before .before .before .before .before .before .before .before .point-in .ensures)))
     (λ c. search needs)
-    (λ c. point-poured _ _ _ (c .before .before .before .before .before .before .before .before .before .before .before .before .before .before .before .before .before .before .before .before .before .before .before .pre) (c .before .before .before .before .before .before .before .before .before .before .before .before .before .before .before .before .before .before .before .before .point-in .ensures) _ _ _ _ _ _ _ _ _ _ (c .before .before .before .before .before .before .before .before .before .before .before .before .before .before .before .before .before .before .put .ensures) (c .before .before .before .before .before .before .before .before .before .before .before .before .put-signed .ensures) (c .before .before .before .before .before .before .before .before .put2 .ensures) (c .before .before .put-signed2 .ensures)))
+    (λ c κs. search needs)
+    (λ c κs. search needs)
+    (λ c. search needs)
+    (λ c. search (needs, point-poured)))

@@ -11,7 +11,7 @@ size-of-spec =
     (tie.spec
     (λ c. search needs) (λ c. search needs) (λ c. search needs) (λ c. search needs) (λ c. search needs) (λ c. search needs)
     (λ c. search needs) (λ c. search needs) (λ c. search needs) (λ c. search needs) (λ c. search needs) (λ c. search needs)
-    (λ c. search needs) (λ c. search needs) (λ c. search needs) (λ c. search needs) (λ c. search needs)
+    (λ c. search needs) (λ c. search needs) (λ c. search needs) (λ c. search needs) (λ c. search needs) (λ c. search needs)
     (λ c. search (by-name size)) (λ c. search (by-name size)) (λ c. search (by-name size)) (λ c. search (by-name size)) (λ c. search (by-name size)) (λ c. search (by-name size))
     (λ c. search (by-name size)) (λ c. search (by-name size)) (λ c. search (by-name size)) (λ c. search (by-name size)) (λ c. search (by-name size)) (λ c. search (by-name size))
-    (λ c. search (by-name size)) (λ c. search (by-name size)) (λ c. search (by-name size)) (λ c. search (by-name size)) (λ c. search (by-name size)))
+    (λ c. search (by-name size)) (λ c. search (by-name size)) (λ c. search (by-name size)) (λ c. search (by-name size)) (λ c. search (by-name size)) (λ c. search (by-name size)))

@@ -33,7 +33,7 @@ place-spec =
     (λ c κs. search needs)
     (λ c. search (needs, placed-settings))
     (λ c. search needs)
-    (λ c. placed-point _ _ _ _ _ _ _ _ _ _ _ _ _ (c .before .before .before .before .before .before .f .given .1) (c .before .before .before .put-point .ensures) (c .past2 .ensures))
+    (λ c. placed-point _ _ _ _ _ _ _ _ _ _ _ _ _ _ (c .before .before .before .before .before .before .f .given .1) (c .before .before .before .put-point .ensures) (c .past2 .ensures))
     (λ c. search needs)
     (λ c. placed-record _ _ _ _ _ _ _ _ _ _ _ (c .before .before .before .before .before .before .f2 .given .1) (c .before .before .before .put-record .ensures) (c .past3 .ensures))
     (λ c. search needs)
