@@ -8,5 +8,6 @@ pub mod Reading
 pub mod Opening
 pub mod Finishing
 pub mod Lists
-pub mod Stores
+pub mod Reasons
 pub mod Theorem
+pub mod Examples

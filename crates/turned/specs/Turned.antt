@@ -1,29 +1,52 @@
--- Document 02, Ask 10, "Turning the direction round": "for one job, finished in one call under either setting, there are equally many paths and each is the points of the other at its place in exactly
--- opposite order, open paths included. This is said of x and y; z agrees too unless neighbours equal in x and y were dropped .. Doubled areas change sign and no more." "Users .. reuse charges and reasons": both are
--- the same. Proved in proofs/Theorem.
-use Prim.Native.Nat.{ℕ}
+-- Document 02, Ask 10, "Turning the direction round". "Users flip `reverse_solution` late and reuse charges and reasons. Show that for one job, finished in one call under either setting, there are equally many paths and each
+-- is the points of the other at its place in exactly opposite order, open paths included. This is said of x and y; z agrees too unless neighbours equal in x and y were dropped, where the first one walked keeps its z.
+-- Doubled areas change sign and no more." Each clause is a field below. Proved in proofs/Theorem.
+use Prim.Native.Nat.{ℕ, _-_, _/_, _%_, _<_, _≤_}
 use mathlib.Core.Path.{_≡_}
+use mathlib.Core.Logic.{_≢_}
 use mathlib.Core.Bool.{true, false}
 use mathlib.Core.List.{List, _++_, map, reverse}
-use mathlib.Core.Option.{some}
 use lib.IntN.{ℤ, natAbs, negℤ}
-use lib.ListN.{length, getD, set, replicate}
+use lib.ListN.{length, getD, set}
 use Rattle.geometry.specs.declared.Point.{Point}
 use Rattle.geometry.specs.Plane.{areaOutpt}
+use Rattle.job.specs.Field.{HEADER}
 use Rattle.job.specs.declared.refusal.Refusal.{Refusal}
 use Rattle.store.specs.Field.{ct, SETTINGS}
 use Rattle.store.specs.Words.{view, put}
+use Rattle.store.specs.Sound.{recs}
 use Rattle.paths.specs.declared.Written.the-variants.{Paths, Refused}
-use Rattle.paths.specs.Path.{pointsAt, pathAt, closedPaths, openPaths}
+use Rattle.paths.specs.Path.{pathAt, closedPaths, openPaths}
 use Rattle.paths.specs.Tray.{tagOf, fields, padded}
 use Rattle.opposite.specs.Opposite.{otherBits, allOnGround, opposite}
+use Rattle.opposite.specs.Turned.{TurnedOr, AllTurned, walkAt, walksBelow}
 use Rattle.listing.specs.Charge.{netArea, chargeLine}
-use Rattle.telling.specs.Telling.{reasonAt}
+use Rattle.telling.specs.Telling.{reasonAt, reasonOf}
 use Rattle.finishing.specs.InOneCall.{Finished, finishOf}
 
--- the job under the other setting. The settings are its first field, so that their byte is its fourth; a shorter job has none, and stays
+-- ---- "one job .. under either setting"
+
+-- the settings are a job's first field, so their byte comes right after the first header
+abbrev pub settingsByte : List ℕ → ℕ
+settingsByte job = getD job HEADER 0
+
+-- the job under the other setting
 abbrev pub turnedRound : List ℕ → List ℕ
-turnedRound job = set job 3 (otherBits (getD job 3 0))
+turnedRound job = set job HEADER (otherBits (settingsByte job))
+
+-- the two jobs differ in bit 1 of the settings byte and in nothing else
+pub record OneBit (job other : List ℕ) : Type 0 where
+  pub as-long : length other ≡ length job
+  pub bytes : (i : ℕ) → i ≢ HEADER → getD other i 0 ≡ getD job i 0
+  pub bit-0 : settingsByte other % 2 ≡ settingsByte job % 2
+  pub bit-1 : HEADER < length job → settingsByte other / 2 % 2 ≡ 1 - settingsByte job / 2 % 2
+  pub other-bits : settingsByte other / 4 ≡ settingsByte job / 4
+  -- a job that is too short to have a settings byte has no setting: it stays, and is refused
+  pub too-short : length job ≤ HEADER → other ≡ job
+  -- turned round again it is the job
+  pub again : turnedRound other ≡ job
+
+-- ---- what both answer
 
 -- the doubled areas, path by path
 abbrev pub areas : List (List Point) → List ℤ
@@ -48,39 +71,42 @@ pub record BothGive (n : ℕ) (one other : Finished) : Type 0 where
   pub other-open : List (List Point)
   pub this : Gives n one closed open-ones
   pub that : Gives n other other-closed other-open
+  -- "equally many paths", and as many bytes of the tray in use
+  pub as-many-closed : length other-closed ≡ length closed
+  pub as-many-open : length other-open ≡ length open-ones
+  pub used : length (bytesOf other-closed other-open) ≡ length (bytesOf closed open-ones)
   -- "each is the points of the other at its place in exactly opposite order, open paths included. This is said of x and y"
   pub opposed : allOnGround other-closed ≡ opposite (allOnGround closed)
   pub opposed-open : allOnGround other-open ≡ opposite (allOnGround open-ones)
-  -- "z agrees too unless neighbours equal in x and y were dropped": where a record's path has all the points of its ring
-  pub whole : (i : ℕ) (a b : List Point) → pathAt (view (one .words)) i ≡ some a → pathAt (view (other .words)) i ≡ some b → length a ≡ length (pointsAt (view (one .words)) i) → b ≡ reverse a
-  -- "equally many paths"
-  pub as-many-closed : length other-closed ≡ length closed
-  pub as-many-open : length other-open ≡ length open-ones
-  -- the tray's bytes in use are as many
-  pub used : length (bytesOf other-closed other-open) ≡ length (bytesOf closed open-ones)
+  -- the same with z, at each place: `Turned` of the ring's points, as finishing left them, in the order in which this path walks them; the other walks them back
+  pub turned : AllTurned (walksBelow (recs (view (one .words))) false (view (one .words))) closed other-closed
+  pub turned-open : AllTurned (walksBelow (recs (view (one .words))) true (view (one .words))) open-ones other-open
+  pub walked-back : (i : ℕ) → walkAt (view (other .words)) i ≡ reverse (walkAt (view (one .words)) i)
+  -- and of each record: it has a path under both settings or under neither
+  pub each : (i : ℕ) → TurnedOr (walkAt (view (one .words)) i) (pathAt (view (one .words)) i) (pathAt (view (other .words)) i)
   -- "Doubled areas change sign and no more"; so does the net one, and its magnitude stays
   pub signs : areas other-closed ≡ map negℤ (areas closed)
   pub net-sign : netArea other-closed ≡ negℤ (netArea closed)
   pub net-size : natAbs (netArea other-closed) ≡ natAbs (netArea closed)
   -- "reuse charges": the same line at every rate
   pub charges : (rate : ℕ) → chargeLine rate other-closed ≡ chargeLine rate closed
-  -- "and reasons": the same of every record, with the same places
+  -- "and reasons": the same of every record, with the same place; and `reason_of` answers the same of every number
   pub reasons : (j : ℕ) → reasonAt (view (other .words)) j ≡ reasonAt (view (one .words)) j
-  -- every word but the settings is the same
-  pub words : other .words ≡ put (ct SETTINGS) (one .words) 0 (view (other .words) (ct SETTINGS) 0)
+  pub told : (j : ℕ) → reasonOf (other .words) j ≡ reasonOf (one .words) j
+  -- every word but the settings is the same, and of these only bit 1 is another
+  pub words : other .words ≡ put (ct SETTINGS) (one .words) 0 (otherBits (view (one .words) (ct SETTINGS) 0))
 
--- both refused with the same number
-pub record BothRefuse (n : ℕ) (one other : Finished) : Type 0 where
+-- both refused with the same number, and everything that is left is the same
+pub record BothRefuse (one other : Finished) : Type 0 where
   pub number : Refusal
-  pub this : one .answer ≡ Refused number
-  pub that : other .answer ≡ Refused number
-  pub this-tray : one .tray ≡ replicate n 0
-  pub that-tray : other .tray ≡ replicate n 0
+  pub refused : one .answer ≡ Refused number
+  pub alike : other ≡ one
 
 pub data EitherWay (n : ℕ) (one other : Finished) : Type 0 where
   both-give : BothGive n one other → EitherWay n one other
-  both-refuse : BothRefuse n one other → EitherWay n one other
+  both-refuse : BothRefuse one other → EitherWay n one other
 
--- of every job, every lent work space and every tray
-abbrev pub TurningRound : Type 0
-TurningRound = (job lent tray : List ℕ) → EitherWay (length tray) (finishOf job lent tray) (finishOf (turnedRound job) lent tray)
+-- of every list of bytes, every lent work space and every tray
+pub record TurningRound (job : List ℕ) : Type 0 where
+  pub one-bit : OneBit job (turnedRound job)
+  pub either-way : (lent tray : List ℕ) → EitherWay (length tray) (finishOf job lent tray) (finishOf (turnedRound job) lent tray)

@@ -1,6 +1,7 @@
 // The proved entry points as liboutline.a exports them. A slice is a pointer and a length.
 // A fault, which only the check of the driver itself switches on, spoils what a call left.
 use crate::plain::kept;
+use crate::turned;
 use crate::words::*;
 
 extern "C" {
@@ -136,6 +137,10 @@ pub enum Fault {
     ReasonUnknown,
     /// A refusal has a reason beside it.
     ReasonHalf,
+    /// A job turned round has its first path in the same order.
+    TurnedOrder,
+    /// A job turned round has the z of its first path's ends exchanged.
+    TurnedDepth,
 }
 
 pub const FAULTS: &[Fault] = &[
@@ -186,6 +191,8 @@ pub const FAULTS: &[Fault] = &[
     Fault::ReasonEarly,
     Fault::ReasonUnknown,
     Fault::ReasonHalf,
+    Fault::TurnedOrder,
+    Fault::TurnedDepth,
 ];
 
 /// The listing with `piece` and `hole` exchanged, and its length.
@@ -283,6 +290,18 @@ impl Calls {
         }
         answer
     }
+
+    /// Finishing a job that was turned round, or the one that it was.
+    pub fn turned(self, turned: bool, job: &[u8], work: &mut [u32], tray: &mut [u8]) -> u32 {
+        let answer = self.finish(job, work, tray);
+        match (self.0, answer) {
+            (Fault::TurnedOrder, 0) if turned => turned::spoilt(tray, true),
+            (Fault::TurnedDepth, 0) if turned => turned::spoilt(tray, false),
+            _ => {}
+        }
+        answer
+    }
+
     pub fn list(self, job: &[u8], work: &mut [u32], tray: &mut [u8], rate: u32, text: &mut [u8]) -> u64 {
         let (n, bytes, room) = (work.len(), tray.len(), text.len());
         let (words, fields, start) = (work.as_mut_ptr(), tray.as_mut_ptr(), text.as_mut_ptr());

@@ -18,6 +18,7 @@ mod runs;
 mod steps;
 mod tally;
 mod tidied;
+mod turned;
 mod words;
 
 use calls::{Fault, FAULTS};
