@@ -1,14 +1,14 @@
 -- Opening two jobs that differ in the settings byte only: the same refusal, or words that differ in the settings only.
 use Prim.Native.Nat.{ℕ, zero, suc}
-use mathlib.Core.Path.{_≡_, refl, sym, ap, _∙_}
+use mathlib.Core.Path.{_≡_, refl, ap, _∙_}
 use mathlib.Core.Bool.{Bool, true, false, cond}
-use mathlib.Core.List.{List, [], _∷_}
+use mathlib.Core.List.{List}
 use lib.Dec.{ltb}
 use lib.ListN.{length, getD, set, replicate}
 use Rattle.job.specs.Limits.{SEGMENTS}
 use Rattle.job.specs.declared.Job.{Job}
 use Rattle.job.specs.declared.refusal.Refusal.the-variants as refusal
-use Rattle.store.specs.Field.{ct, POINTS, RECORDS, SETTINGS, LENGTH}
+use Rattle.store.specs.Field.{ct, SETTINGS, LENGTH}
 use Rattle.store.specs.Words.{put}
 use Rattle.store.specs.Named.{recordsOf}
 use Rattle.audit.specs.declared.Verdict.{Verdict}

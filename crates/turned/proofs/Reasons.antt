@@ -1,12 +1,11 @@
 -- Why a record has an outline, or none, and at which place: the same under either setting. Of any store, sound or not.
-use Prim.Native.Nat.{ℕ, _%_}
+use Prim.Native.Nat.{ℕ}
 use mathlib.Core.Path.{_≡_, refl, sym, ap, _∙_}
-use mathlib.Core.Bool.{Bool, cond, not, _&&_, _||_}
-use mathlib.Core.List.{List, map, reverse}
-use mathlib.Core.Option.{Option, none, some}
-use lib.Dec.{eqb, ltb}
+use mathlib.Core.Bool.{Bool, cond, not, _&&_}
+use mathlib.Core.List.{List, map}
+use mathlib.Core.Option.{Option}
+use lib.Dec.{eqb}
 use lib.ListN.{length, length-map, length-reverse}
-use Rattle.job.specs.declared.refusal.Refusal.the-variants.{OutOfTurn}
 use Rattle.geometry.specs.declared.Point.{Point}
 use Rattle.geometry.specs.Plane.{ground}
 use Rattle.geometry.proofs.Points.{same-true, true-same}
@@ -15,9 +14,8 @@ use Rattle.lone.specs.Path.{inOrder, withoutEquals, isSmallRing}
 use Rattle.lone.specs.Plane.{plane}
 use Rattle.store.specs.Field.{rc, ct, SETTINGS, REASON, TAKER}
 use Rattle.store.specs.Words.{Store}
-use Rattle.store.specs.Sound.{recs, ringless, isOpen}
+use Rattle.store.specs.Sound.{ringless, isOpen}
 use Rattle.store.specs.Value.{preserveCollinear, reverseSolution}
-use Rattle.steps.specs.Live.{anyLive}
 use Rattle.paths.specs.declared.PathEnd.the-variants.{Points}
 use Rattle.paths.specs.Path.{pointAt, pointsAt, smallBy, endBy, pathEnd, pathAt, pathsBelow}
 use Rattle.opposite.specs.Opposite.{turnedOver}
@@ -25,9 +23,6 @@ use Rattle.opposite.specs.Turned.{TurnedOr, neither, both, walkAt}
 use Rattle.opposite.proofs.Keyed.{tests-other}
 use Rattle.opposite.proofs.Paths.{small-turned}
 use Rattle.opposite.proofs.Stores.{kept-bit, reversed-other, path-other, below-other}
-use Rattle.telling.specs.declared.Reason.{Reason}
-use Rattle.telling.specs.declared.Told.{Told}
-use Rattle.telling.specs.declared.Told.the-variants.{Because, Refused}
 use Rattle.telling.specs.Telling.{keptReason, endReason, pathReason, reasonAt}
 use Rattle.turned.proofs.Lists.{as-many}
 
@@ -65,16 +60,3 @@ module _ (s : Store) where
   pub reason-same : (i : ℕ) → reasonAt (turnedOver s) i ≡ reasonAt s i
   unfolding reasonAt
   reason-same i = ap (cond (ringless s i) (keptReason (s (rc REASON) i) (s (rc TAKER) i))) (path-same i)
-
-  live-same : anyLive (turnedOver s) ≡ anyLive s
-  unfolding anyLive
-  live-same = refl
-
--- what `reason_of` answers where the tests passed
-abbrev pub answerIn : Store → ℕ → Told
-answerIn s i = cond (not (ltb i (recs s)) || anyLive s) (Refused OutOfTurn) (Because (reasonAt s i))
-
-pub answer-same : (s : Store) (i : ℕ) → answerIn (turnedOver s) i ≡ answerIn s i
-answer-same s i =
-    ap (λ (b : Bool). cond (not (ltb i (recs s)) || b) (Refused OutOfTurn) (Because (reasonAt (turnedOver s) i))) (live-same s)
-    ∙ ap (λ (r : Reason). cond (not (ltb i (recs s)) || anyLive s) (Refused OutOfTurn) (Because r)) (reason-same s i)

@@ -1,10 +1,10 @@
 -- Ask 10, of every job.
 use Prim.Native.Nat.{ℕ, _%_, _<_}
 use mathlib.Core.Path.{_≡_, refl, sym, ap, _∙_, subst}
-use mathlib.Core.Bool.{Bool, true, false, cond}
+use mathlib.Core.Bool.{Bool, true, false, cond, not, _||_}
 use mathlib.Core.List.{List, reverse}
 use native.Mathlib.Omega.{arith}
-use lib.Dec.{leb, eqb}
+use lib.Dec.{leb, ltb, eqb}
 use lib.ListN.{length, getD}
 use lib.Seq.{set-getD}
 use Rattle.geometry.specs.declared.Point.{Point}
@@ -19,6 +19,7 @@ use Rattle.store.specs.Value.{preserveCollinear}
 use Rattle.audit.specs.declared.Verdict.{Verdict}
 use Rattle.audit.specs.declared.Verdict.the-variants as verdict
 use Rattle.audit.specs.Handed.{handedOf}
+use Rattle.steps.specs.Live.{anyLive}
 use Rattle.acts.specs.Finish.{RingsEnd, ringsDone, ringsFull, finishW}
 use Rattle.paths.specs.declared.Written.the-variants.{Paths, Refused}
 use Rattle.paths.specs.Path.{pathAt, pathsBelow, closedPaths, openPaths}
@@ -35,6 +36,9 @@ use Rattle.finishing.proofs.InOneCall.{done-ready, opening-left}
 use Rattle.opposite.specs.Opposite.{otherBits, turnedOver, allOnGround, opposite}
 use Rattle.opposite.specs.Turned.{TurnedOr, AllTurned, walkAt, walksBelow}
 use Rattle.opposite.proofs.Stores.{kept-bit, walk-other, path-other, all-other, below-other}
+use Rattle.telling.specs.declared.Reason.{Reason}
+use Rattle.telling.specs.declared.Told.the-variants.{Because}
+use Rattle.telling.specs.declared.Told.the-variants as telling
 use Rattle.telling.specs.Telling.{reasonAt, reasonBy, reasonOf}
 use Rattle.turned.specs.Turned.{turnedRound, bytesOf, EitherWay, both-give, both-refuse, TurningRound}
 use Rattle.turned.proofs.Bits.{same-range, one-bit}
@@ -42,8 +46,8 @@ use Rattle.turned.proofs.Settings.{re, length-re, settings-re, view-re}
 use Rattle.turned.proofs.Judging.{handed-re}
 use Rattle.turned.proofs.Opening.{settings-put, reOpen, open-re}
 use Rattle.turned.proofs.Lists.{as-many, same-used, areas-other, net-other, size-other, charges-other}
-use Rattle.turned.proofs.Finishing.{reRings, finish-re}
-use Rattle.turned.proofs.Reasons.{answerIn, reason-same, answer-same}
+use Rattle.turned.proofs.Finishing.{reRings, recs-re, any-live-re, finish-re}
+use Rattle.turned.proofs.Reasons.{reason-same}
 
 -- ---- what two stores show that differ in the setting only
 
@@ -53,10 +57,9 @@ record OfStores (s s′ : Store) : Type 0 where
   walked-back : (i : ℕ) → walkAt s′ i ≡ reverse (walkAt s i)
   each : (i : ℕ) → TurnedOr (walkAt s i) (pathAt s i) (pathAt s′ i)
   reasons : (j : ℕ) → reasonAt s′ j ≡ reasonAt s j
-  answers : (j : ℕ) → answerIn s′ j ≡ answerIn s j
 
 of-stores : (s : Store) → OfStores s (turnedOver s)
-of-stores s = record { opposed = below-other s (recs s); turned = all-other s (recs s); walked-back = walk-other s; each = path-other s; reasons = reason-same s; answers = answer-same s }
+of-stores s = record { opposed = below-other s (recs s); turned = all-other s (recs s); walked-back = walk-other s; each = path-other s; reasons = reason-same s }
 
 -- ---- writing out of the two
 
@@ -77,7 +80,10 @@ module _ (v : ℕ) (w t : List ℕ) (d : re v w ≡ put (ct SETTINGS) w 0 (other
     where
       go : (x : Verdict) → reasonBy x (re v w) j ≡ reasonBy x w j
       go (verdict.Refused r) = refl
-      go verdict.Passed = f .answers j
+      go verdict.Passed =
+          ap (λ (n : ℕ). cond (not (ltb j n) || anyLive (view (re v w))) (telling.Refused refusal.OutOfTurn) (Because (reasonAt (view (re v w)) j))) (recs-re v w)
+          ∙ ap (λ (b : Bool). cond (not (ltb j (recs (view w))) || b) (telling.Refused refusal.OutOfTurn) (Because (reasonAt (view (re v w)) j))) (any-live-re v w)
+          ∙ ap (λ (r : Reason). cond (not (ltb j (recs (view w))) || anyLive (view w)) (telling.Refused refusal.OutOfTurn) (Because r)) (f .reasons j)
 
   abbrev X : List ℕ → Wrote
   X u = wrote (Paths (length (closedPaths (view u))) (length (openPaths (view u)))) (padded (length t) (fieldsOf (view u)))
