@@ -36,6 +36,8 @@ use Rattle.finishing.proofs.InOneCall.{done-ready, opening-left}
 use Rattle.opposite.specs.Opposite.{otherBits, turnedOver, allOnGround, opposite}
 use Rattle.opposite.specs.Turned.{TurnedOr, AllTurned, walkAt, walksBelow}
 use Rattle.opposite.proofs.Stores.{kept-bit, walk-other, path-other, all-other, below-other}
+use Rattle.listing.specs.Senses.{wordsOf}
+use Rattle.listing.proofs.Senses.{words-stay}
 use Rattle.telling.specs.declared.Reason.{Reason}
 use Rattle.telling.specs.declared.Told.the-variants.{Because}
 use Rattle.telling.specs.declared.Told.the-variants as telling
@@ -56,10 +58,11 @@ record OfStores (s s′ : Store) : Type 0 where
   turned : (o : Bool) → AllTurned (walksBelow (recs s) o s) (pathsBelow (recs s) o s) (pathsBelow (recs s′) o s′)
   walked-back : (i : ℕ) → walkAt s′ i ≡ reverse (walkAt s i)
   each : (i : ℕ) → TurnedOr (walkAt s i) (pathAt s i) (pathAt s′ i)
+  senses : wordsOf s′ ≡ wordsOf s
   reasons : (j : ℕ) → reasonAt s′ j ≡ reasonAt s j
 
 of-stores : (s : Store) → OfStores s (turnedOver s)
-of-stores s = record { opposed = below-other s (recs s); turned = all-other s (recs s); walked-back = walk-other s; each = path-other s; reasons = reason-same s }
+of-stores s = record { opposed = below-other s (recs s); turned = all-other s (recs s); walked-back = walk-other s; each = path-other s; senses = words-stay s; reasons = reason-same s }
 
 -- ---- writing out of the two
 
@@ -116,6 +119,7 @@ module _ (v : ℕ) (w t : List ℕ) (d : re v w ≡ put (ct SETTINGS) w 0 (other
         signs = areas-other cs ds (f .opposed false);
         net-sign = net-other cs ds (f .opposed false);
         net-size = size-other cs ds (f .opposed false);
+        senses = f .senses;
         charges = charges-other cs ds (f .opposed false);
         reasons = f .reasons;
         told = told;

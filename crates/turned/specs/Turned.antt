@@ -21,6 +21,7 @@ use Rattle.paths.specs.Tray.{tagOf, fields, padded}
 use Rattle.opposite.specs.Opposite.{otherBits, allOnGround, opposite}
 use Rattle.opposite.specs.Turned.{TurnedOr, AllTurned, walkAt, walksBelow}
 use Rattle.listing.specs.Charge.{netArea, chargeLine}
+use Rattle.listing.specs.Senses.{wordsOf}
 use Rattle.telling.specs.Telling.{reasonAt, reasonOf}
 use Rattle.finishing.specs.InOneCall.{Finished, finishOf}
 
@@ -41,7 +42,7 @@ pub record OneBit (job other : List ℕ) : Type 0 where
   pub bit-0 : settingsByte other % 2 ≡ settingsByte job % 2
   pub bit-1 : HEADER < length job → settingsByte other / 2 % 2 ≡ 1 - settingsByte job / 2 % 2
   pub other-bits : settingsByte other / 4 ≡ settingsByte job / 4
-  -- a job that is too short to have a settings byte has no setting: it stays, and is refused
+  -- a job that is too short to have a settings byte stays as it is
   pub too-short : length job ≤ HEADER → other ≡ job
   -- turned round again it is the job
   pub again : turnedRound other ≡ job
@@ -88,6 +89,8 @@ pub record BothGive (n : ℕ) (one other : Finished) : Type 0 where
   pub signs : areas other-closed ≡ map negℤ (areas closed)
   pub net-sign : netArea other-closed ≡ negℤ (netArea closed)
   pub net-size : natAbs (netArea other-closed) ≡ natAbs (netArea closed)
+  -- so pieces stay pieces, and holes holes: request 2, of two jobs
+  pub senses : wordsOf (view (other .words)) ≡ wordsOf (view (one .words))
   -- "reuse charges": the same line at every rate
   pub charges : (rate : ℕ) → chargeLine rate other-closed ≡ chargeLine rate closed
   -- "and reasons": the same of every record, with the same place; and `reason_of` answers the same of every number
