@@ -71,7 +71,7 @@ pub fn case(room: &mut Room, rng: &mut Rng) -> Same {
     one_call(room, rng, &expected)?;
     match rng.below(4) {
         0 => listed::case(room, rng, &expected),
-        1 => turned::case(room, rng),
+        1 => turned::case(room, rng, &expected),
         _ => Ok(()),
     }
 }

@@ -1,6 +1,7 @@
 // Request 10, executed: one job finished by the library under either setting of `reverse_solution`, both runs compared with each other. What each path is to have of
 // neighbours at one place is told from the words: neither our definitions nor the oracle's path is asked.
-use crate::finish::{read_tray, tray_length, work_length};
+use crate::finish::{read_tray, tray_length, work_length, Expected};
+use crate::listed::TEXT;
 use crate::room::{all_zero, expect, Room, Same, TRAY};
 use crate::words::*;
 use oracle::answer::Answer;
@@ -18,34 +19,31 @@ struct Left {
     answer: u32,
     words: Vec<u32>,
     tray: Vec<u8>,
-    charge: String,
 }
 
 /// The lengths and the content that both runs are lent.
-#[derive(Clone, Copy)]
 struct Lending {
     words: usize,
     word: u32,
     tray: usize,
     byte: u8,
-    rate: u32,
 }
 
 /// The room's job, and the job with that one bit turned over.
-pub fn case(room: &mut Room, rng: &mut Rng) -> Same {
+pub fn case(room: &mut Room, rng: &mut Rng, expected: &Expected) -> Same {
     let one = room.job().to_vec();
     let mut other = one.clone();
     if let Some(byte) = other.get_mut(SETTINGS_AT) {
         *byte ^= REVERSE;
     }
-    let (words, word, byte) = (work_length(rng), rng.bits() as u32, rng.below(256) as u8);
-    let rate = 1 + rng.below(1000) as u32;
-    let mut lending = Lending { words, word, tray: TRAY, byte, rate };
-    let whole = finished(room, &one, lending, false)?;
-    lending.tray = tray_length(rng, used(&whole.tray));
-    let this = finished(room, &one, lending, false)?;
-    let that = finished(room, &other, lending, true)?;
-    room.trace.push(format!("turned round, {words} words, a tray of {}: {} and {}", lending.tray, this.answer, that.answer));
+    let need = match expected {
+        Expected::Refused(_) => 0,
+        Expected::Finished { answer, .. } => answer.tray().len(),
+    };
+    let lending = Lending { words: work_length(rng), word: rng.bits() as u32, tray: tray_length(rng, need), byte: rng.below(256) as u8 };
+    let this = finished(room, &one, &lending, false)?;
+    let that = finished(room, &other, &lending, true)?;
+    room.trace.push(format!("turned round, {} words, a tray of {}: {} and {}", lending.words, lending.tray, this.answer, that.answer));
     expect(this.answer == that.answer, || format!("turned round the answer is {}, not {}", that.answer, this.answer))?;
     room.tally.answer("turned", that.answer);
     if this.answer != 0 {
@@ -53,31 +51,29 @@ pub fn case(room: &mut Room, rng: &mut Rng) -> Same {
         return expect(zero(&this) && zero(&that), || "a refused job leaves something".into());
     }
     same_words(&this.words, &that.words)?;
-    expect(this.charge == that.charge, || format!("turned round the charge is {}, not {}", that.charge, this.charge))?;
-    paths(room, &this, &that)
+    paths(room, &this, &that)?;
+    let rate = 1 + rng.below(1000) as u32;
+    let (ours, others) = (charge(room, &one, rate), charge(room, &other, rate));
+    expect(ours == others, || format!("turned round the charge is {others}, not {ours}"))
 }
 
-/// How many bytes the paths of a tray have.
-fn used(tray: &[u8]) -> usize {
-    let mut at = 0;
-    while at + 3 <= tray.len() && tray[at] != 0 {
-        at += 3 + u16::from_le_bytes([tray[at + 1], tray[at + 2]]) as usize;
-    }
-    at
-}
-
-/// One run of finishing, and of the listing at a rate, of which the last line counts.
-fn finished(room: &mut Room, job: &[u8], lending: Lending, turned: bool) -> Result<Left, String> {
+/// One run of finishing.
+fn finished(room: &mut Room, job: &[u8], lending: &Lending, turned: bool) -> Result<Left, String> {
     room.work.lend(lending.words, lending.word);
     room.tray.lend(lending.tray, lending.byte);
     let answer = room.calls.turned(turned, job, room.work.get_mut(), room.tray.get_mut());
     room.margins()?;
-    let (words, tray) = (room.work.get().to_vec(), room.tray.get().to_vec());
-    room.text.lend(crate::listed::TEXT, 0);
-    let length = room.calls.list(job, room.work.get_mut(), room.tray.get_mut(), lending.rate, room.text.get_mut());
-    let text = String::from_utf8_lossy(&room.text.get()[..length as usize]).into_owned();
-    let charge = text.lines().last().unwrap_or("").to_string();
-    Ok(Left { answer, words, tray, charge })
+    Ok(Left { answer, words: room.work.get().to_vec(), tray: room.tray.get().to_vec() })
+}
+
+/// The last line of the listing at a rate.
+fn charge(room: &mut Room, job: &[u8], rate: u32) -> String {
+    room.work.lend(WORDS, 0);
+    room.tray.lend(TRAY, 0);
+    room.text.lend(TEXT, 0);
+    let length = room.calls.list(job, room.work.get_mut(), room.tray.get_mut(), rate, room.text.get_mut());
+    let text = String::from_utf8_lossy(&room.text.get()[..length as usize]);
+    text.lines().last().unwrap_or("").to_string()
 }
 
 /// Every word but the settings, and of these every bit but one.
