@@ -7,7 +7,7 @@ use oracle::charge::{self, Rate};
 use oracle::rng::Rng;
 
 /// A text of so many bytes has room for any listing; with a shorter one the call does nothing.
-pub const TEXT: usize = 54 + 49 * 512 + 44 * 2048 + 49;
+pub const TEXT: usize = 54 + 49 * 512 + 66 * 2048 + 49;
 
 const LARGEST: u32 = 1000;
 
@@ -76,6 +76,7 @@ pub fn case(room: &mut Room, rng: &mut Rng, expected: &Expected) -> Same {
         expect(all_zero(room.work.get()), || "a refused job, listed, leaves a word".into())?;
         return expect(all_zero(room.tray.get()), || "a refused job, listed, leaves a byte of the tray".into());
     }
+    room.freed(fill)?;
     let (paths, rest) = room.tray.get().split_at(bytes.len());
     expect(paths == bytes && all_zero(rest), || "the tray of a listing".into())
 }

@@ -40,10 +40,18 @@ pub fn case(room: &mut Room, rng: &mut Rng, expected: &Expected) -> Same {
         Expected::Refused(_) => 0,
         Expected::Finished { answer, .. } => answer.tray().len(),
     };
-    let lending = Lending { words: work_length(rng), word: rng.bits() as u32, tray: tray_length(rng, need), byte: rng.below(256) as u8 };
+    let lending = Lending {
+        words: work_length(rng),
+        word: rng.bits() as u32,
+        tray: tray_length(rng, need),
+        byte: rng.below(256) as u8,
+    };
     let this = finished(room, &one, &lending, false)?;
     let that = finished(room, &other, &lending, true)?;
-    room.trace.push(format!("turned round, {} words, a tray of {}: {} and {}", lending.words, lending.tray, this.answer, that.answer));
+    room.trace.push(format!(
+        "turned round, {} words, a tray of {}: {} and {}",
+        lending.words, lending.tray, this.answer, that.answer
+    ));
     expect(this.answer == that.answer, || format!("turned round the answer is {}, not {}", that.answer, this.answer))?;
     room.tally.answer("turned", that.answer);
     if this.answer != 0 {
@@ -100,7 +108,9 @@ fn paths(room: &mut Room, this: &Left, that: &Left) -> Same {
         expect(ours[list].len() == others[list].len(), || "turned round another number of paths".into())?;
         for (place, (path, other)) in ours[list].iter().zip(&others[list]).enumerate() {
             let ground = |p: &Pt| (p.0, p.1);
-            expect(path.iter().map(ground).eq(other.iter().rev().map(ground)), || format!("turned round path {place} of list {list} is not in opposite order"))?;
+            expect(path.iter().map(ground).eq(other.iter().rev().map(ground)), || {
+                format!("turned round path {place} of list {list} is not in opposite order")
+            })?;
             expect(area(path) == -area(other), || format!("turned round the area of path {place} of list {list}"))?;
         }
     }
@@ -108,7 +118,9 @@ fn paths(room: &mut Room, this: &Left, that: &Left) -> Same {
     let mut told = 0;
     for record in 0..records(&this.words) {
         let reason = room.calls.reason(&this.words, record as u32);
-        expect(reason == room.calls.reason(&that.words, record as u32), || format!("turned round the reason of record {record}"))?;
+        expect(reason == room.calls.reason(&that.words, record as u32), || {
+            format!("turned round the reason of record {record}")
+        })?;
         if reason as u32 == 0 && reason >> 32 & 255 == 8 {
             let (list, place) = ((reason >> 40 & 255) - CLOSED, (reason >> 48) as usize);
             let (path, other) = (&ours[list as usize][place], &others[list as usize][place]);
@@ -135,7 +147,10 @@ fn stretches(room: &mut Room, w: &[u32], record: usize, open: bool, path: &[Pt],
     let longer = parts.iter().filter(|part| part.len() > 1).count() as u64;
     let differ = parts.iter().filter(|part| part[0] != part[part.len() - 1]).count() as u64;
     room.tally.event(if open { "turned round: open paths" } else { "turned round: closed paths" }, 1);
-    room.tally.event(if open { "turned round: longer stretches, open" } else { "turned round: longer stretches, closed" }, longer);
+    room.tally.event(
+        if open { "turned round: longer stretches, open" } else { "turned round: longer stretches, closed" },
+        longer,
+    );
     room.tally.event("turned round: stretches whose z differs", differ);
     Ok(())
 }

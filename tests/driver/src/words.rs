@@ -1,7 +1,6 @@
 // The work space as docs/WORKSPACE.md lays it out, written from that table and not from the code.
 use oracle::real::Pt;
 
-pub const WORDS: usize = 14_864;
 pub const MOST_POINTS: usize = 2048;
 pub const MOST_RECORDS: usize = 512;
 pub const NONE: u32 = 65_535;
@@ -16,7 +15,8 @@ pub const Y: usize = X + MOST_POINTS;
 pub const NEXT: usize = Y + MOST_POINTS;
 pub const PREV: usize = NEXT + MOST_POINTS;
 pub const REC: usize = PREV + MOST_POINTS;
-pub const FLAGS: usize = REC + MOST_POINTS;
+pub const Z: usize = REC + MOST_POINTS;
+pub const FLAGS: usize = Z + MOST_POINTS;
 pub const OWNER: usize = FLAGS + MOST_RECORDS;
 pub const FIRST: usize = OWNER + MOST_RECORDS;
 pub const MARK: usize = FIRST + MOST_RECORDS;
@@ -25,6 +25,14 @@ pub const START: usize = PRESENT + MOST_RECORDS;
 pub const CUT: usize = START + MOST_RECORDS;
 pub const REASON: usize = CUT + MOST_RECORDS;
 pub const TAKER: usize = REASON + MOST_RECORDS;
+
+/// The live block; behind it a word for each place's name, and a copy of the block for each.
+pub const BLOCK: usize = TAKER + MOST_RECORDS;
+pub const STATES: usize = 4;
+pub const NAMES: usize = BLOCK;
+pub const KEPT: usize = NAMES + STATES;
+/// The fixed length.
+pub const WORDS: usize = KEPT + STATES * BLOCK;
 
 /// Why a record has no ring: none in the job, joined into another, and a step's three rules in the order of the marks.
 pub const NO_RING: u32 = 1;
@@ -62,8 +70,9 @@ pub fn is_open(w: &[u32], record: usize) -> bool {
     w[FLAGS + record] & 1 != 0
 }
 
+/// A point with its z, which is its word's 32 bits as a signed number.
 pub fn value(w: &[u32], point: usize) -> Pt {
-    (w[X + point] as i64 - RAISED, w[Y + point] as i64 - RAISED)
+    (w[X + point] as i64 - RAISED, w[Y + point] as i64 - RAISED, w[Z + point] as i32 as i64)
 }
 
 /// A record's ring: the points along next from the first; none where the walk does not come back.
