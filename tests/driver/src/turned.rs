@@ -11,6 +11,14 @@ use oracle::rng::Rng;
 
 /// A path's tag in the tray and in what `outline_reason` tells.
 const CLOSED: u64 = 6;
+/// What comes up; a long run must have met all but the third, since closed rings have no equal neighbours once they are done.
+pub const SEEN: [&str; 5] = [
+    "turned round: closed paths",
+    "turned round: open paths",
+    "turned round: longer stretches, closed",
+    "turned round: longer stretches, open",
+    "turned round: stretches whose z differs",
+];
 /// Where the settings byte stands.
 const SETTINGS_AT: usize = 3;
 
@@ -144,14 +152,14 @@ fn stretches(room: &mut Room, w: &[u32], record: usize, open: bool, path: &[Pt],
     let last: Vec<Pt> = parts.iter().rev().map(|part| part[part.len() - 1]).collect();
     expect(path == first, || format!("record {record}: the path is not the first of each stretch"))?;
     expect(other == last, || format!("record {record}: turned round the path is not the last of each stretch"))?;
-    let longer = parts.iter().filter(|part| part.len() > 1).count() as u64;
-    let differ = parts.iter().filter(|part| part[0] != part[part.len() - 1]).count() as u64;
-    room.tally.event(if open { "turned round: open paths" } else { "turned round: closed paths" }, 1);
-    room.tally.event(
-        if open { "turned round: longer stretches, open" } else { "turned round: longer stretches, closed" },
-        longer,
-    );
-    room.tally.event("turned round: stretches whose z differs", differ);
+    let mut event = |seen: usize, times: usize| {
+        if times > 0 {
+            room.tally.event(SEEN[seen], times as u64);
+        }
+    };
+    event(open as usize, 1);
+    event(2 + open as usize, parts.iter().filter(|part| part.len() > 1).count());
+    event(4, parts.iter().filter(|part| part[0] != part[part.len() - 1]).count());
     Ok(())
 }
 
