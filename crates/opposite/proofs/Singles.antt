@@ -9,7 +9,7 @@ use lib.ListN.{getElem?}
 use Rattle.rings.specs.Circle.{lastOf}
 use Rattle.geometry.specs.declared.Point.{Point}
 use Rattle.geometry.specs.Plane.{ground}
-use Rattle.opposite.specs.Turned.{AllAt, Cluster, firstIn, lastIn, pointsOf, Parted, Turned, NearestElsewhere, SinglePoint}
+use Rattle.opposite.specs.Turned.{AllAt, Cluster, firstIn, lastIn, clustered, Maximal, Turned, NearestElsewhere, SinglePoint}
 use Rattle.opposite.proofs.Clusters.{Elsewhere, next, later}
 
 -- ---- what stands before a stretch
@@ -27,23 +27,23 @@ near-stretch p x more n h = subst (NearestElsewhere p) (sym (reverse-cons x more
     back (q ∷ l) h = subst (NearestElsewhere p) (sym (reverse-cons q l)) (near-more p (reverse l) (q ∷ []) (back l (h .1)) (λ e i. n (sym (h .0) ∙ i)))
 
 -- the first point of stretches that begin elsewhere
-first-elsewhere : (x p : Point) (l : List Point) (rs : List Cluster) → p ∷ l ≡ pointsOf rs → Elsewhere x rs → ground x ≢ ground p
+first-elsewhere : (x p : Point) (l : List Point) (rs : List Cluster) → p ∷ l ≡ clustered rs → Elsewhere x rs → ground x ≢ ground p
 unfolding Elsewhere
 first-elsewhere x p l [] e n = absurd (let z : _≡_ {A = ℕ} 0 1 = cc in omega arith)
 first-elsewhere x p l (q ∷ rs) e n = let f : p ≡ q .first = cc in λ i. n (sym (ap ground f) ∙ sym i)
 
-after-elsewhere : (x : Point) (rs : List Cluster) → Elsewhere x rs → NearestElsewhere x (pointsOf rs)
+after-elsewhere : (x : Point) (rs : List Cluster) → Elsewhere x rs → NearestElsewhere x (clustered rs)
 unfolding Elsewhere
 after-elsewhere x [] n = tt
 after-elsewhere x (q ∷ rs) n = n
 
 -- ---- the points of a stretch, and of those behind it
 
-here : (r : Cluster) (rs : List Cluster) → Parted (r ∷ rs) → SinglePoint (pointsOf (r ∷ rs)) (r .first) (lastIn r)
+here : (r : Cluster) (rs : List Cluster) → Maximal (r ∷ rs) → SinglePoint (clustered (r ∷ rs)) (r .first) (lastIn r)
 here r rs d = record {
   before = [];
   dropped = r .more;
-  after = pointsOf rs;
+  after = clustered rs;
   walked = refl;
   at-place = r .one-place;
   starts = tt;
@@ -52,7 +52,7 @@ here r rs d = record {
   agrees = λ e. ap (lastOf (r .first)) e;
 }
 
-behind : (r : Cluster) (rs : List Cluster) (p q : Point) → Parted (r ∷ rs) → SinglePoint (pointsOf rs) p q → SinglePoint (pointsOf (r ∷ rs)) p q
+behind : (r : Cluster) (rs : List Cluster) (p q : Point) → Maximal (r ∷ rs) → SinglePoint (clustered rs) p q → SinglePoint (clustered (r ∷ rs)) p q
 behind r rs p q d s = record {
   before = s .before ++ reverse stretch;
   dropped = s .dropped;
@@ -71,17 +71,17 @@ behind r rs p q d s = record {
     rest : List Point
     rest = p ∷ (s .dropped ++ s .after)
 
-singles : (rs : List Cluster) → Parted rs → (k : ℕ) (p q : Point) → getElem? (map firstIn rs) k ≡ some p → getElem? (map lastIn rs) k ≡ some q → SinglePoint (pointsOf rs) p q
+singles : (rs : List Cluster) → Maximal rs → (k : ℕ) (p q : Point) → getElem? (map firstIn rs) k ≡ some p → getElem? (map lastIn rs) k ≡ some q → SinglePoint (clustered rs) p q
 singles [] d k p q h i = absurd (let z : _≡_ {A = ℕ} 0 1 = cc in omega arith)
 singles (r ∷ rs) d zero p q h i =
     let e : r .first ≡ p = cc in
     let f : lastIn r ≡ q = cc in
-    subst (λ (x : Point). SinglePoint (pointsOf (r ∷ rs)) x q) e (subst (SinglePoint (pointsOf (r ∷ rs)) (r .first)) f (here r rs d))
+    subst (λ (x : Point). SinglePoint (clustered (r ∷ rs)) x q) e (subst (SinglePoint (clustered (r ∷ rs)) (r .first)) f (here r rs d))
 singles (r ∷ rs) d (suc k) p q h i = behind r rs p q d (singles rs (later r rs d) k p q h i)
 
 -- of any two paths of which one walks c and the other walks it back
 pub single-points : (c this that : List Point) → Turned c this that → (k : ℕ) (p q : Point) → getElem? this k ≡ some p → getElem? (reverse that) k ≡ some q → SinglePoint c p q
 single-points c this that t k p q h i =
     subst (λ (l : List Point). SinglePoint l p q) (t .walked)
-    (singles (t .clusters) (t .parted) k p q (sym (ap (λ (l : List Point). getElem? l k) (t .this-is)) ∙ h)
+    (singles (t .clusters) (t .maximal) k p q (sym (ap (λ (l : List Point). getElem? l k) (t .this-is)) ∙ h)
     (sym (ap (λ (l : List Point). getElem? l k) (ap reverse (t .that-is) ∙ reverse-reverse (map lastIn (t .clusters)))) ∙ i))

@@ -34,22 +34,22 @@ abbrev pub lastIn : Cluster → Point
 lastIn r = lastOf (r .first) (r .more)
 
 -- all their points, one stretch after the other
-abbrev pub pointsOf : List Cluster → List Point
-pointsOf [] = []
-pointsOf (r ∷ rs) = r .first ∷ (r .more ++ pointsOf rs)
+abbrev pub clustered : List Cluster → List Point
+clustered [] = []
+clustered (r ∷ rs) = r .first ∷ (r .more ++ clustered rs)
 
 -- no stretch goes on in the next one. The first and the last may be at one place: "not a last point equal to the first"
-abbrev pub Parted : List Cluster → Type 0
-Parted [] = Unit {0}
-Parted (r ∷ []) = Unit {0}
-Parted (r ∷ q ∷ rs) = (ground (q .first) ≢ ground (r .first)) × Parted (q ∷ rs)
+abbrev pub Maximal : List Cluster → Type 0
+Maximal [] = Unit {0}
+Maximal (r ∷ []) = Unit {0}
+Maximal (r ∷ q ∷ rs) = (ground (q .first) ≢ ground (r .first)) × Maximal (q ∷ rs)
 
 -- c is walked forth by one path, this, and back by the other, that
 pub record Turned (c this that : List Point) : Type 0 where
   -- c falls into stretches of neighbours at one place
   pub clusters : List Cluster
-  pub walked : pointsOf clusters ≡ c
-  pub parted : Parted clusters
+  pub walked : clustered clusters ≡ c
+  pub maximal : Maximal clusters
   -- "the first one walked keeps its z": of each stretch this path has the first, and that path, which comes from the other end, the last
   pub this-is : this ≡ map firstIn clusters
   pub that-is : that ≡ reverse (map lastIn clusters)

@@ -16,7 +16,7 @@ use Rattle.paths.proofs.Laying.{length-pathBytes}
 use Rattle.opposite.specs.Opposite.{onGround, allOnGround, opposite}
 use Rattle.listing.specs.Charge.{netArea, chargeText, chargeLine}
 use Rattle.listing.proofs.Senses.{net-turned}
-use Rattle.turned.specs.Turned.{areas, bytesOf}
+use Rattle.turned.specs.Turned.{doubledAreas, trayBytes}
 
 -- ---- bytes
 
@@ -43,17 +43,17 @@ module _ (cs ds : List (List Point)) (e : allOnGround ds ≡ opposite (allOnGrou
   same-fields : (tag : ℕ) → length (fields tag ds) ≡ length (fields tag cs)
   same-fields tag = sym (length-ground tag ds) ∙ ap (λ (l : List (List Point)). length (fields tag l)) e ∙ length-fields tag (allOnGround cs) ∙ length-ground tag cs
 
-pub same-used : (cs os ds ps : List (List Point)) → allOnGround ds ≡ opposite (allOnGround cs) → allOnGround ps ≡ opposite (allOnGround os) → length (bytesOf ds ps) ≡ length (bytesOf cs os)
+pub same-used : (cs os ds ps : List (List Point)) → allOnGround ds ≡ opposite (allOnGround cs) → allOnGround ps ≡ opposite (allOnGround os) → length (trayBytes ds ps) ≡ length (trayBytes cs os)
 same-used cs os ds ps e f =
     omega (arith, length-append (fields (tagOf false) ds) (fields (tagOf true) ps), length-append (fields (tagOf false) cs) (fields (tagOf true) os), same-fields cs ds e 6, same-fields os ps f 7)
 
 -- ---- areas
 
-areas-opposite : (cs : List (List Point)) → areas (opposite cs) ≡ map negℤ (areas cs)
+areas-opposite : (cs : List (List Point)) → doubledAreas (opposite cs) ≡ map negℤ (doubledAreas cs)
 areas-opposite [] = refl
-areas-opposite (c ∷ cs) = ap (λ (z : ℤ). z ∷ areas (opposite cs)) (area-reversed c) ∙ ap (λ (l : List ℤ). negℤ (areaOutpt c) ∷ l) (areas-opposite cs)
+areas-opposite (c ∷ cs) = ap (λ (z : ℤ). z ∷ doubledAreas (opposite cs)) (area-reversed c) ∙ ap (λ (l : List ℤ). negℤ (areaOutpt c) ∷ l) (areas-opposite cs)
 
-areas-ground : (cs : List (List Point)) → areas (allOnGround cs) ≡ areas cs
+areas-ground : (cs : List (List Point)) → doubledAreas (allOnGround cs) ≡ doubledAreas cs
 areas-ground [] = refl
 areas-ground (c ∷ cs) = rw (area-ground c, areas-ground cs)
 
@@ -62,8 +62,8 @@ net-ground [] = refl
 net-ground (c ∷ cs) = rw (area-ground c, net-ground cs)
 
 module _ (cs ds : List (List Point)) (e : allOnGround ds ≡ opposite (allOnGround cs)) where
-  pub areas-other : areas ds ≡ map negℤ (areas cs)
-  areas-other = sym (areas-ground ds) ∙ ap areas e ∙ areas-opposite (allOnGround cs) ∙ ap (map negℤ) (areas-ground cs)
+  pub areas-other : doubledAreas ds ≡ map negℤ (doubledAreas cs)
+  areas-other = sym (areas-ground ds) ∙ ap doubledAreas e ∙ areas-opposite (allOnGround cs) ∙ ap (map negℤ) (areas-ground cs)
 
   pub net-other : netArea ds ≡ negℤ (netArea cs)
   net-other = sym (net-ground ds) ∙ ap netArea e ∙ net-turned (allOnGround cs) ∙ ap negℤ (net-ground cs)

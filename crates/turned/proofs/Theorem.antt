@@ -42,7 +42,7 @@ use Rattle.telling.specs.declared.Reason.{Reason}
 use Rattle.telling.specs.declared.Told.the-variants.{Because}
 use Rattle.telling.specs.declared.Told.the-variants as telling
 use Rattle.telling.specs.Telling.{reasonAt, reasonBy, reasonOf}
-use Rattle.turned.specs.Turned.{turnedRound, bytesOf, EitherWay, both-give, both-refuse, TurningRound}
+use Rattle.turned.specs.Turned.{turnedRound, trayBytes, EitherWay, both-give, both-refuse, TurningRound}
 use Rattle.turned.proofs.Bits.{same-range, one-bit}
 use Rattle.turned.proofs.Settings.{re, length-re, settings-re, view-re}
 use Rattle.turned.proofs.Judging.{handed-re}
@@ -67,7 +67,7 @@ of-stores s = record { opposed = below-other s (recs s); turned = all-other s (r
 -- ---- writing out of the two
 
 module _ (v : ℕ) (w t : List ℕ) (d : re v w ≡ put (ct SETTINGS) w 0 (otherBits (settingsOf w))) (f : OfStores (view w) (view (re v w))) where
-  bytes-are : (s : Store) → fieldsOf s ≡ bytesOf (closedPaths s) (openPaths s)
+  bytes-are : (s : Store) → fieldsOf s ≡ trayBytes (closedPaths s) (openPaths s)
   unfolding fieldsOf
   bytes-are s = refl
 

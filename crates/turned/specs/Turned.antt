@@ -28,20 +28,20 @@ use Rattle.finishing.specs.InOneCall.{Finished, finishOf}
 -- ---- "one job .. under either setting"
 
 -- the settings are a job's first field, so their byte comes right after the first header
-abbrev pub settingsByte : List ℕ → ℕ
-settingsByte job = getD job HEADER 0
+abbrev pub settingsOfJob : List ℕ → ℕ
+settingsOfJob job = getD job HEADER 0
 
 -- the job under the other setting
 abbrev pub turnedRound : List ℕ → List ℕ
-turnedRound job = set job HEADER (otherBits (settingsByte job))
+turnedRound job = set job HEADER (otherBits (settingsOfJob job))
 
 -- the two jobs differ in bit 1 of the settings byte and in nothing else
 pub record OneBit (job other : List ℕ) : Type 0 where
   pub as-long : length other ≡ length job
   pub bytes : (i : ℕ) → i ≢ HEADER → getD other i 0 ≡ getD job i 0
-  pub bit-0 : settingsByte other % 2 ≡ settingsByte job % 2
-  pub bit-1 : HEADER < length job → settingsByte other / 2 % 2 ≡ 1 - settingsByte job / 2 % 2
-  pub other-bits : settingsByte other / 4 ≡ settingsByte job / 4
+  pub bit-0 : settingsOfJob other % 2 ≡ settingsOfJob job % 2
+  pub bit-1 : HEADER < length job → settingsOfJob other / 2 % 2 ≡ 1 - settingsOfJob job / 2 % 2
+  pub other-bits : settingsOfJob other / 4 ≡ settingsOfJob job / 4
   -- a job that is too short to have a settings byte stays as it is
   pub too-short : length job ≤ HEADER → other ≡ job
   -- turned round again it is the job
@@ -50,19 +50,19 @@ pub record OneBit (job other : List ℕ) : Type 0 where
 -- ---- what both answer
 
 -- the doubled areas, path by path
-abbrev pub areas : List (List Point) → List ℤ
-areas paths = map areaOutpt paths
+abbrev pub doubledAreas : List (List Point) → List ℤ
+doubledAreas paths = map areaOutpt paths
 
 -- the bytes of closed and open paths
-abbrev pub bytesOf : List (List Point) → List (List Point) → List ℕ
-bytesOf cs os = fields (tagOf false) cs ++ fields (tagOf true) os
+abbrev pub trayBytes : List (List Point) → List (List Point) → List ℕ
+trayBytes cs os = fields (tagOf false) cs ++ fields (tagOf true) os
 
 -- finishing answers with these paths, in its words, in its counts and in the tray of n bytes
-pub record Gives (n : ℕ) (f : Finished) (cs os : List (List Point)) : Type 0 where
+pub record GivesPaths (n : ℕ) (f : Finished) (cs os : List (List Point)) : Type 0 where
   pub closed : closedPaths (view (f .words)) ≡ cs
   pub open-ones : openPaths (view (f .words)) ≡ os
   pub answer : f .answer ≡ Paths (length cs) (length os)
-  pub tray : f .tray ≡ padded n (bytesOf cs os)
+  pub tray : f .tray ≡ padded n (trayBytes cs os)
 
 -- both accepted
 pub record BothGive (n : ℕ) (one other : Finished) : Type 0 where
@@ -70,12 +70,12 @@ pub record BothGive (n : ℕ) (one other : Finished) : Type 0 where
   pub open-ones : List (List Point)
   pub other-closed : List (List Point)
   pub other-open : List (List Point)
-  pub this : Gives n one closed open-ones
-  pub that : Gives n other other-closed other-open
+  pub this : GivesPaths n one closed open-ones
+  pub that : GivesPaths n other other-closed other-open
   -- "equally many paths", and as many bytes of the tray in use
   pub as-many-closed : length other-closed ≡ length closed
   pub as-many-open : length other-open ≡ length open-ones
-  pub used : length (bytesOf other-closed other-open) ≡ length (bytesOf closed open-ones)
+  pub used : length (trayBytes other-closed other-open) ≡ length (trayBytes closed open-ones)
   -- "each is the points of the other at its place in exactly opposite order, open paths included. This is said of x and y"
   pub opposed : allOnGround other-closed ≡ opposite (allOnGround closed)
   pub opposed-open : allOnGround other-open ≡ opposite (allOnGround open-ones)
@@ -86,7 +86,7 @@ pub record BothGive (n : ℕ) (one other : Finished) : Type 0 where
   -- and of each record: it has a path under both settings or under neither
   pub each : (i : ℕ) → TurnedOr (walkAt (view (one .words)) i) (pathAt (view (one .words)) i) (pathAt (view (other .words)) i)
   -- "Doubled areas change sign and no more"; so does the net one, and its magnitude stays
-  pub signs : areas other-closed ≡ map negℤ (areas closed)
+  pub signs : doubledAreas other-closed ≡ map negℤ (doubledAreas closed)
   pub net-sign : netArea other-closed ≡ negℤ (netArea closed)
   pub net-size : natAbs (netArea other-closed) ≡ natAbs (netArea closed)
   -- so pieces stay pieces, and holes holes: request 2, of two jobs
