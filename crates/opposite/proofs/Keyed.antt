@@ -1,24 +1,24 @@
--- A ring's path forward and its path reversed, over any geometry whose equality of points goes by a key: the keys stand in exactly opposite order, and so do
--- whole points where no neighbours equal by key were dropped.
-use Prim.Native.Nat.{ℕ, suc, _≤_}
+-- A ring's path forward and its path reversed, over any geometry whose equality of points goes by a key: both are there or neither, and the keys stand in exactly opposite order.
+use Prim.Native.Nat.{ℕ}
 use mathlib.Core.Path.{_≡_, refl, sym, ap, _∙_, subst}
 use mathlib.Core.Bool.{Bool, true, false, cond, not, _&&_}
-use mathlib.Core.List.{List, [], _∷_, _++_, map, reverse, reverse-cons, reverse-append, map-append}
+use mathlib.Core.List.{List, [], _∷_, _++_, map, reverse, reverse-cons, reverse-append, reverse-reverse, map-append}
 use mathlib.Core.Option.{Option, none, some}
-use native.Mathlib.Omega.{arith}
 use lib.Dec.{leb, eqb}
 use lib.ListN.{length, length-map, length-reverse}
 use Rattle.rings.specs.Circle.{turn, lastOf}
-use Rattle.rings.proofs.Circles.{length-turn}
 use Rattle.lone.specs.Lone.{Geo}
 use Rattle.lone.specs.Path.{inOrder, dropEquals, withoutEquals, isSmallRing, buildPath64FromOutpt}
-use Rattle.lone.proofs.Paths.{dropped}
 
 -- ---- the order: reversed is forward backwards
 
-pub order-turned : {A : Type 0} (c : List A) → inOrder true c ≡ reverse (inOrder false c)
+order-turned : {A : Type 0} (c : List A) → inOrder true c ≡ reverse (inOrder false c)
 order-turned [] = refl
 order-turned (x ∷ xs) = sym (reverse-append xs (x ∷ []))
+
+pub order-other : {A : Type 0} (rev : Bool) (c : List A) → inOrder (not rev) c ≡ reverse (inOrder rev c)
+order-other false c = order-turned c
+order-other true c = sym (ap reverse (order-turned c) ∙ reverse-reverse (inOrder false c))
 
 -- two tests that hold together are equal
 agree : (s t : Bool) → (s ≡ true → t ≡ true) → (t ≡ true → s ≡ true) → s ≡ t
@@ -42,7 +42,7 @@ module _ {P K : Type 0} (G : Geo P) (key : P → K) (same-key : (p q : P) → G 
   last-key l q [] e = e
   last-key l q (r ∷ qs) e = refl
 
-  drop-key : (x y : P) (l : List P) → key x ≡ key y → dropEquals G x l ≡ dropEquals G y l
+  pub drop-key : (x y : P) (l : List P) → key x ≡ key y → dropEquals G x l ≡ dropEquals G y l
   drop-key x y [] e = refl
   drop-key x y (q ∷ l) e = ap (λ (b : Bool). cond b (dropEquals G x l) (q ∷ dropEquals G q l)) (reads q q x y refl e) ∙ ap (λ (r : List P). cond (G .samePoint q y) r (q ∷ dropEquals G q l)) (drop-key x y l e)
 
@@ -83,15 +83,20 @@ module _ {P K : Type 0} (G : Geo P) (key : P → K) (same-key : (p q : P) → G 
       go true e = ap (λ (k : K). k ∷ map key (dropEquals G x l)) (sym (same-key y x e)) ∙ ap (λ (r : List P). key y ∷ map key r) (drop-key x y l (sym (same-key y x e)))
       go false e = refl
 
+  -- one point more at the front of a walk is one more at the end of the walk back
+  pub without-back : (x y : P) (l : List P) → withoutEquals G (reverse (x ∷ y ∷ l)) ≡ cond (G .samePoint x y) (withoutEquals G (reverse (y ∷ l))) (withoutEquals G (reverse (y ∷ l)) ++ (x ∷ []))
+  without-back x y l =
+      ap (λ (r : List P). withoutEquals G r) (reverse-cons x (y ∷ l) ∙ ap (λ (r : List P). r ++ (x ∷ [])) (reverse-cons y l))
+      ∙ without-snoc (reverse l) y x
+      ∙ ap (λ (r : List P). cond (G .samePoint x y) (withoutEquals G r) (withoutEquals G r ++ (x ∷ []))) (sym (reverse-cons y l))
+
   -- ---- the keys: exactly opposite
 
   pub keys-turned : (l : List P) → map key (withoutEquals G (reverse l)) ≡ reverse (map key (withoutEquals G l))
   keys-turned [] = refl
   keys-turned (x ∷ []) = refl
   keys-turned (x ∷ y ∷ l) =
-      ap (λ (r : List P). map key (withoutEquals G r)) (reverse-cons x (y ∷ l) ∙ ap (λ (r : List P). r ++ (x ∷ [])) (reverse-cons y l))
-      ∙ ap (map key) (without-snoc (reverse l) y x)
-      ∙ ap (λ (r : List P). map key (cond (G .samePoint x y) (withoutEquals G r) (withoutEquals G r ++ (x ∷ [])))) (sym (reverse-cons y l))
+      ap (map key) (without-back x y l)
       ∙ push (G .samePoint x y) (withoutEquals G (reverse (y ∷ l)))
       ∙ ap (λ (r : List K). cond (G .samePoint x y) r (r ++ (key x ∷ []))) (keys-turned (y ∷ l))
       ∙ pull (G .samePoint x y) (map key (withoutEquals G (y ∷ l)))
@@ -105,49 +110,40 @@ module _ {P K : Type 0} (G : Geo P) (key : P → K) (same-key : (p q : P) → G 
       pull true d = refl
       pull false d = sym (reverse-cons (key x) d)
 
-  -- ---- whole points, where nothing was dropped
+  -- ---- the paths: both are there, or neither
 
-  none-dropped : (l : P) (c : List P) → length (dropEquals G l c) ≡ length c → dropEquals G l c ≡ c
-  none-dropped l [] e = refl
-  none-dropped l (q ∷ qs) e = go (G .samePoint q l) (dropped G l qs) (none-dropped q qs) e
-    where
-      go : (b : Bool) → length (dropEquals G l qs) ≤ length qs → (length (dropEquals G q qs) ≡ length qs → dropEquals G q qs ≡ qs) → length (cond b (dropEquals G l qs) (q ∷ dropEquals G q qs)) ≡ suc (length qs) → cond b (dropEquals G l qs) (q ∷ dropEquals G q qs) ≡ q ∷ qs
-      go true h k e = absurd (omega arith)
-      go false h k e = ap (λ (r : List P). q ∷ r) (k (omega arith))
-
-  all-there : (c : List P) → length (withoutEquals G c) ≡ length c → withoutEquals G c ≡ c
-  all-there [] e = refl
-  all-there (q ∷ qs) e = ap (λ (r : List P). q ∷ r) (none-dropped q qs (omega arith))
-
-  pub same-length : (l : List P) → length (withoutEquals G (reverse l)) ≡ length (withoutEquals G l)
+  same-length : (l : List P) → length (withoutEquals G (reverse l)) ≡ length (withoutEquals G l)
   same-length l = sym (length-map (withoutEquals G (reverse l)) key) ∙ ap length (keys-turned l) ∙ length-reverse (map key (withoutEquals G l)) ∙ length-map (withoutEquals G l) key
 
-  -- a ring's forward path and its reversed one
-  pub data Opposite (c : List P) : Option (List P) → Option (List P) → Type 0 where
-    neither : Opposite c none none
-    each : {a b : List P} → map key b ≡ reverse (map key a) → (length a ≡ length c → b ≡ reverse a) → Opposite c (some a) (some b)
+  -- as many points are left either way
+  pub same-order : (rev : Bool) (c : List P) → length (withoutEquals G (inOrder (not rev) c)) ≡ length (withoutEquals G (inOrder rev c))
+  same-order rev c = ap (λ (l : List P). length (withoutEquals G l)) (order-other rev c) ∙ same-length (inOrder rev c)
+
+  pub data Alike (a b : List P) : Option (List P) → Option (List P) → Type 0 where
+    neither : Alike a b none none
+    each : Alike a b (some a) (some b)
 
   -- small: the small test says the same of a ring seen from the next point
-  pub path-opposite : ((c : List P) → isSmallRing G c ≡ isSmallRing G (turn c)) → (isOpen : Bool) (c : List P) → Opposite c (buildPath64FromOutpt G false isOpen c) (buildPath64FromOutpt G true isOpen c)
-  unfolding buildPath64FromOutpt
-  path-opposite small isOpen c =
-      subst (λ (l : List P). Opposite c (path (isSmallRing G (turn c)) (withoutEquals G (turn c))) (path (isSmallRing G c) (withoutEquals G l))) (sym (order-turned c))
-      (subst (λ (t : Bool). Opposite c (path (isSmallRing G (turn c)) (withoutEquals G (turn c))) (path t (withoutEquals G (reverse (turn c))))) (sym (small c))
-      (pair (isSmallRing G (turn c)) (withoutEquals G (turn c)) (withoutEquals G (reverse (turn c))) (same-length (turn c)) (keys-turned (turn c)) exact))
-    where
-      path : Bool → List P → Option (List P)
-      path t l = cond (leb (length c) (cond isOpen 1 2)) none (cond (not isOpen && eqb (length l) 3 && t) none (cond (leb 2 (length l)) (some l) none))
+  module _ (small : (c : List P) → isSmallRing G c ≡ isSmallRing G (turn c)) where
+    small-other : (rev : Bool) (c : List P) → isSmallRing G (cond (not rev) c (turn c)) ≡ isSmallRing G (cond rev c (turn c))
+    small-other false c = small c
+    small-other true c = sym (small c)
 
-      exact : length (withoutEquals G (turn c)) ≡ length c → withoutEquals G (reverse (turn c)) ≡ reverse (withoutEquals G (turn c))
-      exact e =
-          all-there (reverse (turn c)) (same-length (turn c) ∙ e ∙ sym (length-turn c) ∙ sym (length-reverse (turn c)))
-          ∙ ap reverse (sym (all-there (turn c) (e ∙ sym (length-turn c))))
+    -- what is decided of them is the same
+    pub tests-other : (rev isOpen : Bool) (c : List P) →
+        (not isOpen && eqb (length (withoutEquals G (inOrder (not rev) c))) 3 && isSmallRing G (cond (not rev) c (turn c))) ≡ (not isOpen && eqb (length (withoutEquals G (inOrder rev c))) 3 && isSmallRing G (cond rev c (turn c)))
+    tests-other rev isOpen c =
+        ap (λ (n : ℕ). not isOpen && eqb n 3 && isSmallRing G (cond (not rev) c (turn c))) (same-order rev c)
+        ∙ ap (λ (b : Bool). not isOpen && eqb (length (withoutEquals G (inOrder rev c))) 3 && b) (small-other rev c)
 
-      pair : (t : Bool) (a b : List P) → length b ≡ length a → map key b ≡ reverse (map key a) → (length a ≡ length c → b ≡ reverse a) → Opposite c (path t a) (path t b)
-      pair t a b n h z = subst (λ (m : ℕ). Opposite c (path t a) (cond (leb (length c) (cond isOpen 1 2)) none (cond (not isOpen && eqb m 3 && t) none (cond (leb 2 m) (some b) none)))) (sym n) (go (leb (length c) (cond isOpen 1 2)) (not isOpen && eqb (length a) 3 && t) (leb 2 (length a)))
-        where
-          go : (x y u : Bool) → Opposite c (cond x none (cond y none (cond u (some a) none))) (cond x none (cond y none (cond u (some b) none)))
-          go true y u = neither
-          go false true u = neither
-          go false false true = each h z
-          go false false false = neither
+    pub paths-alike : (rev isOpen : Bool) (c : List P)
+        → Alike (withoutEquals G (inOrder rev c)) (withoutEquals G (inOrder (not rev) c)) (buildPath64FromOutpt G rev isOpen c) (buildPath64FromOutpt G (not rev) isOpen c)
+    unfolding buildPath64FromOutpt
+    paths-alike rev isOpen c =
+        go (withoutEquals G (inOrder rev c)) (withoutEquals G (inOrder (not rev) c)) (leb (length c) (cond isOpen 1 2)) _ _ (tests-other rev isOpen c) _ _ (ap (leb 2) (same-order rev c))
+      where
+        go : (a b : List P) (x y z : Bool) → z ≡ y → (u v : Bool) → v ≡ u → Alike a b (cond x none (cond y none (cond u (some a) none))) (cond x none (cond z none (cond v (some b) none)))
+        go a b true y z e u v f = neither
+        go a b false true z e u v f = subst (λ (t : Bool). Alike a b none (cond t none (cond v (some b) none))) (sym e) neither
+        go a b false false z e true v f = subst (λ (t : Bool). Alike a b (some a) (cond t none (cond v (some b) none))) (sym e) (subst (λ (t : Bool). Alike a b (some a) (cond t (some b) none)) (sym f) each)
+        go a b false false z e false v f = subst (λ (t : Bool). Alike a b none (cond t none (cond v (some b) none))) (sym e) (subst (λ (t : Bool). Alike a b none (cond t (some b) none)) (sym f) neither)

@@ -1,12 +1,10 @@
--- A ring's path forward and its path reversed are the same points in exactly opposite order, or neither is there: the plane, where a point's key is its place. So it is said of x and y; of neighbours at one place
--- each path keeps the first that it walks, with its z.
-use mathlib.Core.Path.{_≡_, refl, sym, ap, _∙_}
+-- A ring's path forward and its path reversed: both are there or neither, the same places in exactly opposite order, and of neighbours at one place each path has the first that it walks. The plane, where a point's key is its place.
+use mathlib.Core.Path.{_≡_, refl, sym, ap, _∙_, subst}
 use mathlib.Core.Bool.{Bool, true, false, not, _||_}
-use mathlib.Core.List.{List, [], _∷_, _++_, reverse, reverse-reverse}
-use mathlib.Core.Option.{Option, none, some}
+use mathlib.Core.List.{List, [], _∷_, _++_, reverse}
+use mathlib.Core.Option.{Option, some}
 use Prim.Native.Nat.{ℕ}
 use lib.Dec.{ltb}
-use lib.ListN.{length}
 use lib.IntN.{ℤ, pos, natAbs, negℤ, _-ℤ_, +ℤ-idl}
 use Rattle.exact.proofs.Size.{size-neg}
 use Rattle.exact.proofs.Poly.{var, num, _:-_, solve}
@@ -17,7 +15,10 @@ use Rattle.rings.specs.Circle.{turn, omap}
 use Rattle.lone.specs.Path.{inOrder, withoutEquals, isSmallRing, buildPath64FromOutpt}
 use Rattle.lone.specs.Plane.{plane}
 use Rattle.opposite.specs.Opposite.{onGround}
-use Rattle.opposite.proofs.Keyed.{order-turned, same-length, Opposite, neither, each, path-opposite}
+use Rattle.opposite.specs.Turned.{Turned, TurnedOr}
+use Rattle.opposite.specs.Turned as walk
+use Rattle.opposite.proofs.Keyed.{order-other, Alike, neither, each, paths-alike}
+use Rattle.opposite.proofs.Clusters.{walk-turned}
 
 -- ---- close by is the same of either
 
@@ -55,23 +56,22 @@ module _ (p : Bool) where
 
   -- ---- the path
 
-  -- as many points are left either way
-  pub same-order : (c : List Point) → length (withoutEquals (plane p) (inOrder true c)) ≡ length (withoutEquals (plane p) (inOrder false c))
-  same-order c = ap (λ (l : List Point). length (withoutEquals (plane p) l)) (order-turned c) ∙ same-length (plane p) ground same-true true-same (turn c)
-
-  -- what is decided is the same, and the path the other way round
-  pub path-turned : (isOpen : Bool) (c : List Point) → omap onGround (buildPath64FromOutpt (plane p) true isOpen c) ≡ omap reverse (omap onGround (buildPath64FromOutpt (plane p) false isOpen c))
-  path-turned isOpen c = go (buildPath64FromOutpt (plane p) false isOpen c) (buildPath64FromOutpt (plane p) true isOpen c) (path-opposite (plane p) ground same-true true-same small-turned isOpen c)
+  -- walked one way and the other
+  pub both-ways : (rev isOpen : Bool) (c : List Point) → TurnedOr (inOrder rev c) (buildPath64FromOutpt (plane p) rev isOpen c) (buildPath64FromOutpt (plane p) (not rev) isOpen c)
+  both-ways rev isOpen c = go _ _ (paths-alike (plane p) ground same-true true-same small-turned rev isOpen c)
     where
-      go : (x y : Option (List Point)) → Opposite (plane p) ground same-true true-same c x y → omap onGround y ≡ omap reverse (omap onGround x)
-      go x y neither = refl
-      go x y (each h z) = ap some h
+      go : (x y : Option (List Point)) → Alike (plane p) ground same-true true-same (withoutEquals (plane p) (inOrder rev c)) (withoutEquals (plane p) (inOrder (not rev) c)) x y → TurnedOr (inOrder rev c) x y
+      go x y neither = walk.neither
+      go x y each = walk.both (subst (λ (l : List Point). Turned (inOrder rev c) (withoutEquals (plane p) (inOrder rev c)) (withoutEquals (plane p) l)) (sym (order-other rev c)) (walk-turned p (inOrder rev c)))
 
-  -- the same whichever of the two is asked first
+  -- in x and y
   pub path-either : (rev isOpen : Bool) (c : List Point) → omap onGround (buildPath64FromOutpt (plane p) (not rev) isOpen c) ≡ omap reverse (omap onGround (buildPath64FromOutpt (plane p) rev isOpen c))
-  path-either false isOpen c = path-turned isOpen c
-  path-either true isOpen c = sym (ap (omap reverse) (path-turned isOpen c) ∙ twice (omap onGround (buildPath64FromOutpt (plane p) false isOpen c)))
+  path-either rev isOpen c = on-ground (inOrder rev c) (buildPath64FromOutpt (plane p) rev isOpen c) (buildPath64FromOutpt (plane p) (not rev) isOpen c) (both-ways rev isOpen c)
     where
-      twice : (o : Option (List Point)) → omap reverse (omap reverse o) ≡ o
-      twice none = refl
-      twice (some l) = ap some (reverse-reverse l)
+      on-ground : (l : List Point) (x y : Option (List Point)) → TurnedOr l x y → omap onGround y ≡ omap reverse (omap onGround x)
+      on-ground l x y walk.neither = refl
+      on-ground l x y (walk.both t) = ap some (t .places)
+
+  -- forward, and reversed
+  pub path-turned : (isOpen : Bool) (c : List Point) → omap onGround (buildPath64FromOutpt (plane p) true isOpen c) ≡ omap reverse (omap onGround (buildPath64FromOutpt (plane p) false isOpen c))
+  path-turned isOpen c = path-either false isOpen c

@@ -1,5 +1,5 @@
 -- The other setting of `reverse_solution`, and paths in opposite order.
-use Prim.Native.Nat.{ℕ, _+_, _-_, _/_, _%_}
+use Prim.Native.Nat.{ℕ, zero, suc, _+_, _-_, _/_, _%_}
 use mathlib.Core.Bool.{cond}
 use mathlib.Core.List.{List, map, reverse}
 use lib.Dec.{eqb}
@@ -16,7 +16,8 @@ otherBits v = cond (eqb (v / 2 % 2) 1) (v - 2) (v + 2)
 abbrev pub turnedOver : Store → Store
 turnedOver s (pt f) i = s (pt f) i
 turnedOver s (rc f) i = s (rc f) i
-turnedOver s (ct SETTINGS) i = otherBits (s (ct SETTINGS) i)
+turnedOver s (ct SETTINGS) zero = otherBits (s (ct SETTINGS) zero)
+turnedOver s (ct SETTINGS) (suc i) = s (ct SETTINGS) (suc i)
 turnedOver s (ct POINTS) i = s (ct POINTS) i
 turnedOver s (ct RECORDS) i = s (ct RECORDS) i
 

@@ -4,6 +4,7 @@ use crate::depths;
 use crate::names::stands;
 use crate::plain::kept;
 use crate::room::TRAY;
+use crate::turned;
 use crate::words::*;
 
 extern "C" {
@@ -161,6 +162,10 @@ pub enum Fault {
     ReasonUnknown,
     /// A refusal has a reason beside it.
     ReasonHalf,
+    /// A job turned round has its first path in the same order.
+    TurnedOrder,
+    /// A job turned round has the z of its first path's ends exchanged.
+    TurnedDepth,
     /// A copy misses a column: the loop's starts stay what they were.
     KeepColumn,
     /// A name that is kept, with three others, is refused with 15.
@@ -254,6 +259,8 @@ pub const FAULTS: &[Fault] = &[
     Fault::ReasonEarly,
     Fault::ReasonUnknown,
     Fault::ReasonHalf,
+    Fault::TurnedOrder,
+    Fault::TurnedDepth,
     Fault::KeepColumn,
     Fault::KeepAgain,
     Fault::KeepFifth,
@@ -387,6 +394,18 @@ impl Calls {
         }
         answer
     }
+
+    /// Finishing a job that was turned round, or the one that it was.
+    pub fn turned(self, turned: bool, job: &[u8], work: &mut [u32], tray: &mut [u8]) -> u32 {
+        let answer = self.finish(job, work, tray);
+        match (self.0, answer) {
+            (Fault::TurnedOrder, 0) if turned => turned::spoilt(tray, true),
+            (Fault::TurnedDepth, 0) if turned => turned::spoilt(tray, false),
+            _ => {}
+        }
+        answer
+    }
+
     pub fn list(self, job: &[u8], work: &mut [u32], tray: &mut [u8], rate: u32, text: &mut [u8]) -> u64 {
         let (n, bytes, room) = (work.len(), tray.len(), text.len());
         let (words, fields, start) = (work.as_mut_ptr(), tray.as_mut_ptr(), text.as_mut_ptr());

@@ -3,6 +3,7 @@
 use crate::listed;
 use crate::plain;
 use crate::room::{all_zero, expect, Room, Same, TRAY};
+use crate::turned;
 use crate::words::{self, *};
 use oracle::answer::Answer;
 use oracle::guard::Ran;
@@ -64,12 +65,13 @@ pub fn tray_length(rng: &mut Rng, need: usize) -> usize {
     }
 }
 
-/// The room's job finished in one call, and one in four listed.
+/// The room's job finished in one call; one in four is listed, and one in four turned round.
 pub fn case(room: &mut Room, rng: &mut Rng) -> Same {
     let expected = expected(room);
     one_call(room, rng, &expected)?;
     match rng.below(4) {
         0 => listed::case(room, rng, &expected),
+        1 => turned::case(room, rng, &expected),
         _ => Ok(()),
     }
 }

@@ -22,6 +22,7 @@ mod states;
 mod steps;
 mod tally;
 mod tidied;
+mod turned;
 mod words;
 
 use calls::{is_of_names, Fault, FAULTS};

@@ -3,7 +3,7 @@
 use crate::calls::Fault;
 use crate::room::{Room, Same};
 use crate::tally::Tally;
-use crate::{altered, canon, damage, finish, kept, large, open, reasons, steps};
+use crate::{altered, canon, damage, finish, kept, large, open, reasons, steps, turned};
 use oracle::gen;
 use oracle::rng::Rng;
 use std::panic::{catch_unwind, AssertUnwindSafe};
@@ -88,7 +88,7 @@ impl Kind {
     /// The answers that a long run must have seen, by call.
     fn must_see(self) -> Vec<(&'static str, Vec<u32>)> {
         match self {
-            Kind::Finish => vec![("finish", (0..=11).collect())],
+            Kind::Finish => vec![("finish", (0..=11).collect()), ("turned", (0..=11).collect())],
             Kind::Steps => {
                 vec![("open", (0..=10).collect()), ("step", vec![0, 10, 12]), ("write", vec![0, 10, 11, 12])]
             }
@@ -186,6 +186,9 @@ impl Run {
         print!("{}", tally.print());
         let must = self.kind.must_see().into_iter();
         let mut lacking: Vec<String> = must.flat_map(|(call, answers)| tally.lacking(call, &answers)).collect();
+        if self.kind == Kind::Finish {
+            lacking.extend(tally.lacking_events(&[turned::SEEN[0], turned::SEEN[1], turned::SEEN[3], turned::SEEN[4]]));
+        }
         if self.kind == Kind::Reasons {
             lacking.extend(tally.lacking_events(&reasons::TOLD));
         }

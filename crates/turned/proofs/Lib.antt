@@ -1,0 +1,13 @@
+-- Laws of turning the direction round.
+pub mod Settings
+pub mod Bits
+pub mod Judging
+pub mod Joining
+pub mod Converting
+pub mod Reading
+pub mod Opening
+pub mod Finishing
+pub mod Lists
+pub mod Reasons
+pub mod Theorem
+pub mod Examples
