@@ -34,14 +34,17 @@ static void settings(void) {
     number(0, 1);
 }
 
-static void point(int32_t x, int32_t y, uint32_t next, uint32_t prev, uint32_t record) {
-    field(2, 14);
+static void deep_point(int32_t x, int32_t y, uint32_t next, uint32_t prev, uint32_t record, int32_t z) {
+    field(2, 18);
     number(x, 4);
     number(y, 4);
     number(next, 2);
     number(prev, 2);
     number(record, 2);
+    number(z, 4);
 }
+
+static void point(int32_t x, int32_t y, uint32_t next, uint32_t prev, uint32_t record) { deep_point(x, y, next, prev, record, 0); }
 
 static void record(uint32_t flags, uint32_t owner, uint32_t first) {
     field(3, 5);
@@ -79,12 +82,12 @@ static void lengths(void) {
     is("outline_work_words", outline_work_words(), OUTLINE_WORK_WORDS);
     largest(1);
     is("the largest job", whole(), 0);
-    is("its last path's tag", tray[OUTLINE_TRAY_BYTES - 3 - 8 * (OUTLINE_POINTS / OUTLINE_RECORDS)], 7);
+    is("its last path's tag", tray[OUTLINE_TRAY_BYTES - 3 - 12 * (OUTLINE_POINTS / OUTLINE_RECORDS)], 7);
     is("a word less", finish(length, OUTLINE_WORK_WORDS - 1, OUTLINE_TRAY_BYTES), OUTLINE_FULL);
     is("a byte of the tray less", finish(length, OUTLINE_WORK_WORDS, OUTLINE_TRAY_BYTES - 1), OUTLINE_SMALL_TRAY);
     segments(OUTLINE_SEGMENTS);
     joins(OUTLINE_JOINS);
-    is("the longest job's bytes and a point's", length + 17, OUTLINE_JOB_BYTES);
+    is("the longest job's bytes and a point's", length + 21, OUTLINE_JOB_BYTES);
     is("segments of an open ring", whole(), OUTLINE_OPEN_EDGE);
     is("a byte of the job less", finish(length - 1, OUTLINE_WORK_WORDS, OUTLINE_TRAY_BYTES), OUTLINE_TORN);
     joins(9);
@@ -112,6 +115,21 @@ static void coordinates(void) {
             settings(), point(0, sign * (OUTLINE_COORDINATE + more), 0, 0, 0), record(1, NONE, 0);
             is("a coordinate", whole(), more ? OUTLINE_OFF_THE_TABLE : 0);
         }
+}
+
+/* A depth may be any number, and comes out as it went in. */
+static void depths(void) {
+    static const int32_t zs[] = {INT32_MAX, INT32_MIN, OUTLINE_COORDINATE + 1, -1};
+    for (size_t i = 0; i < sizeof zs / sizeof *zs; i++) {
+        int32_t z;
+        settings(), deep_point(0, 0, 1, 1, 0, 0), deep_point(5, 5, 0, 0, 0, zs[i]), record(1, NONE, 0);
+        is("a line with a depth", whole(), 0);
+        is("its bytes", tray[1], 2 * 12);
+        memcpy(&z, tray + 3 + 8, 4);
+        is("its depth", (uint32_t)z, (uint32_t)zs[i]);
+    }
+    settings(), field(2, 14), number(0, 7), number(0, 7), record(0, NONE, 0);
+    is("a point without a depth", whole(), OUTLINE_TORN);
 }
 
 static void other_refusals(void) {
@@ -222,6 +240,7 @@ int main(void) {
     reasons();
     counts();
     coordinates();
+    depths();
     other_refusals();
     return faults != 0;
 }

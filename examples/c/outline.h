@@ -18,12 +18,13 @@ extern "C" {
 
 /* ---- the job
  *
- * Fields and nothing else: a tag (one byte), the length of the value (two bytes), the value. Numbers stand low byte first, coordinates as two's
- * complement. Tags never fall; points, records, segments and joins are numbered from 0, each kind by itself. One unit is a micrometre.
+ * Fields and nothing else: a tag (one byte), the length of the value (two bytes), the value. Numbers stand low byte first; x, y and z are signed, as two's
+ * complement. Tags never fall; points, records, segments and joins are numbered from 0, each kind by itself. One unit is a micrometre. A point's z is its
+ * depth, any number, and goes with it; points are compared by x and y alone, and a crossing that is made has z 0.
  *
  *   tag  field          length  value
  *    1   settings          1    bit 0: keep points that lie in line; bit 1: write every path the other way round. First, and once
- *    2   point            14    x, y (four bytes each); next, prev, record (two bytes each)
+ *    2   point            18    x, y (four bytes each); next, prev, record (two bytes each); z (four bytes)
  *    3   record            5    flags (bit 0: the ring is open; bit 1: it has a front edge); owner, first point (two bytes each, 65535 for none)
  *    4   level segment     2    a point
  *    5   join              4    two points */

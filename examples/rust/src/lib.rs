@@ -4,13 +4,14 @@
 //! A job goes in as bytes, closed and open paths come out of a tray; `docs/JOB.md` says what a job is and what finishing does. In one call:
 //!
 //! ```
-//! // A ring that crosses itself, (0,0) (10,10) (10,0) (0,12), is cut into two triangles.
-//! let job = include_bytes!("../../../samples/crossed.job");
+//! // A ring that crosses itself, (0,0) (10,10) (10,0) (0,12) with z 1, 2, 3 and -4, is cut into two triangles. Points keep their z, and the crossing has 0.
+//! let job = include_bytes!("../../../samples/depth.job");
 //! let (mut work, mut tray) = (vec![0; outline::WORK_WORDS], vec![0; outline::TRAY_BYTES]);
 //! outline::finish(job, &mut work, &mut tray)?;
 //! let paths = outline::paths(&tray);
 //! assert_eq!(paths.len(), 2);
-//! assert_eq!(paths[0], outline::Path { open: false, points: vec![(5, 5), (0, 12), (0, 0)] });
+//! let points = [(5, 5, 0), (0, 12, -4), (0, 0, 1)].map(outline::Point::from).to_vec();
+//! assert_eq!(paths[0], outline::Path { open: false, points });
 //! # Ok::<(), outline::Refused>(())
 //! ```
 //!
@@ -25,7 +26,7 @@ mod tray;
 
 pub use reason::Reason;
 pub use refused::Refused;
-pub use tray::{paths, Path};
+pub use tray::{paths, Path, Point};
 
 /// At most so many points, those made while finishing included.
 pub const POINTS: usize = 2_048;
@@ -35,20 +36,20 @@ pub const RECORDS: usize = 512;
 pub const SEGMENTS: usize = 256;
 /// At most so many joins in a job.
 pub const JOINS: usize = 256;
-/// A coordinate is at most so many micrometres either way.
+/// A coordinate is at most so many micrometres either way; a depth may be any `i32`.
 pub const COORDINATE: i32 = 1_048_576;
 /// The fixed length of a work space in words; a shorter one is refused with 10.
-pub const WORK_WORDS: usize = 5 * (16 + 5 * POINTS + 9 * RECORDS) + 4;
+pub const WORK_WORDS: usize = 5 * (16 + 6 * POINTS + 9 * RECORDS) + 4;
 /// A tray of so many bytes is always long enough.
-pub const TRAY_BYTES: usize = 3 * RECORDS + 8 * POINTS;
+pub const TRAY_BYTES: usize = 3 * RECORDS + 12 * POINTS;
 /// The first so many bytes of a job decide what becomes of it: the longest job that is accepted, and one point more.
-pub const JOB_BYTES: usize = 4 + 17 * (POINTS + 1) + 8 * RECORDS + 5 * SEGMENTS + 7 * JOINS;
+pub const JOB_BYTES: usize = 4 + 21 * (POINTS + 1) + 8 * RECORDS + 5 * SEGMENTS + 7 * JOINS;
 
 /// A tray of so many bytes has room for any accepted job, written the one way.
-pub const REWRITTEN_BYTES: usize = JOB_BYTES - 17;
+pub const REWRITTEN_BYTES: usize = JOB_BYTES - 21;
 
 /// A text of so many bytes has room for the listing of any job.
-pub const TEXT_BYTES: usize = 54 + 49 * RECORDS + 44 * POINTS + 49;
+pub const TEXT_BYTES: usize = 54 + 49 * RECORDS + 66 * POINTS + 49;
 /// The largest rate, in cents for a square decimetre; 0 is none.
 pub const RATE: u32 = 1_000;
 
@@ -176,13 +177,13 @@ pub fn finish(job: &[u8], work: &mut [u32], tray: &mut [u8]) -> Result<(), Refus
 /// let (mut work, mut tray, mut text) = (vec![0; WORK_WORDS], vec![0; TRAY_BYTES], vec![0; TEXT_BYTES]);
 /// let job = include_bytes!("../../../samples/crossed.job");
 /// let listing = list(job, &mut work, &mut tray, 0, &mut text).unwrap();
-/// assert_eq!(listing, b"closed 2 open 0\npiece 3 60 5,5 0,12 0,0\nhole 3 -50 10,10 10,0 5,5\n");
+/// assert_eq!(listing, b"closed 2 open 0\npiece 3 60 5,5,0 0,12,0 0,0,0\nhole 3 -50 10,10,0 10,0,0 5,5,0\n");
 /// assert!(list(job, &mut work, &mut tray, 1000, &mut text).unwrap().ends_with(b"\ncharge 0 10000\n"));
 /// assert_eq!(list(job, &mut work, &mut tray, RATE + 1, &mut text), Some(&b"refused 13\n"[..]));
 /// let mut reversed = job.to_vec();
 /// reversed[3] = 2; // `reverse_solution`: the areas change sign, the words stay
 /// let listing = list(&reversed, &mut work, &mut tray, 0, &mut text).unwrap();
-/// assert_eq!(listing, b"closed 2 open 0\npiece 3 -60 0,0 0,12 5,5\nhole 3 50 5,5 10,0 10,10\n");
+/// assert_eq!(listing, b"closed 2 open 0\npiece 3 -60 0,0,0 0,12,0 5,5,0\nhole 3 50 5,5,0 10,0,0 10,10,0\n");
 /// assert_eq!(list(job, &mut work, &mut tray, 0, &mut text[1..]), None);
 /// ```
 pub fn list<'a>(job: &[u8], work: &mut [u32], tray: &mut [u8], rate: u32, text: &'a mut [u8]) -> Option<&'a [u8]> {

@@ -39,7 +39,7 @@ fn run(job: &[u8]) -> Result<String, Refused> {
     write(&work, &mut tray)?;
     let mut said = format!("{steps} steps\n");
     for path in paths(&tray) {
-        let points: String = path.points.iter().map(|(x, y)| format!(" {x},{y}")).collect();
+        let points: String = path.points.iter().map(|point| format!(" {point}")).collect();
         said += &format!("{}{points}\n", if path.open { "open" } else { "closed" });
     }
     Ok(said)

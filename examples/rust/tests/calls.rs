@@ -1,11 +1,11 @@
-// The wrapper's calls on the paper's crossed ring: answers, and what refusals leave.
+// The wrapper's calls on the paper's crossed ring, with depths: answers, and what refusals leave.
 use outline::*;
 
-const JOB: &[u8] = include_bytes!("../../../samples/crossed.job");
+const JOB: &[u8] = include_bytes!("../../../samples/depth.job");
 
 fn triangles() -> Vec<Path> {
-    let closed = |points: &[(i32, i32)]| Path { open: false, points: points.to_vec() };
-    vec![closed(&[(5, 5), (0, 12), (0, 0)]), closed(&[(10, 10), (10, 0), (5, 5)])]
+    let closed = |points: [(i32, i32, i32); 3]| Path { open: false, points: points.map(Point::from).to_vec() };
+    vec![closed([(5, 5, 0), (0, 12, -4), (0, 0, 1)]), closed([(10, 10, 2), (10, 0, 3), (5, 5, 0)])]
 }
 
 #[test]
@@ -18,7 +18,7 @@ fn in_one_call() {
     let (mut work, mut tray) = (vec![7; WORK_WORDS], vec![7; TRAY_BYTES]);
     assert_eq!(finish(JOB, &mut work, &mut tray), Ok(()));
     assert_eq!(paths(&tray), triangles());
-    assert!(tray[54..].iter().all(|byte| *byte == 0));
+    assert!(tray[78..].iter().all(|byte| *byte == 0));
 }
 
 #[test]
@@ -34,7 +34,7 @@ fn by_steps() {
     assert_eq!(step(&mut work, 0), Err(Refused(12)));
     assert_eq!(step(&mut work, u32::MAX), Err(Refused(12)));
     assert_eq!(work, before);
-    assert_eq!(write(&work, &mut tray[..53]), Err(Refused(11)));
+    assert_eq!(write(&work, &mut tray[..77]), Err(Refused(11)));
     assert!(tray.iter().all(|byte| *byte == 7));
     assert_eq!(write(&work, &mut tray), Ok(()));
     assert_eq!(paths(&tray), triangles());
@@ -47,7 +47,7 @@ fn refused_jobs_leave_zeros() {
         (&JOB[..0], WORK_WORDS, 99, 2),
         (&JOB[..9], WORK_WORDS, 99, 1),
         (JOB, WORK_WORDS - 1, 99, 10),
-        (JOB, WORK_WORDS, 53, 11),
+        (JOB, WORK_WORDS, 77, 11),
     ] {
         work.fill(7);
         tray.fill(7);

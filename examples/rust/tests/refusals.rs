@@ -1,18 +1,18 @@
 // The refusals' words; and 11 and 12, which only the library gives, on the examples of docs/JOB.md. 1 to 10 are run by tests/cutlist.
 use outline::*;
 
-/// `ring 1 - 0,0 5,5` under `settings 0`: an open line of two points, a path of 19 bytes.
+/// `ring 1 - 0,0 5,5` under `settings 0`: an open line of two points, a path of 27 bytes.
 const LINE: &[u8] = &[
-    1, 1, 0, 0, 2, 14, 0, 0, 0, 0, 0, 0, 0, 0, 0, 1, 0, 1, 0, 0, 0, 2, 14, 0, 5, 0, 0, 0, 5, 0, 0, 0, 0, 0, 0, 0, 0, 0,
-    3, 5, 0, 1, 255, 255, 0, 0,
+    1, 1, 0, 0, 2, 18, 0, 0, 0, 0, 0, 0, 0, 0, 0, 1, 0, 1, 0, 0, 0, 0, 0, 0, 0, 2, 18, 0, 5, 0, 0, 0, 5, 0, 0, 0, 0, 0,
+    0, 0, 0, 0, 0, 0, 0, 0, 3, 5, 0, 1, 255, 255, 0, 0,
 ];
 
 #[test]
 fn small_tray() {
-    let (mut work, mut tray) = (vec![7; WORK_WORDS], vec![7; 19]);
-    assert_eq!(finish(LINE, &mut work, &mut tray[..18]), Err(Refused(11)));
+    let (mut work, mut tray) = (vec![7; WORK_WORDS], vec![7; 27]);
+    assert_eq!(finish(LINE, &mut work, &mut tray[..26]), Err(Refused(11)));
     assert_eq!(finish(LINE, &mut work, &mut tray), Ok(()));
-    assert_eq!(paths(&tray), [Path { open: true, points: vec![(5, 5), (0, 0)] }]);
+    assert_eq!(paths(&tray), [Path { open: true, points: vec![(5, 5, 0).into(), (0, 0, 0).into()] }]);
 }
 
 #[test]

@@ -1,7 +1,8 @@
 // `paths` on bytes that no call wrote: cut short at every byte, and random ones.
 use outline::*;
 
-const LINE: [u8; 19] = [7, 16, 0, 5, 0, 0, 0, 5, 0, 0, 0, 0xff, 0xff, 0xff, 0xff, 0, 0, 0, 0];
+const LINE: [u8; 27] =
+    [7, 24, 0, 5, 0, 0, 0, 5, 0, 0, 0, 9, 0, 0, 0, 0xff, 0xff, 0xff, 0xff, 0, 0, 0, 0, 0xfe, 0xff, 0xff, 0xff];
 
 /// A tag, a length and as many bytes after them as are given.
 fn field(tag: u8, length: u16, value: &[u8]) -> Vec<u8> {
@@ -14,7 +15,7 @@ fn cut_short() {
     for length in 0..=whole.len() {
         assert_eq!(paths(&whole[..length]).len(), length / LINE.len());
     }
-    let full = field(6, 8 * 2_048, &[1; 8 * 2_048]);
+    let full = field(6, 12 * 2_048, &[1; 12 * 2_048]);
     for length in 0..full.len() {
         assert_eq!(paths(&full[..length]), []);
     }
@@ -26,9 +27,10 @@ fn cut_short() {
 fn no_path() {
     assert_eq!(paths(&field(6, 25, &[1; 24])), []);
     assert_eq!(paths(&field(6, 25, &[1; 25])), []);
+    assert_eq!(paths(&field(6, 32, &[1; 32])), []);
     assert_eq!(paths(&field(6, u16::MAX, &[1; 24])), []);
     for tag in (0..=u8::MAX).filter(|tag| ![6, 7].contains(tag)) {
-        assert_eq!(paths(&[&LINE[..], &field(tag, 8, &[1; 8]), &LINE[..]].concat()).len(), 1);
+        assert_eq!(paths(&[&LINE[..], &field(tag, 12, &[1; 12]), &LINE[..]].concat()).len(), 1);
     }
 }
 
@@ -46,10 +48,10 @@ fn random() {
     let (mut seed, mut found) = (1, 0);
     for _ in 0..200_000 {
         let length = draw(&mut seed) % 100;
-        let tray: Vec<u8> = (0..length).map(|_| [6, 7, 0, 8, 16, 255][draw(&mut seed) as usize % 6]).collect();
+        let tray: Vec<u8> = (0..length).map(|_| [6, 7, 0, 12, 24, 255][draw(&mut seed) as usize % 6]).collect();
         let paths = paths(&tray);
         found += paths.len();
-        assert!(paths.iter().map(|path| 3 + 8 * path.points.len()).sum::<usize>() <= tray.len());
+        assert!(paths.iter().map(|path| 3 + 12 * path.points.len()).sum::<usize>() <= tray.len());
     }
     assert!(found > 1_000, "only {found} paths");
 }

@@ -36,7 +36,7 @@ fn points(ring: Option<&&Ring>) -> String {
     match ring {
         None => "not there".to_string(),
         Some(ring) if ring.points.is_empty() => "no points".to_string(),
-        Some(ring) => ring.points.iter().map(|(x, y)| format!("{x},{y}")).collect::<Vec<_>>().join(" "),
+        Some(ring) => ring.points.iter().map(|point| point.to_string()).collect::<Vec<_>>().join(" "),
     }
 }
 
@@ -90,8 +90,10 @@ mod tests {
             spoil(&mut other);
             difference(&one, &other).expect("a difference")
         };
-        let points = spoiled(|run| run.rings[1].points[0].0 = 6);
-        assert_eq!(points, "offcut 0 of ring 0: rising 5,5 10,10 10,0; shuffled 6,5 10,10 10,0");
+        let points = spoiled(|run| run.rings[1].points[0].x = 6);
+        assert_eq!(points, "offcut 0 of ring 0: rising 5,5,0 10,10,0 10,0,0; shuffled 6,5,0 10,10,0 10,0,0");
+        let depth = spoiled(|run| run.rings[1].points[2].z = 6);
+        assert_eq!(depth, "offcut 0 of ring 0: rising 5,5,0 10,10,0 10,0,0; shuffled 5,5,0 10,10,0 10,0,6");
         assert!(spoiled(|run| run.rings[0].points.clear()).ends_with("shuffled no points"));
         assert!(spoiled(|run| drop(run.rings.pop())).ends_with("shuffled not there"));
         assert!(spoiled(|run| run.rings.push(Ring::default())).starts_with("ring 2: rising not there"));

@@ -1,12 +1,14 @@
 //! The page that plays two orders side by side: one file, with the steps as data in it.
 use crate::orders::{Run, Step};
 use crate::view::Ring;
+use outline::Point;
 use std::fmt::Write;
 
 const PAGE: &str = include_str!("page.html");
 
-fn numbers(points: &[(i32, i32)]) -> String {
-    points.iter().map(|(x, y)| format!("{x},{y}")).collect::<Vec<_>>().join(",")
+/// Three numbers a point.
+fn numbers(points: &[Point]) -> String {
+    points.iter().map(|point| point.to_string()).collect::<Vec<_>>().join(",")
 }
 
 fn ring(ring: &Ring) -> String {
@@ -21,7 +23,7 @@ fn ring(ring: &Ring) -> String {
 }
 
 /// How one list of points becomes another: how many stay at the front, how many at the back, and what stands between.
-fn change(before: &[(i32, i32)], after: &[(i32, i32)]) -> String {
+fn change(before: &[Point], after: &[Point]) -> String {
     let front = before.iter().zip(after).take_while(|(a, b)| a == b).count();
     let room = before.len().min(after.len()) - front;
     let back = before.iter().rev().zip(after.iter().rev()).take(room).take_while(|(a, b)| a == b).count();
@@ -65,12 +67,12 @@ mod tests {
 
     #[test]
     fn changes() {
-        let (a, b, c) = ((0, 0), (1, 1), (2, 2));
+        let [a, b, c] = [(0, 0, 0), (1, 1, -1), (1, 1, 7)].map(Point::from);
         assert_eq!(change(&[a, b, c], &[a, c]), "[1,1]");
-        assert_eq!(change(&[a, c], &[a, b, c]), "[1,1,1,1]");
+        assert_eq!(change(&[a, c], &[a, b, c]), "[1,1,1,1,-1]");
         assert_eq!(change(&[a, a], &[a, a]), "[2,0]");
         assert_eq!(change(&[a, b], &[]), "[0,0]");
-        assert_eq!(change(&[a, a], &[a, a, a]), "[2,0,0,0]");
+        assert_eq!(change(&[a, a], &[a, a, a]), "[2,0,0,0,0]");
     }
 
     #[test]

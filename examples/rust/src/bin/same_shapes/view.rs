@@ -1,5 +1,5 @@
 //! The rings that a work space holds: docs/WORKSPACE.md's layout, read here and nowhere else.
-use outline::{POINTS, RECORDS};
+use outline::{Point, POINTS, RECORDS};
 
 const HEAD: usize = 16;
 /// How far a coordinate's word is raised.
@@ -7,12 +7,14 @@ const RAISED: i32 = outline::COORDINATE;
 const NONE: usize = 65_535;
 
 /// The columns of a point and of a record, in their order.
-enum Point {
-    X,
-    Y,
-    Next,
+enum OfPoint {
+    X = 0,
+    Y = 1,
+    Next = 2,
+    Z = 5,
 }
-enum Record {
+const POINT_COLUMNS: usize = 6;
+enum OfRecord {
     Flags = 0,
     First = 2,
     Mark = 3,
@@ -30,19 +32,21 @@ pub struct Ring {
     pub present: usize,
     /// The record that it was cut from.
     pub cut_from: Option<usize>,
-    pub points: Vec<(i32, i32)>,
+    pub points: Vec<Point>,
 }
 
-fn of_point(work: &[u32], column: Point, point: usize) -> usize {
+fn of_point(work: &[u32], column: OfPoint, point: usize) -> usize {
     work[HEAD + POINTS * column as usize + point] as usize
 }
 
-fn of_record(work: &[u32], column: Record, record: usize) -> usize {
-    work[HEAD + POINTS * 5 + RECORDS * column as usize + record] as usize
+fn of_record(work: &[u32], column: OfRecord, record: usize) -> usize {
+    work[HEAD + POINTS * POINT_COLUMNS + RECORDS * column as usize + record] as usize
 }
 
-fn place(work: &[u32], point: usize) -> (i32, i32) {
-    (of_point(work, Point::X, point) as i32 - RAISED, of_point(work, Point::Y, point) as i32 - RAISED)
+/// A point by value; z is not raised.
+fn value(work: &[u32], point: usize) -> Point {
+    let lowered = |column| of_point(work, column, point) as i32 - RAISED;
+    Point { x: lowered(OfPoint::X), y: lowered(OfPoint::Y), z: of_point(work, OfPoint::Z, point) as u32 as i32 }
 }
 
 /// How many records are in use.
@@ -52,21 +56,21 @@ pub fn records(work: &[u32]) -> usize {
 
 /// The ring of a record in a work space that the library left.
 pub fn ring(work: &[u32], record: usize) -> Ring {
-    let first = of_record(work, Record::First, record);
-    let cut = of_record(work, Record::Cut, record);
+    let first = of_record(work, OfRecord::First, record);
+    let cut = of_record(work, OfRecord::Cut, record);
     let mut ring = Ring {
-        open: of_record(work, Record::Flags, record) & 1 == 1,
-        due: of_record(work, Record::Mark, record) as u32,
+        open: of_record(work, OfRecord::Flags, record) & 1 == 1,
+        due: of_record(work, OfRecord::Mark, record) as u32,
         cut_from: (cut != NONE).then_some(cut),
         ..Ring::default()
     };
     let mut at = first;
     while at != NONE && ring.points.len() < POINTS {
-        if at == of_record(work, Record::Present, record) {
+        if at == of_record(work, OfRecord::Present, record) {
             ring.present = ring.points.len();
         }
-        ring.points.push(place(work, at));
-        at = of_point(work, Point::Next, at);
+        ring.points.push(value(work, at));
+        at = of_point(work, OfPoint::Next, at);
         if at == first {
             break;
         }
@@ -85,11 +89,12 @@ mod tests {
     #[test]
     fn the_sample_as_opened() {
         let mut work = vec![7; outline::WORK_WORDS];
-        outline::open(include_bytes!("../../../../../samples/crossed.job"), &mut work).unwrap();
-        let points = vec![(0, 0), (10, 10), (10, 0), (0, 12)];
+        outline::open(include_bytes!("../../../../../samples/depth.job"), &mut work).unwrap();
+        let points = [(0, 0, 1), (10, 10, 2), (10, 0, 3), (0, 12, -4)].map(Point::from).to_vec();
         assert_eq!(rings(&work), [Ring { points, ..Ring::default() }]);
         while outline::step(&mut work, 0).is_ok() {}
-        let cut = Ring { cut_from: Some(0), points: vec![(5, 5), (10, 10), (10, 0)], ..Ring::default() };
+        let points = [(5, 5, 0), (10, 10, 2), (10, 0, 3)].map(Point::from).to_vec();
+        let cut = Ring { cut_from: Some(0), points, ..Ring::default() };
         assert_eq!(rings(&work)[1], cut);
         assert_eq!((rings(&work)[0].due, rings(&work)[0].points.len()), (4, 3));
     }
