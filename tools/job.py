@@ -26,9 +26,25 @@ class Job:
     def __init__(self):
         self.fields = {tag: [] for tag in LAYOUT}
         self.tail = b""
+        # The text's line that each field, and each byte of the tail, comes from, where there is a text.
+        self.lines = {tag: [] for tag in LAYOUT}
+        self.tail_lines = []
 
     points = property(lambda self: self.fields[POINT])
     records = property(lambda self: self.fields[RECORD])
+
+    def came_from(self, line):
+        """What is new comes from this line."""
+        for tag, values in self.fields.items():
+            self.lines[tag] += [line] * (len(values) - len(self.lines[tag]))
+        self.tail_lines += [line] * (len(self.tail) - len(self.tail_lines))
+
+    def line_of(self, tag, index, byte):
+        """The line of a field, by its tag and number or by its byte; none where there is no text, or the byte is past the end."""
+        if tag is not None and index < len(self.lines[tag]):
+            return self.lines[tag][index]
+        before = len(self.bytes()) - len(self.tail)
+        return self.tail_lines[byte - before] if byte is not None and 0 <= byte - before < len(self.tail_lines) else None
 
     def bytes(self):
         return b"".join(field(tag, *value) for tag in LAYOUT for value in self.fields[tag]) + self.tail
@@ -58,6 +74,8 @@ def read(data):
 
 
 def number(word, least, most):
+    if re.fullmatch(r"-?[0-9]*\.[0-9]+", word):
+        raise Bad(f"not a whole number: {word}; one unit is a micrometre")
     if not re.fullmatch(r"-?[0-9]{1,12}" if least < 0 else r"[0-9]{1,12}", word) or not least <= int(word) <= most:
         raise Bad(f"not a number from {least} to {most}: {word}")
     return int(word)
@@ -78,6 +96,8 @@ def maybe(word):
 def place(word):
     """x,y or x,y,z; without one z is 0."""
     numbers = word.split(",")
+    if "" in numbers[:1] + numbers[-1:] and len(numbers) > 1:
+        raise Bad(f"no space may stand beside a comma: {word}; a point is x,y or x,y,z")
     if len(numbers) not in (2, 3):
         raise Bad(f"not a point x,y or x,y,z: {word}")
     x, y, z = [number(part, -(2**31), 2**31 - 1) for part in numbers] + [0] * (3 - len(numbers))
@@ -131,6 +151,8 @@ class Text:
         elif name in WORDS and len(words) == len(WORDS[name]) - 1:
             tag, *readers = WORDS[name]
             self.job.fields[tag].append(tuple(reader(word) for reader, word in zip(readers, words)))
+        elif name == "ring" and "," in "".join(words[:2]):
+            raise Bad(f"a ring has FLAGS and OWNER, - for none, before its points: {line[:60]}")
         elif name == "ring" and len(words) >= 2:
             self.job.add_ring(byte(words[0]), maybe(words[1]), [place(word) for word in words[2:]])
         elif name == "fill" and len(words) == 1:
@@ -147,6 +169,7 @@ def from_text(text):
         try:
             if line:
                 reading.take(line)
+                reading.job.came_from(count)
         except Bad as bad:
             raise Bad(f"line {count}: {bad}") from None
         except RecursionError:

@@ -1,5 +1,5 @@
 /* Finishing outlines from C: the functions of liboutline.a (`rt staticlib outline` proves it and writes it to target/staticlib/;
- * `tools/install PREFIX` installs it with this header and a pkg-config file). docs/JOB.md says more of the job, the refusals and the tray.
+ * `tools/install PREFIX` installs it with this header, for pkg-config and CMake). docs/JOB.md says more of the job, the refusals and the tray.
  *
  * Slices are a pointer and a count of elements, words of 32 bits and bytes. Any count will do, and so will any content: nothing outside a
  * slice is read or written, and every call ends. A pointer must point to as many elements as its count says, and be aligned for
@@ -168,6 +168,98 @@ uint32_t outline_write(const uint32_t *work, size_t work_words, uint8_t *tray, s
  * answer >> 40 & 255, of reason 8, the tag of its path's list in the tray, 6 or 7; and answer >> 48 of reason 2 the record that took it, of reason 8 its path's
  * place in that list, from 0. The work space is only read. */
 uint64_t outline_reason(const uint32_t *work, size_t work_words, uint32_t record);
+
+/* ---- helpers, in C alone: they call nothing, and keep nothing */
+
+/* Four bytes as a signed number, and a number as bytes; low byte first. */
+static inline int32_t outline_get4(const uint8_t *at) {
+    uint32_t word = (uint32_t)at[0] | (uint32_t)at[1] << 8 | (uint32_t)at[2] << 16 | (uint32_t)at[3] << 24;
+    return word < 2147483648u ? (int32_t)word : (int32_t)(word - 2147483648u) - 2147483647 - 1;
+}
+
+static inline uint8_t *outline_put(uint8_t *at, uint32_t number, size_t bytes) {
+    for (; bytes > 0; bytes--, number >>= 8) *at++ = (uint8_t)(number & 255);
+    return at;
+}
+
+/* A path of a tray: whether it is open, how many points it has, and their bytes, which stay the tray's. */
+struct outline_path {
+    int open;
+    size_t points;
+    const uint8_t *bytes;
+};
+
+/* The path that stands *at bytes into a tray, if a whole one does: then the answer is 1, and *at is moved past it. Begin with *at 0. 0 after the last path;
+ * any bytes may be given. */
+static inline int outline_next_path(const uint8_t *tray, size_t tray_bytes, size_t *at, struct outline_path *path) {
+    size_t length;
+    if (*at > tray_bytes || tray_bytes - *at < 3 || (tray[*at] != 6 && tray[*at] != 7)) return 0;
+    length = (size_t)tray[*at + 1] + 256 * (size_t)tray[*at + 2];
+    if (length % 12 != 0 || length > tray_bytes - *at - 3) return 0;
+    path->open = tray[*at] == 7;
+    path->points = length / 12;
+    path->bytes = tray + *at + 3;
+    *at += 3 + length;
+    return 1;
+}
+
+/* x, y and z of a point of a path, from 0; there must be such a point. */
+static inline int32_t outline_path_x(const struct outline_path *path, size_t point) { return outline_get4(path->bytes + 12 * point); }
+static inline int32_t outline_path_y(const struct outline_path *path, size_t point) { return outline_get4(path->bytes + 12 * point + 4); }
+static inline int32_t outline_path_z(const struct outline_path *path, size_t point) { return outline_get4(path->bytes + 12 * point + 8); }
+
+/* Begins a job: its settings, in four bytes. The answer is how many bytes the job has; 0 if there is no room. */
+static inline size_t outline_new_job(uint8_t *job, size_t room, uint32_t settings) {
+    if (room < 4) return 0;
+    outline_put(outline_put(outline_put(job, 1, 1), 1, 2), settings, 1);
+    return 4;
+}
+
+/* How many fields of a tag there are from *at on, which is moved past them. */
+static inline size_t outline_skip(const uint8_t *job, size_t bytes, size_t *at, uint8_t tag, size_t value) {
+    size_t count = 0;
+    while (bytes - *at >= 3 + value && job[*at] == tag) {
+        *at += 3 + value;
+        count++;
+    }
+    return count;
+}
+
+/* Adds a ring to a job of so many bytes, which stands in a room of so many: its points, x, y and z of each in turn, linked in this order, after the points
+ * that are there; and a record with these flags and this owner, 65535 for none, after the records that are there, which starts at the first of the points,
+ * or has no ring if there is none. Level segments and joins stay as they are. The answer is how many bytes the job then has, and the ring's record is the
+ * job's last. 0, and no byte changed: there is no room, or more points or records would be there than a job may have, or the job does not begin with settings. */
+static inline size_t outline_add_ring(uint8_t *job, size_t bytes, size_t room, uint32_t flags, uint32_t owner, const int32_t *xyz, size_t points) {
+    size_t at = 0, old, records, first, more, k;
+    uint8_t *put;
+    if (bytes > room || outline_skip(job, bytes, &at, 1, 1) != 1) return 0;
+    old = outline_skip(job, bytes, &at, 2, 18);
+    first = at;
+    records = outline_skip(job, bytes, &at, 3, 5);
+    if (points > OUTLINE_POINTS || old + points > OUTLINE_POINTS || records >= OUTLINE_RECORDS) return 0;
+    more = 21 * points + 8;
+    if (room - bytes < more) return 0;
+    for (k = bytes; k > at; k--) job[k + more - 1] = job[k - 1];
+    for (k = at; k > first; k--) job[k + 21 * points - 1] = job[k - 1];
+    put = job + first;
+    for (k = 0; k < points; k++) {
+        put = outline_put(outline_put(put, 2, 1), 18, 2);
+        put = outline_put(outline_put(put, (uint32_t)xyz[3 * k], 4), (uint32_t)xyz[3 * k + 1], 4);
+        put = outline_put(put, (uint32_t)(old + (k + 1) % points), 2);
+        put = outline_put(put, (uint32_t)(old + (k + points - 1) % points), 2);
+        put = outline_put(outline_put(put, (uint32_t)records, 2), (uint32_t)xyz[3 * k + 2], 4);
+    }
+    put = outline_put(outline_put(job + at + 21 * points, 3, 1), 5, 2);
+    outline_put(outline_put(outline_put(put, flags, 1), owner, 2), points == 0 ? 65535 : (uint32_t)old, 2);
+    return bytes + more;
+}
+
+/* The parts of an answer of outline_reason: 0 or the refusal's number (of outline_rewrite too); the reason, 1 to 8; of reason 8 the tag of its path's list,
+ * 6 or 7; and of reason 2 the record that took it, of reason 8 its path's place in that list. */
+static inline uint32_t outline_told_refusal(uint64_t answer) { return (uint32_t)answer; }
+static inline uint32_t outline_told_reason(uint64_t answer) { return (uint32_t)(answer >> 32 & 255); }
+static inline uint32_t outline_told_list(uint64_t answer) { return (uint32_t)(answer >> 40 & 255); }
+static inline uint32_t outline_told_number(uint64_t answer) { return (uint32_t)(answer >> 48); }
 
 #ifdef __cplusplus
 }

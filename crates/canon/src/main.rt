@@ -19,13 +19,20 @@ fn refuse(x: Refusal) {
     io::write_all(STDERR_FILENO, b"\n");
 }
 
+// Writes to standard output; says so where that does not take all of it.
+fn put(bytes: &[u8]) {
+    if !io::write_all(STDOUT_FILENO, bytes) {
+        io::write_all(STDERR_FILENO, b"canon: cannot write to standard output\n");
+    }
+}
+
 // Writes the job, or why there is none.
 fn say(a: Rewritten, tray: &[u8])
     requires { ⌜ BytesWithin a (length (now tray)) ⌝ }
 {
     match a {
         Rewritten::Bytes(m) => {
-            io::write_all(STDOUT_FILENO, &tray[..m]);
+            put(&tray[..m]);
         }
         Rewritten::Refused(x) => refuse(x),
     }

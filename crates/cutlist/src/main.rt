@@ -1,6 +1,7 @@
 // The listing of the job on standard input, on standard output, with the charge at the rate that is the program's argument, if there is one: `list_job` does the
 // work, and `main` only reads, calls and writes.
 use job_listing::list_job;
+use libc::STDERR_FILENO;
 use libc::STDIN_FILENO;
 use libc::STDOUT_FILENO;
 use listing::Listed;
@@ -24,13 +25,20 @@ fn first(s: &[u8], m: usize) -> &[u8]
     &s[..m]
 }
 
+// Writes to standard output; says so where that does not take all of it.
+fn put(bytes: &[u8]) {
+    if !io::write_all(STDOUT_FILENO, bytes) {
+        io::write_all(STDERR_FILENO, b"cutlist: cannot write to standard output\n");
+    }
+}
+
 // Writes the text, for which there was room.
 fn say(text: &[u8], a: Listed)
     requires { ⌜ Whole a (length (now text)) ⌝ }
 {
     match a {
         Listed::Bytes(m) => {
-            io::write_all(STDOUT_FILENO, first(text, m));
+            put(first(text, m));
         }
         Listed::NoRoom => {}
     }

@@ -22,7 +22,7 @@ fn is_blank(t: &[u32], at: usize) -> bool
     !found
 }
 
-// ZeroTo from `at` up to `to`, after zeros.
+// Writes zeros from `at` up to `to`; the words before `at` are zero already.
 fn write_zeros(t: &mut [u32], at: usize, to: usize)
     requires { ⌜ (at ≤ to) × (to ≤ length (now t)) × ZeroTo at (now t) ⌝ }
     ensures { λ _. ⌜ now (t .exit) ≡ replicate to 0 ++ drop to (now (t .entry)) ⌝ }
@@ -34,7 +34,7 @@ fn write_zeros(t: &mut [u32], at: usize, to: usize)
     }
 }
 
-// ZeroTo in the block at `at`, after zeros.
+// Makes the block at `at` zeros; the words before it are zero already.
 fn clear_block(t: &mut [u32], at: usize)
     requires { ⌜ (at + CHUNK ≤ length (now t)) × ZeroTo at (now t) ⌝ }
     ensures { λ _. ⌜ now (t .exit) ≡ replicate (at + CHUNK) 0 ++ drop (at + CHUNK) (now (t .entry)) ⌝ }

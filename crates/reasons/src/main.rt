@@ -1,6 +1,7 @@
 // Where each record of the job on standard input went, a line each on standard output: `tell_job` does the work, and `main` only reads, calls and writes.
 use job_reasons::TEXT;
 use job_reasons::tell_job;
+use libc::STDERR_FILENO;
 use libc::STDIN_FILENO;
 use libc::STDOUT_FILENO;
 use listing::Listed;
@@ -10,13 +11,20 @@ use store::LENGTH;
 ghost use lib.ListN.{length};
 ghost use Rattle.listing.specs.Needs.{Whole};
 
+// Writes to standard output; says so where that does not take all of it.
+fn put(bytes: &[u8]) {
+    if !io::write_all(STDOUT_FILENO, bytes) {
+        io::write_all(STDERR_FILENO, b"reasons: cannot write to standard output\n");
+    }
+}
+
 // Writes the text, for which there was room.
 fn say(a: Listed, text: &[u8])
     requires { ⌜ Whole a (length (now text)) ⌝ }
 {
     match a {
         Listed::Bytes(m) => {
-            io::write_all(STDOUT_FILENO, &text[..m]);
+            put(&text[..m]);
         }
         Listed::NoRoom => {}
     }

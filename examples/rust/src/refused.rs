@@ -1,8 +1,8 @@
-//! The refusals: their names, and their words from the one file that has them.
+//! The refusals: their names, and their words from the file that has them: a copy of tools/refusals, so that this package may be built elsewhere.
 use std::fmt;
 
 /// A number, a word and what it means in each line, with a tab between them.
-const TABLE: &str = include_str!("../../../tools/refusals");
+const TABLE: &str = include_str!("../refusals");
 
 /// The number of a refusal, 1 to 15.
 ///

@@ -1,6 +1,8 @@
 //! same_shapes JOB: finishes one job in three orders and says whether the shapes are the same, or shows the first that is not.
 mod compare;
 mod orders;
+#[path = "../../out.rs"]
+mod out;
 mod page;
 mod view;
 
@@ -14,7 +16,9 @@ Finishes the job in three orders: rising record numbers, falling ones, and shuff
 The third keeps a state on its way, takes up to twelve steps more, and goes back to it.
 Rings are matched by their record, offcuts by the ring they were cut from and cutting order.
 --html FILE writes a page in which the steps of two orders can be played side by side.
-Ends with 0 if the shapes are the same, with 1 if not or if the job is refused, with 2 if it could not be run.";
+--version says which version this is.
+Ends with 0 if the shapes are the same, with 1 if not or if the job is refused, with 2 if it could not be run.
+";
 
 struct Asked {
     job: String,
@@ -23,7 +27,7 @@ struct Asked {
 }
 
 fn fail(what: &str, status: i32) -> ! {
-    eprintln!("same_shapes: {what}");
+    out::complain("same_shapes", what);
     exit(status)
 }
 
@@ -33,7 +37,11 @@ fn asked() -> Asked {
     while let Some(word) = words.next() {
         match word.as_str() {
             "--help" | "-h" => {
-                println!("{USAGE}");
+                out::print("same_shapes", USAGE);
+                exit(0)
+            }
+            "--version" => {
+                out::print("same_shapes", &out::version("same_shapes"));
                 exit(0)
             }
             "--seed" => match words.next().and_then(|word| word.parse().ok()) {
@@ -59,14 +67,14 @@ fn count(number: usize, thing: &str) -> String {
     format!("{number} {thing}{}", if number == 1 { "" } else { "s" })
 }
 
-fn report(run: &Run) {
+fn report(run: &Run) -> String {
     let offcuts = run.rings.iter().filter(|ring| ring.cut_from.is_some()).count();
     let end = match &run.paths {
         Ok(paths) => count(paths.len(), "path"),
         Err(Refused(number)) => format!("then refused {number}"),
     };
     let back = run.taken_back.map_or(String::new(), |steps| format!("; {steps} more taken back"));
-    println!("{:9} {}, {}, {end}{back}", run.order.name(), count(run.count, "step"), count(offcuts, "offcut"));
+    format!("{:9} {}, {}, {end}{back}\n", run.order.name(), count(run.count, "step"), count(offcuts, "offcut"))
 }
 
 /// What is to be said of three runs, and the status to end with.
@@ -90,12 +98,11 @@ fn main() {
         fail(&refused.to_string(), 1);
     }
     let rings = view::rings(&work).iter().filter(|ring| !ring.points.is_empty()).count();
-    println!("opened    {}", count(rings, "ring"));
     let orders = [Order::Rising, Order::Falling, Order::Shuffled(asked.seed)];
     let runs = orders.map(|order| orders::run(&work, order, asked.html.is_some()));
-    runs.iter().for_each(report);
     let (what, status) = verdict(&runs);
-    println!("{what}");
+    let reports: String = runs.iter().map(report).collect();
+    out::print("same_shapes", &format!("opened    {}\n{reports}{what}\n", count(rings, "ring")));
     if let Some(file) = asked.html {
         let name = std::path::Path::new(&asked.job).file_name().unwrap_or_default().to_string_lossy();
         let page = page::page(&name, &view::rings(&work), &runs);

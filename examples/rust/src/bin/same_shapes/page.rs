@@ -14,10 +14,11 @@ fn numbers(points: &[Point]) -> String {
 fn ring(ring: &Ring) -> String {
     let cut = ring.cut_from.map_or(-1, |from| from as i64);
     format!(
-        "{{\"open\":{},\"due\":{},\"at\":{},\"cut\":{cut},\"points\":[{}]}}",
+        "{{\"open\":{},\"due\":{},\"at\":{},\"cut\":{cut},\"why\":\"{}\",\"points\":[{}]}}",
         ring.open,
         ring.due,
         ring.present,
+        ring.why,
         numbers(&ring.points)
     )
 }

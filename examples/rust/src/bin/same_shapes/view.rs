@@ -1,5 +1,5 @@
 //! The rings that a work space holds: docs/WORKSPACE.md's layout, read here and nowhere else.
-use outline::{Point, POINTS, RECORDS};
+use outline::{Point, Reason, POINTS, RECORDS};
 
 const HEAD: usize = 16;
 /// How far a coordinate's word is raised.
@@ -20,6 +20,8 @@ enum OfRecord {
     Mark = 3,
     Present = 4,
     Cut = 6,
+    Reason = 7,
+    Taker = 8,
 }
 
 /// A record's ring: its points from the first in walk order, and how far it is.
@@ -32,6 +34,8 @@ pub struct Ring {
     pub present: usize,
     /// The record that it was cut from.
     pub cut_from: Option<usize>,
+    /// Why it has no points, in the words of the program reasons; empty while it has some.
+    pub why: String,
     pub points: Vec<Point>,
 }
 
@@ -49,6 +53,19 @@ fn value(work: &[u32], point: usize) -> Point {
     Point { x: lowered(OfPoint::X), y: lowered(OfPoint::Y), z: of_point(work, OfPoint::Z, point) as u32 as i32 }
 }
 
+/// What a record without points keeps.
+fn why(work: &[u32], record: usize) -> String {
+    let reason = match of_record(work, OfRecord::Reason, record) {
+        1 => Reason::NoRing,
+        2 => Reason::Joined { taker: of_record(work, OfRecord::Taker, record) as u32 },
+        3 => Reason::SmallRing,
+        4 => Reason::RingFell,
+        5 => Reason::SmallArea,
+        _ => return String::new(),
+    };
+    reason.to_string()
+}
+
 /// How many records are in use.
 pub fn records(work: &[u32]) -> usize {
     work[2] as usize
@@ -62,6 +79,7 @@ pub fn ring(work: &[u32], record: usize) -> Ring {
         open: of_record(work, OfRecord::Flags, record) & 1 == 1,
         due: of_record(work, OfRecord::Mark, record) as u32,
         cut_from: (cut != NONE).then_some(cut),
+        why: if first == NONE { why(work, record) } else { String::new() },
         ..Ring::default()
     };
     let mut at = first;

@@ -1,0 +1,12 @@
+# A version of the same first number, and not older than what is asked for; below 1.0 of the same second number too.
+set(PACKAGE_VERSION "@VERSION@")
+set(PACKAGE_VERSION_COMPATIBLE FALSE)
+set(PACKAGE_VERSION_EXACT FALSE)
+string(REGEX MATCH "^(0\\.)?[0-9]+" _outline_series "${PACKAGE_VERSION}")
+string(REGEX MATCH "^(0\\.)?[0-9]+" _outline_asked "${PACKAGE_FIND_VERSION}")
+if(PACKAGE_FIND_VERSION STREQUAL PACKAGE_VERSION)
+  set(PACKAGE_VERSION_EXACT TRUE)
+endif()
+if(NOT PACKAGE_VERSION VERSION_LESS PACKAGE_FIND_VERSION AND (_outline_asked STREQUAL _outline_series OR _outline_asked STREQUAL "" OR PACKAGE_FIND_VERSION STREQUAL "0"))
+  set(PACKAGE_VERSION_COMPATIBLE TRUE)
+endif()
