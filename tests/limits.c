@@ -171,6 +171,10 @@ static void listings(void) {
     is("the words then", work[0], 0x07070707);
     is("the tray then", tray[0], 7);
     is("the text then", text[0], 7);
+    is("a short work space, a larger rate and a short text", outline_list(job, length, work, 10, tray, sizeof tray, OUTLINE_RATE + 1, text, 11), 11);
+    is("what the text says then", (uint64_t)memcmp(text, "refused 10\n\7", 12), 0);
+    is("the words then", work[0], 0);
+    is("the tray then", tray[0], 0);
 }
 
 static uint64_t rewritten(size_t words, size_t bytes) { return outline_rewrite(job, length, work, words, written, bytes); }

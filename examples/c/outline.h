@@ -63,7 +63,7 @@ extern "C" {
 
 /* ---- the listing: two counts, then a line for each path, then, with a rate, the charge; or `refused` and the number */
 
-/* A text of so many bytes has room for the listing of any job; with a shorter one outline_list does nothing. */
+/* A text of so many bytes has room for the listing of any job; with a shorter one outline_list does nothing, unless the work space is too short. */
 #define OUTLINE_TEXT_BYTES 160359
 #if OUTLINE_TEXT_BYTES != 54 + 49 * OUTLINE_RECORDS + 66 * OUTLINE_POINTS + 49
 #error "OUTLINE_TEXT_BYTES is not what the limits make it"
@@ -123,8 +123,10 @@ uint64_t outline_work_words(void);
 uint32_t outline_finish(const uint8_t *job, size_t job_bytes, uint32_t *work, size_t work_words, uint8_t *tray, size_t tray_bytes);
 
 /* Finishes a job as outline_finish does and writes its listing, ASCII with a line feed after each line, into the text; bytes past it stay. The
- * answer is how many bytes the listing has, a refused job's too. A rate above OUTLINE_RATE is refused with 13 before the job is read, and
- * words and tray then stay as found. 0: the text has fewer than OUTLINE_TEXT_BYTES bytes; then every word and every byte is as found. */
+ * answer is how many bytes the listing has, a refused job's too. A work space that is too short is refused with 10 first of all; every word and
+ * every byte of the tray is then 0, and a text that has no room for the refusal's 11 bytes has as many as fit, with the answer 0. Else 0: the
+ * text has fewer than OUTLINE_TEXT_BYTES bytes; then every word and every byte is as found. Then a rate above OUTLINE_RATE is refused with 13,
+ * before the job is read, and words and tray stay as found. */
 uint64_t outline_list(const uint8_t *job, size_t job_bytes, uint32_t *work, size_t work_words, uint8_t *tray, size_t tray_bytes, uint32_t rate,
                       uint8_t *text, size_t text_bytes);
 

@@ -9,5 +9,6 @@ pub mod Passing
 pub mod Again
 pub mod Accepted
 pub mod Sizes
+pub mod Listing
 pub mod Theorem
 pub mod Examples

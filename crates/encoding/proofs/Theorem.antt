@@ -30,6 +30,7 @@ use Rattle.encoding.proofs.Encodable.{Encodable}
 use Rattle.encoding.proofs.Again.{reads-back}
 use Rattle.encoding.proofs.Accepted.{count, segments-count, joins-count, as-many, encodable}
 use Rattle.encoding.proofs.Sizes.{encode-length, encode-bytes}
+use Rattle.encoding.proofs.Listing.{same-listing}
 
 -- ---- an accepted job
 
@@ -154,6 +155,10 @@ one-way =
       draws = λ a x z. let w = wrote a x z in ap drawingIn (w .is) ∙ draws-again a (w .drawing) (w .draws) ∙ sym (w .draws);
       again = λ a x z. let w = wrote a x z in ap rewritten (w .is) ∙ writes (encode (w .drawing)) (w .drawing) (draws-again a (w .drawing) (w .draws)) ∙ ap some (sym (w .is));
       finishing = λ a x z n t. let w = wrote a x z in drawing-finish a x n t (w .drawing) (w .draws) (ap drawingIn (w .is) ∙ draws-again a (w .drawing) (w .draws));
+      listing = λ a x z rate n t.
+          let w = wrote a x z in
+          let q = ap drawingIn (w .is) ∙ draws-again a (w .drawing) (w .draws) in
+          same-listing a x (w .drawing) (w .draws) q n t (drawing-finish a x n t (w .drawing) (w .draws) q) rate;
       as-long = λ a x z. let w = wrote a x z in ap length (w .is) ∙ known a (w .drawing) (w .draws) .as-long;
       never-longer = λ a x z. let w = wrote a x z in let k = known a (w .drawing) (w .draws) in omega (arith, ap length (w .is), k .as-long, k .longest);
       bytes = λ a x z. let w = wrote a x z in rw (w .is) (encode-bytes (w .drawing));

@@ -8,8 +8,10 @@ use mathlib.Core.Option.{Option, some}
 use lib.ListN.{length}
 use Rattle.rings.specs.Circle.{omap}
 use Rattle.rings.specs.Links.{All}
+use Rattle.rates.specs.declared.Rate.{Rate}
 use Rattle.prefix.specs.Decides.{LONGEST}
 use Rattle.finishing.specs.InOneCall.{finishOf}
+use Rattle.job_listing.specs.Cutlist.{cutlistOf}
 use Rattle.drawing.specs.Drawing.{Drawn, Drawing, drawingIn}
 use Rattle.drawing.specs.Same.{SameFinish}
 use Rattle.encoding.specs.Encode.{encode}
@@ -37,6 +39,8 @@ pub record OneWay : Type 0 where
   pub again : (a x : List ℕ) → rewritten a ≡ some x → rewritten x ≡ some x
   -- "finishing either job gives the same lists, or the same refusal": in any work space, on any tray
   pub finishing : (a x : List ℕ) → rewritten a ≡ some x → (lent t : List ℕ) → SameFinish (finishOf a lent t) (finishOf x lent t)
+  -- so both list alike, at any rate
+  pub listing : (a x : List ℕ) → rewritten a ≡ some x → (rate : Rate) (lent t : List ℕ) → cutlistOf rate x lent t ≡ cutlistOf rate a lent t
   -- as many bytes as the job has, so 50,180 at most; and bytes they are
   pub as-long : (a x : List ℕ) → rewritten a ≡ some x → length x ≡ length a
   pub never-longer : (a x : List ℕ) → rewritten a ≡ some x → length x ≤ LONGEST

@@ -19,12 +19,12 @@ use Rattle.paths.specs.Path.{pathAt, smallBy}
 use Rattle.telling.specs.Telling.{keptReason, pathReason, reasonAt}
 use Rattle.finishing.specs.Run.{runOf}
 use Rattle.finishing.specs.Start.{Start}
-use Rattle.order.specs.Demand3.{fed, lones, AllDoneAfter, Same, none-left, same, SameEnd, whyAt, HasRing, Has}
+use Rattle.order.specs.Demand3.{Lone, fed, lones, AllDoneAfter, Same, none-left, same, SameEnd, whyAt, HasRing, Has}
 use Rattle.order.proofs.Theorem.{follows, lones-are, after-list, demand-3}
 use Rattle.ended.specs.Alike.{kindOf, SameReasons}
 use Rattle.ended.proofs.Joining.{no-ring, points-none}
 use Rattle.ended.proofs.Stepping.{bare-stays}
-use Rattle.ended.proofs.Discarding.{rule-kept}
+use Rattle.ended.proofs.Discarding.{lone-of, rule-kept}
 use Rattle.ended.proofs.Telling.{tells-rule, tells-short, tells-small, tells-written}
 use Rattle.ended.proofs.Told.{lone-first, lone-later}
 
@@ -94,7 +94,8 @@ module _ (w : List ℕ) (o : Start w) (is js : List ℕ) where
       go : (c : Bool) → ringless s a ≡ c → kindOf (reasonAt s a) ≡ kindOf (reasonAt t b)
       go false r = alike-ringed s t settings a b (h .closed ∙ sym (h′ .closed)) p r
       go true r =
-          let k = rule-kept w o is a q L (ap (λ (es : List _). at es a) (lones-are w o is) ∙ e) r in
+          let f = ap (λ (es : List Lone). at es a) (lones-are w o is) ∙ e in
+          let k = rule-kept w o is a q L (lone-of w o is a q L f) f r in
           alike-gone s t settings a b (h .closed ∙ sym (h′ .closed)) p (k .rule) r (k .kept) y
 
   heads : (xs ys : List ℕ) → Same s t xs ys → (a b : ℕ) (cs ds : List ℕ) → xs ≡ a ∷ cs → ys ≡ b ∷ ds → (ringPoints s a ≡ ringPoints t b) × (whyAt s a ≡ whyAt t b)

@@ -7,3 +7,4 @@ pub mod Opened
 pub mod Telling
 pub mod Told
 pub mod Alike
+pub mod Examples

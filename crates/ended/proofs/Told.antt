@@ -7,13 +7,13 @@ use Prim.Native.Nat.{ℕ, _%_, _≤_, _<_}
 use native.Mathlib.Omega.{arith}
 use native.Mathlib.Decide.{decLt}
 use lib.Dec.{eqb}
-use lib.ListN.{length, length-map}
+use lib.ListN.{length, getElem?, length-map}
 use borrow.Author.Tests.{eqb-true}
 use Rattle.rings.specs.Progress.{Discard, Ring, atStart, gone}
 use Rattle.geometry.specs.declared.Point.{Point}
-use Rattle.lone.specs.Forest.{State, initial, closedRing, Fed, leftRingless, leftOpen, leftClosed, enter, at, stepsState, stepsEntry}
+use Rattle.lone.specs.Forest.{State, initial, closedRing, Fed, leftClosed, enter, at, offcutsOf, rank, stepsState, stepsEntry}
 use Rattle.lone.specs.Lone.{fromFirst}
-use Rattle.lone.specs.Order.{Alone}
+use Rattle.lone.specs.Order.{IsOffcut, Alone}
 use Rattle.lone.specs.Path.{buildPath64FromOutpt}
 use Rattle.lone.specs.Plane.{plane}
 use Rattle.lone.proofs.Stepping.{at-closed}
@@ -35,19 +35,19 @@ use Rattle.opening.proofs.Accepted.{accepts, open-as-given}
 use Rattle.finishing.specs.Run.{runOf, granted}
 use Rattle.finishing.specs.Start.{Start}
 use Rattle.finishing.proofs.InOneCall.{opening-left}
-use Rattle.order.specs.Demand3.{M, G, Lone, lones, HasRing, Has}
+use Rattle.order.specs.Demand3.{M, G, Lone, fed, lones, HasRing, Has}
 use Rattle.order.proofs.Table.{opened-is}
 use Rattle.order.proofs.Theorem.{os, follows, lones-are, after-list}
-use Rattle.order.proofs.Beginning.{entered}
+use Rattle.order.proofs.Beginning.{entered, opened-begins}
 use Rattle.ended.specs.Discarded.{DiscardedBy}
 use Rattle.ended.specs.Joined.{EmptiedAt}
 use Rattle.ended.specs.Stages.{Stages}
-use Rattle.ended.specs.Ended.{OfOpen, Ended, no-ring, joined, discarded, short, small, written, Tells}
+use Rattle.ended.specs.Ended.{OfOpen, FedWith, as-left, as-cut, Ended, no-ring, joined, discarded, short, small, written, Tells}
 use Rattle.ended.proofs.Gone.{by-discarded}
 use Rattle.ended.proofs.Joining as joining
 use Rattle.ended.proofs.Joining.{ringless-by, points-none}
 use Rattle.ended.proofs.Stepping.{bare-stays}
-use Rattle.ended.proofs.Discarding.{rule-kept}
+use Rattle.ended.proofs.Discarding.{LoneOf, seed-begins, rule-kept}
 use Rattle.ended.proofs.Opened.{stages, LeftBare, none-left, taken-left, WhyBare, read-none, emptied, why-bare}
 use Rattle.ended.proofs.Telling.{tells-none, tells-joined, tells-rule, tells-short, tells-small, tells-written, in-list, own-list, call-tells}
 
@@ -60,36 +60,55 @@ module _ (w : List ℕ) (o : Start w) (is : List ℕ) (j : ℕ) where
   count : length (os w o) ≡ recs (view w)
   count = sym (length-map (os w o) enter) ∙ follows w o [] .rep .rep .in-step .records-are
 
-  -- left closed
-  pub lone-first : j < recs (view w) → ringless (view w) j ≡ false → isOpen (view w) j ≡ false → at (lones w is) j ≡ closedRing none (stepsState (M w) (granted w is j) (initial (atStart (ringPoints (view w) j))))
-  lone-first l r c =
+  -- fed with a ring that opening left
+  fed-first : (R : Ring Point) → j < recs (view w) → fed w j ≡ leftClosed R → at (lones w is) j ≡ closedRing none (stepsState (M w) (granted w is j) (initial R))
+  fed-first R l e =
       alone .opened j (omega (arith, count))
       ∙ ap (stepsEntry (M w) (granted w is j)) (entered w o j l)
-      ∙ ap (λ (b : Bool). stepsEntry (M w) (granted w is j) (enter (cond b leftRingless (cond (isOpen (view w) j) (leftOpen (ringPoints (view w) j)) (leftClosed (atStart (ringPoints (view w) j))))))) r
-      ∙ ap (λ (b : Bool). stepsEntry (M w) (granted w is j) (enter (cond b (leftOpen (ringPoints (view w) j)) (leftClosed (atStart (ringPoints (view w) j)))))) c
+      ∙ ap (λ (x : Fed (Ring Point) (List Point)). stepsEntry (M w) (granted w is j) (enter x)) e
+
+  -- left closed
+  fed-closed : ringless (view w) j ≡ false → isOpen (view w) j ≡ false → fed w j ≡ leftClosed (atStart (ringPoints (view w) j))
+  fed-closed r c = rw (r, c)
+
+  pub lone-first : j < recs (view w) → ringless (view w) j ≡ false → isOpen (view w) j ≡ false → at (lones w is) j ≡ closedRing none (stepsState (M w) (granted w is j) (initial (atStart (ringPoints (view w) j))))
+  lone-first l r c = fed-first (atStart (ringPoints (view w) j)) l (fed-closed r c)
 
   -- made since
+  its-offcut : recs (view w) ≤ j → j < recs (view (runOf w is)) → IsOffcut (M w) (lones w is) (granted w is) j
+  its-offcut m l = alone .offcut j (omega (arith, count)) (omega (arith, after-list w o is .count))
+
   pub lone-later : recs (view w) ≤ j → j < recs (view (runOf w is)) → (q : Option ℕ) × (L : State (Ring Point)) × (at (lones w is) j ≡ closedRing q L)
   lone-later m l =
-      let c = alone .offcut j (omega (arith, count)) (omega (arith, after-list w o is .count)) in
+      let c = its-offcut m l in
       (some (c .from), stepsState (M w) (granted w is j) (initial (c .seed)), c .is)
 
-  data Whose : Type 0 where
-    left-so : j < recs (view w) → ringless (view w) j ≡ true → Whose
-    lone : (q : Option ℕ) (L : State (Ring Point)) → at (lones w is) j ≡ closedRing q L → Whose
+  -- what its lone ring was fed with says where that is now
+  pub lone-fed : (c : List Point) → FedWith w is j c → (q : Option ℕ) × (at (lones w is) j ≡ closedRing q (stepsState (M w) (granted w is j) (initial (atStart c))))
+  lone-fed c (as-left l e) = (none, fed-first (atStart c) l e)
+  lone-fed c (as-cut m f e) = (some (f .from), f .is ∙ ap (λ (R : Ring Point). closedRing (some (f .from)) (stepsState (M w) (granted w is j) (initial R))) e)
 
   -- without a ring it was not left open
+  data Whose : Type 0 where
+    left-so : j < recs (view w) → ringless (view w) j ≡ true → Whose
+    lone : (c : List Point) → 1 ≤ length c → FedWith w is j c → Whose
+
   whose : j < recs (view (runOf w is)) → ringless (view (runOf w is)) j ≡ true → Whose
   whose l r = by (decLt j (recs (view w)))
     where
       go : j < recs (view w) → (a : Bool) → ringless (view w) j ≡ a → (b : Bool) → isOpen (view w) j ≡ b → Whose
       go h true e b f = left-so h e
       go h false e true f = absurd (true≢false (sym r ∙ ap (λ (x : ℕ). eqb x NONE) (after-list w o is .open-rings j h f .words FIRST) ∙ e))
-      go h false e false f = lone none (stepsState (M w) (granted w is j) (initial (atStart (ringPoints (view w) j)))) (lone-first h e f)
+      go h false e false f =
+          let b = opened-begins w o j none (initial (atStart (ringPoints (view w) j))) (entered w o j h ∙ ap enter (fed-closed e f)) in
+          lone (b .0) (b .1) (as-left h (fed-closed e f ∙ ap (λ (L : State (Ring Point)). leftClosed (L .now)) (b .2)))
 
       by : Dec (j < recs (view w)) → Whose
       by (yes h) = go h (ringless (view w) j) refl (isOpen (view w) j) refl
-      by (no d) = let c = lone-later (omega arith) l in lone (c .0) (c .1) (c .2)
+      by (no d) =
+          let u = its-offcut (omega arith) l in
+          let b = seed-begins w o is (u .from) (rank (lones w is) (u .from) j) (u .seed) (ap (λ (es : List Lone). getElem? (offcutsOf (at es (u .from))) (rank (lones w is) (u .from) j)) (lones-are w o is) ∙ u .cut-as) in
+          lone (b .0) (b .1) (as-cut (omega arith) u (b .2))
 
   -- back: what a step discarded has no ring, and the words keep that step's rule
   pub rule-back : (q : Option ℕ) (c : List Point) (k : ℕ) (y : Discard) → at (lones w is) j ≡ closedRing q (stepsState (M w) k (initial (atStart c))) → DiscardedBy (G w) c k y → j < recs (view (runOf w is))
@@ -145,7 +164,7 @@ module _ (bytes lent w : List ℕ) (f : openOf bytes lent ≡ end Accepted w) (i
   only : j < recs s → (r : Reason) → Ended bytes lent w t is j r → r ≡ reasonAt s j
   only l r (no-ring h e) = sym (tells-read h e)
   only l r (joined m u h d) = sym (tells-taken m u h d)
-  only l r (discarded q c k y e d) = sym (tells-discarded l q c k y e d)
+  only l r (discarded c y f d) = let x = lone-fed w o is j c f in sym (tells-discarded l (x .0) c (granted w is j) y (x .1) d)
   only l r (short h e b) = sym (tells-short s j h e b)
   only l r (small h e b) = sym (tells-small s j h e b)
   only l r (written p after e h) = sym (tells-written s j (ringed p e) p e)
@@ -168,10 +187,12 @@ module _ (bytes lent w : List ℕ) (f : openOf bytes lent ≡ end Accepted w) (i
       go : WhyBare bytes lent w (accepts w bytes lent f .0) t j → Ended bytes lent w t is j (reasonAt s j)
       go (read-none h d) = subst (Ended bytes lent w t is j) (sym (tells-read h d)) (no-ring h d)
       go (emptied m u h d) = subst (Ended bytes lent w t is j) (sym (tells-taken m u h d)) (joined m u h d)
-  told-none r (lone q L e) =
-      let k = rule-kept w o is j q L (ap (λ (es : List Lone). at es j) (lones-are w o is) ∙ e) r in
-      subst (Ended bytes lent w t is j) (sym (tells-rule s j r (k .rule) (k .kept)))
-      (discarded q (k .lone .points) (k .lone .steps) (k .rule) (e ∙ ap (closedRing q) (k .lone .is)) (k .by))
+  told-none r (lone c h f) =
+      let x = lone-fed w o is j c f in
+      let L : State (Ring Point) = stepsState (M w) (granted w is j) (initial (atStart c)) in
+      let a : LoneOf w o L = record { points = c; some-points = h; steps = granted w is j; is = refl } in
+      let k = rule-kept w o is j (x .0) L a (ap (λ (es : List Lone). at es j) (lones-are w o is) ∙ x .1) r in
+      subst (Ended bytes lent w t is j) (sym (tells-rule s j r (k .rule) (k .kept))) (discarded c (k .rule) f (k .by))
 
   told : j < recs s → Ended bytes lent w t is j (reasonAt s j)
   told l = go (ringless s j) refl
@@ -197,8 +218,10 @@ module _ (bytes lent w : List ℕ) (f : openOf bytes lent ≡ end Accepted w) (i
           let c : isOpen (view (t .read)) j ≡ true = sym (ap (λ (x : ℕ). eqb (x % 2) 1) (k .flags j h)) ∙ b in
           tells-read h (eqb-true (firstOf (t .read) j) NONE (ringless-by (view (t .read)) j (sym (k .rings j h c) ∙ joining.no-ring (view w) j e)))
       given (no h) = absurd (true≢false (sym b ∙ k .new j (omega arith) l))
-  open-bare a (lone q L e) =
-      let h : HasRing s j q L = subst (Has s j) e (after-list w o is .rings j (omega (arith, at-closed (lones w is) j e, after-list w o is .count))) in
+  open-bare a (lone c n f) =
+      let x = lone-fed w o is j c f in
+      let L : State (Ring Point) = stepsState (M w) (granted w is j) (initial (atStart c)) in
+      let h : HasRing s j (x .0) L = subst (Has s j) (x .1) (after-list w o is .rings j (omega (arith, at-closed (lones w is) j (x .1), after-list w o is .count))) in
       absurd (true≢false (sym a ∙ h .closed))
 
   of-open : j < recs s → isOpen s j ≡ true → OfOpen (reasonAt s j)

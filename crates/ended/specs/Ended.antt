@@ -2,12 +2,13 @@
 use mathlib.Core.Path.{_≡_}
 use mathlib.Core.Bool.{true, false}
 use mathlib.Core.List.{List, _∷_, _++_}
-use mathlib.Core.Option.{Option, none, some}
-use Prim.Native.Nat.{ℕ, _<_}
+use mathlib.Core.Option.{none, some}
+use Prim.Native.Nat.{ℕ, _≤_, _<_}
 use lib.ListN.{length}
 use Rattle.rings.specs.Progress.{Discard, atStart}
 use Rattle.geometry.specs.declared.Point.{Point}
-use Rattle.lone.specs.Forest.{initial, closedRing, at, stepsState}
+use Rattle.lone.specs.Forest.{leftClosed}
+use Rattle.lone.specs.Order.{IsOffcut}
 use Rattle.store.specs.Field.{NONE}
 use Rattle.store.specs.Words.{Store, view}
 use Rattle.store.specs.Named.{recordsOf, firstOf}
@@ -19,8 +20,8 @@ use Rattle.telling.specs.declared.Reason.{Reason}
 use Rattle.telling.specs.declared.Reason.the-variants.{NoRing, Joined, SmallRing, RingFell, SmallArea, ShortPath, SmallPath, Written}
 use Rattle.telling.specs.declared.Told.the-variants.{Because}
 use Rattle.telling.specs.Telling.{discardReason, reasonAt, reasonOf}
-use Rattle.finishing.specs.Run.{runOf}
-use Rattle.order.specs.Demand3.{M, G, lones}
+use Rattle.finishing.specs.Run.{runOf, granted}
+use Rattle.order.specs.Demand3.{M, G, fed, lones}
 use Rattle.ended.specs.Stages.{Stages}
 use Rattle.ended.specs.Joined.{EmptiedAt}
 use Rattle.ended.specs.Discarded.{DiscardedBy}
@@ -35,6 +36,12 @@ OfOpen SmallArea = ⊥
 OfOpen ShortPath = Unit {0}
 OfOpen SmallPath = ⊥
 OfOpen (Written o place) = o ≡ true
+
+-- the points that record j's lone ring was fed with, w being the work space as opening left it, before the list of steps `is`: those of the ring that opening left; of an offcut, those that it was cut off with,
+-- by the ring that it was cut from and its rank among that ring's offcuts
+pub data FedWith (w is : List ℕ) (j : ℕ) (c : List Point) : Type 0 where
+  as-left : j < recs (view w) → fed w j ≡ leftClosed (atStart c) → FedWith w is j c
+  as-cut : recs (view w) ≤ j → (f : IsOffcut (M w) (lones w is) (granted w is) j) → f .seed ≡ atStart c → FedWith w is j c
 
 -- of an accepted job, stage by stage up to w, after the list of steps `is`: record j
 module _ (bytes lent w : List ℕ) (t : Stages bytes lent w) (is : List ℕ) (j : ℕ) where
@@ -53,8 +60,8 @@ module _ (bytes lent w : List ℕ) (t : Stages bytes lent w) (is : List ℕ) (j 
     no-ring : j < recordsOf (t .read) → firstOf (t .read) j ≡ NONE → Ended NoRing
     -- "joined into another record, with the number of the one that took it in that join": join number m
     joined : (m u : ℕ) → m < t .many → EmptiedAt (t .joins) (t .levelled) m u j → Ended (Joined u)
-    -- the three rules of steps: its lone ring, fed with the points c and stepped k times, was discarded by one of them
-    discarded : (q : Option ℕ) (c : List Point) (k : ℕ) (y : Discard) → at (lones w is) j ≡ closedRing q (stepsState (M w) k (initial (atStart c))) → DiscardedBy (G w) c k y → Ended (discardReason (some y))
+    -- the three rules of steps: its lone ring, fed with these points and stepped as often as record j was granted a step, was discarded by one of them
+    discarded : (c : List Point) (y : Discard) → FedWith w is j c → DiscardedBy (G w) c (granted w is j) y → Ended (discardReason (some y))
     -- "too short when the path was built (by any test but the small one); too small when the path was built"
     short : ringless s j ≡ false → pathAt s j ≡ none → smallBy s (reverseSolution s) (isOpen s j) j ≡ false → Ended ShortPath
     small : ringless s j ≡ false → pathAt s j ≡ none → smallBy s (reverseSolution s) (isOpen s j) j ≡ true → Ended SmallPath

@@ -1,16 +1,18 @@
 -- A job's listing has at most `TEXT` bytes: so a program that lends as many always has room for it.
 use Prim.Native.Nat.{ℕ, _≤_}
 use mathlib.Core.Path.{_≡_, refl, sym, ap, subst}
-use mathlib.Core.Bool.{Bool}
+use mathlib.Core.Bool.{Bool, true, false, cond}
 use mathlib.Core.List.{List}
 use native.Mathlib.Omega.{arith}
+use lib.Dec.{ltb}
 use lib.ListN.{length, take, drop, length-append, length-take, length-drop}
 use borrow.Author.Tests.{le-leb}
 use Rattle.job.specs.Refusal.{numberOf}
-use Rattle.job.specs.declared.refusal.Refusal.the-variants.{BadRate}
+use Rattle.job.specs.declared.refusal.Refusal.the-variants.{Full, BadRate}
 use Rattle.rates.specs.declared.Rate.{Rate}
 use Rattle.rates.specs.declared.Rate.the-variants.{NoRate, Cents, Bad}
 use Rattle.rates.specs.Rate.{asked}
+use Rattle.store.specs.Field.{LENGTH}
 use Rattle.store.specs.Words.{view}
 use Rattle.store.specs.Value.{reverseSolution}
 use Rattle.store.specs.Good.{Sound}
@@ -32,7 +34,7 @@ use Rattle.listing.specs.Told.{Told, told, tell}
 use Rattle.listing.specs.Needs.{Whole}
 use Rattle.listing.proofs.Answers.{written-out}
 use Rattle.listing.proofs.Room.{listing-le, charged-le, refusal-le}
-use Rattle.job_listing.specs.Cutlist.{pathsAt, listedFrom, cutlistOf, ListedJob, listedJob, listedBy, listJobOf}
+use Rattle.job_listing.specs.Cutlist.{pathsAt, listedFrom, cutlistOf, ListedJob, listedJob, shortOut, listedBy, listJobOf}
 
 module _ (rate : Rate) (t : List ℕ) where
   at-rate : (q : Rate) (rev : Bool) (c o : ℕ) (w u : List ℕ) → Sound (view w) → wrote (Paths c o) u ≡ buildPaths64 (view w) t → length (pathsAt q rev c o u) ≤ TEXT
@@ -70,7 +72,14 @@ by-whole (Cents n) bytes w t out h = tell-whole (listedFrom (Cents n) (finishOf 
 by-whole Bad bytes w t out h = tell-whole (refusedLine (numberOf BadRate)) out (omega (arith, h, refusal-le (numberOf BadRate)))
 
 -- so `list_job` never answers that there is no room
-pub listed-whole : (rate : Rate) (bytes w t w′ t′ out out′ : List ℕ) (a : Listed) → TEXT ≤ length out → listedJob (told a out′) w′ t′ ≡ listJobOf rate bytes w t out → Whole a (length out′)
+job-whole : (rate : Rate) (bytes w t out : List ℕ) → TEXT ≤ length out → Whole (listJobOf rate bytes w t out .text .answer) (length (listJobOf rate bytes w t out .text .out))
 unfolding listJobOf
+job-whole rate bytes w t out h = go (ltb (length w) LENGTH)
+  where
+    go : (b : Bool) → Whole (cond b (shortOut w t out) (listedBy (asked rate) bytes w t out) .text .answer) (length (cond b (shortOut w t out) (listedBy (asked rate) bytes w t out) .text .out))
+    go true = tell-whole (refusedLine (numberOf Full)) out (omega (arith, h, refusal-le (numberOf Full)))
+    go false = by-whole (asked rate) bytes w t out h
+
+pub listed-whole : (rate : Rate) (bytes w t w′ t′ out out′ : List ℕ) (a : Listed) → TEXT ≤ length out → listedJob (told a out′) w′ t′ ≡ listJobOf rate bytes w t out → Whole a (length out′)
 listed-whole rate bytes w t w′ t′ out out′ a h e =
-    subst (λ (x : Told). Whole (x .answer) (length (x .out))) (sym (ap (λ (x : ListedJob). x .text) e)) (by-whole (asked rate) bytes w t out h)
+    subst (λ (x : Told). Whole (x .answer) (length (x .out))) (sym (ap (λ (x : ListedJob). x .text) e)) (job-whole rate bytes w t out h)

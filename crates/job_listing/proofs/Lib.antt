@@ -3,3 +3,5 @@ pub mod Listing
 pub mod Fits
 pub mod Paper
 pub mod Decided
+pub mod Taking
+pub mod Settings

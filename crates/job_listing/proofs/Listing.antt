@@ -1,18 +1,19 @@
 -- What finishing in one call answers can be listed, and the listing is the job's.
-use Prim.Native.Nat.{ℕ, _≤_}
+use Prim.Native.Nat.{ℕ, _≤_, _<_}
 use mathlib.Core.Path.{_≡_, refl, sym, ap, _∙_, subst}
-use mathlib.Core.Bool.{Bool}
+use mathlib.Core.Bool.{Bool, cond}
 use mathlib.Core.List.{List}
 use native.Mathlib.Omega.{arith}
-use lib.ListN.{length}
+use lib.ListN.{length, replicate, length-replicate}
+use borrow.Author.Tests.{lt-ltb, le-ltb}
 use Rattle.job.specs.Refusal.{numberOf}
 use Rattle.job.specs.declared.refusal.Refusal.{Refusal}
-use Rattle.job.specs.declared.refusal.Refusal.the-variants.{BadRate}
+use Rattle.job.specs.declared.refusal.Refusal.the-variants.{Full, BadRate}
 use Rattle.rates.specs.declared.Rate.{Rate}
 use Rattle.rates.specs.declared.Rate.the-variants.{NoRate, Cents, Bad}
 use Rattle.rates.specs.Rate.{LARGEST, asked}
 use Rattle.rates.proofs.Digits.{asked-twice, cents-low}
-use Rattle.store.specs.Field.{BLOCK}
+use Rattle.store.specs.Field.{BLOCK, LENGTH}
 use Rattle.store.specs.Words.{view}
 use Rattle.store.specs.Value.{reverseSolution}
 use Rattle.acts.specs.Finish.{RingsEnd, ringsDone, ringsFull}
@@ -22,10 +23,10 @@ use Rattle.store.specs.Good.{SoundWords}
 use Rattle.paths.specs.Wrote.{Wrote, wrote, buildPaths64}
 use Rattle.opening.specs.declared.open.Opened.the-variants.{Accepted}
 use Rattle.opening.specs.declared.open.Opened.the-variants as opened
-use Rattle.opening.specs.Open.{End, end, openOf}
+use Rattle.opening.specs.Open.{End, end, stagesOf, settled, cleared, openOf}
 use Rattle.finishing.specs.Start.{Start}
 use Rattle.finishing.specs.Finish.{finishRings}
-use Rattle.finishing.specs.InOneCall.{Finished, finished, afterWriting, afterSteps, afterOpening, finishOf}
+use Rattle.finishing.specs.InOneCall.{Finished, finished, refused, afterWriting, afterSteps, afterOpening, finishOf}
 use Rattle.finishing.proofs.InOneCall.{done-ready, opening-left}
 use Rattle.listing.specs.Told.{Told, told, tell}
 use Rattle.listing.specs.Needs.{Listable, Summable}
@@ -33,7 +34,7 @@ use Rattle.listing.specs.Lines.{listingOf, refusedLine}
 use Rattle.listing.specs.declared.Listed.{Listed}
 use Rattle.listing.specs.Charge.{chargedOf}
 use Rattle.listing.proofs.Answers.{answer-listable, answer-summable}
-use Rattle.job_listing.specs.Cutlist.{pathsAt, listedAs, listedJob, listedOut, listedBy, listJobOf}
+use Rattle.job_listing.specs.Cutlist.{pathsAt, listedAs, listedJob, listedOut, shortOut, listedBy, listJobOf}
 
 never : {A : Type 0} (c o : ℕ) (x : Refusal) (w t w′ t′ : List ℕ) → finished (Paths c o) w t ≡ finished (Refused x) w′ t′ → A
 never c o x w t w′ t′ e =
@@ -116,17 +117,34 @@ module _ (rate : Rate) (rev : Bool) (c o : ℕ) (t out out′ : List ℕ) (a : L
   bad-told e g = at-rate Bad e g
 
 module _ (rate q : Rate) (e : q ≡ asked rate) (bytes w t out out′ w′ t′ : List ℕ) (a : Listed) where
-  pub by-none : q ≡ NoRate → listedJob (told a out′) w′ t′ ≡ listedOut NoRate (finishOf bytes w t) out → listedJob (told a out′) w′ t′ ≡ listJobOf rate bytes w t out
-  unfolding listJobOf
+  pub by-none : q ≡ NoRate → listedJob (told a out′) w′ t′ ≡ listedOut NoRate (finishOf bytes w t) out → listedJob (told a out′) w′ t′ ≡ listedBy (asked rate) bytes w t out
   by-none h g = g ∙ ap (λ (p : Rate). listedBy p bytes w t out) (sym h ∙ e)
 
-  pub by-cents : (n : ℕ) → q ≡ Cents n → listedJob (told a out′) w′ t′ ≡ listedOut (Cents n) (finishOf bytes w t) out → listedJob (told a out′) w′ t′ ≡ listJobOf rate bytes w t out
-  unfolding listJobOf
+  pub by-cents : (n : ℕ) → q ≡ Cents n → listedJob (told a out′) w′ t′ ≡ listedOut (Cents n) (finishOf bytes w t) out → listedJob (told a out′) w′ t′ ≡ listedBy (asked rate) bytes w t out
   by-cents n h g = g ∙ ap (λ (p : Rate). listedBy p bytes w t out) (sym h ∙ e)
 
-pub by-bad : (rate q : Rate) (bytes w t out out′ : List ℕ) (a : Listed) → q ≡ asked rate → q ≡ Bad → told a out′ ≡ tell (refusedLine (numberOf BadRate)) out → listedJob (told a out′) w t ≡ listJobOf rate bytes w t out
-unfolding listJobOf
+pub by-bad : (rate q : Rate) (bytes w t out out′ : List ℕ) (a : Listed) → q ≡ asked rate → q ≡ Bad → told a out′ ≡ tell (refusedLine (numberOf BadRate)) out → listedJob (told a out′) w t ≡ listedBy (asked rate) bytes w t out
 by-bad rate q bytes w t out out′ a e h g = ap (λ (x : Told). listedJob x w t) g ∙ ap (λ (p : Rate). listedBy p bytes w t out) (sym h ∙ e)
+
+-- ---- by the length of the work space
+
+-- finishing refuses one that is too short, whatever the job
+pub short-full : (bytes w t : List ℕ) → length w < LENGTH → finishOf bytes w t ≡ refused Full (length w) (length t)
+unfolding finishOf openOf
+short-full bytes w t h =
+    ap (λ (b : Bool). afterOpening (cond b (end (opened.Refused Full) (replicate (length w) 0)) (settled (length w) (stagesOf bytes (cleared w)))) t) (lt-ltb (length w) LENGTH h)
+    ∙ ap (λ (n : ℕ). refused Full n (length t)) (length-replicate {A = ℕ} (length w) 0)
+
+module _ (rate : Rate) (bytes w t out out′ w′ t′ : List ℕ) (a : Listed) where
+  pub too-short : length w < LENGTH → listedJob (told a out′) w′ t′ ≡ listedOut NoRate (finishOf bytes w t) out → listedJob (told a out′) w′ t′ ≡ listJobOf rate bytes w t out
+  unfolding listJobOf
+  too-short h g =
+      g ∙ ap (λ (f : Finished). listedOut NoRate f out) (short-full bytes w t h)
+      ∙ sym (ap (λ (b : Bool). cond b (shortOut w t out) (listedBy (asked rate) bytes w t out)) (lt-ltb (length w) LENGTH h))
+
+  pub long-enough : LENGTH ≤ length w → listedJob (told a out′) w′ t′ ≡ listedBy (asked rate) bytes w t out → listedJob (told a out′) w′ t′ ≡ listJobOf rate bytes w t out
+  unfolding listJobOf
+  long-enough h g = g ∙ sym (ap (λ (b : Bool). cond b (shortOut w t out) (listedBy (asked rate) bytes w t out)) (le-ltb (length w) LENGTH h))
 
 pub cents-again : (rate q : Rate) (n : ℕ) → q ≡ asked rate → q ≡ Cents n → asked (Cents n) ≡ Cents n
 cents-again rate q n e h = let f : asked rate ≡ Cents n = sym e ∙ h in ap asked (sym f) ∙ asked-twice rate ∙ f

@@ -1,12 +1,15 @@
 -- The listing of a job: document 01, "The listing", of what finishing it in one call answers, writes and leaves; with document 02's charge, at a rate.
 use Prim.Native.Nat.{ℕ}
-use mathlib.Core.Bool.{Bool}
+use mathlib.Core.Bool.{Bool, cond}
 use mathlib.Core.List.{List}
+use lib.Dec.{ltb}
+use lib.ListN.{length}
 use Rattle.job.specs.Refusal.{numberOf}
-use Rattle.job.specs.declared.refusal.Refusal.the-variants.{BadRate}
+use Rattle.job.specs.declared.refusal.Refusal.the-variants.{Full, BadRate}
 use Rattle.rates.specs.declared.Rate.{Rate}
 use Rattle.rates.specs.declared.Rate.the-variants.{NoRate, Cents, Bad}
 use Rattle.rates.specs.Rate.{asked}
+use Rattle.store.specs.Field.{LENGTH}
 use Rattle.store.specs.Words.{view}
 use Rattle.store.specs.Value.{reverseSolution}
 use Rattle.paths.specs.declared.Written.{Written}
@@ -14,7 +17,7 @@ use Rattle.paths.specs.declared.Written.the-variants.{Paths, Refused}
 use Rattle.listing.specs.Lines.{listingOf, refusedLine}
 use Rattle.listing.specs.Charge.{chargedOf}
 use Rattle.listing.specs.Told.{Told, tell}
-use Rattle.finishing.specs.InOneCall.{Finished, finishOf}
+use Rattle.finishing.specs.InOneCall.{Finished, refused, finishOf}
 
 -- of an accepted job's paths under a setting of `reverse_solution`: "Without an argument the listing has no such line"
 abbrev pub pathsAt : Rate → Bool → ℕ → ℕ → List ℕ → List ℕ
@@ -49,10 +52,15 @@ listedJob x w t = record { text = x; words = w; tray = t }
 abbrev pub listedOut : Rate → Finished → List ℕ → ListedJob
 listedOut rate f out = listedJob (tell (listedFrom rate f) out) (f .words) (f .tray)
 
+-- row 10, "tested first of all, by every call": words and tray are zero, as finishing leaves them
+abbrev pub shortOut : List ℕ → List ℕ → List ℕ → ListedJob
+shortOut w t out = listedOut NoRate (refused Full (length w) (length t)) out
+
 -- 13, "tested before the job is read": nothing else is touched
 abbrev pub badOut : List ℕ → List ℕ → List ℕ → ListedJob
 badOut w t out = listedJob (tell (refusedLine (numberOf BadRate)) out) w t
 
+-- by the rate that is asked for
 abbrev pub listedBy : Rate → List ℕ → List ℕ → List ℕ → List ℕ → ListedJob
 listedBy NoRate bytes w t out = listedOut NoRate (finishOf bytes w t) out
 listedBy (Cents n) bytes w t out = listedOut (Cents n) (finishOf bytes w t) out
@@ -60,4 +68,4 @@ listedBy Bad bytes w t out = badOut w t out
 
 -- by the rate, the job's bytes, the work space, the tray and the slice that are handed over
 unfoldable pub listJobOf : Rate → List ℕ → List ℕ → List ℕ → List ℕ → ListedJob
-listJobOf rate bytes w t out = listedBy (asked rate) bytes w t out
+listJobOf rate bytes w t out = cond (ltb (length w) LENGTH) (shortOut w t out) (listedBy (asked rate) bytes w t out)

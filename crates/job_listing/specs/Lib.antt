@@ -1,2 +1,3 @@
 -- The listing of a job.
 pub mod Cutlist
+pub mod Setting

@@ -7,6 +7,7 @@ use paths::Written;
 use paths::reverse_solution;
 use rates::Rate;
 use rates::asked;
+use store::LENGTH;
 ghost use mathlib.Core.Path.{_≡_};
 ghost use lib.ListN.{length};
 ghost use Rattle.job.specs.Refusal.{numberOf};
@@ -15,7 +16,7 @@ ghost use Rattle.finishing.specs.InOneCall.{finishOf};
 ghost use Rattle.listing.specs.Lines.{refusedLine};
 ghost use Rattle.listing.specs.Told.{told, tell};
 ghost use Rattle.listing.specs.Needs.{Listable, Summable};
-ghost use Rattle.job_listing.specs.Cutlist.{pathsAt, listedJob, listedOut, listJobOf};
+ghost use Rattle.job_listing.specs.Cutlist.{pathsAt, listedJob, listedOut, listedBy, listJobOf};
 
 // The line of a refusal.
 fn refused(x: Refusal, out: &mut [u8]) -> Listed
@@ -65,8 +66,20 @@ fn list_finished(
     }
 }
 
+// By the rate that is asked for. A bad one is refused before the job is looked at.
+fn list_at(bytes: &[u8], rate: Rate, work: &mut [u32], tray: &mut [u8], out: &mut [u8]) -> Listed
+    ensures { λ r. ⌜ listedJob (told r (now (out .exit))) (now (work .exit)) (now (tray .exit)) ≡ listedBy (asked rate) (now (bytes .entry)) (now (work .entry)) (now (tray .entry)) (now (out .entry)) ⌝ }
+{
+    let at = asked(rate);
+    match at {
+        Rate::NoRate => list_finished(bytes, Rate::NoRate, work, tray, out),
+        Rate::Cents(n) => list_finished(bytes, Rate::Cents(n), work, tray, out),
+        Rate::Bad => refused(Refusal::BadRate, out),
+    }
+}
+
 // The listing of a job, in a lent slice: the answer, every word and every byte left. `listing::TEXT` bytes are always room enough (`cutlist-fits`), and the first
-// `prefix::DECIDES` bytes of an input are enough (`cutlist-decided`). A bad rate is refused before the job is looked at.
+// `prefix::DECIDES` bytes of an input are enough (`cutlist-decided`). A work space that is too short is refused first of all, then a bad rate, then the job.
 pub fn list_job(
     bytes: &[u8],
     rate: Rate,
@@ -76,10 +89,8 @@ pub fn list_job(
 ) -> Listed
     ensures { λ r. ⌜ listedJob (told r (now (out .exit))) (now (work .exit)) (now (tray .exit)) ≡ listJobOf rate (now (bytes .entry)) (now (work .entry)) (now (tray .entry)) (now (out .entry)) ⌝ }
 {
-    let at = asked(rate);
-    match at {
-        Rate::NoRate => list_finished(bytes, Rate::NoRate, work, tray, out),
-        Rate::Cents(n) => list_finished(bytes, Rate::Cents(n), work, tray, out),
-        Rate::Bad => refused(Refusal::BadRate, out),
+    if work.len() < LENGTH {
+        return list_finished(bytes, Rate::NoRate, work, tray, out);
     }
+    list_at(bytes, rate, work, tray, out)
 }

@@ -1,12 +1,11 @@
 -- The number of what an entry point answered, with what it left, is the exported call's.
 use Prim.Native.Nat.{ℕ, zero, suc, _+_, _*_, _^_, _<_, _≤_}
-use mathlib.Core.Path.{_≡_, refl, ap, _∙_, subst}
+use mathlib.Core.Path.{_≡_, refl, sym, ap, _∙_, subst}
 use mathlib.Core.Logic.{_≢_}
-use mathlib.Core.Bool.{Bool}
+use mathlib.Core.Bool.{Bool, true, false, cond}
 use mathlib.Core.List.{List}
 use native.Mathlib.Omega.{arith}
 use lib.ListN.{length}
-use borrow.Author.Tests.{le-leb, lt-leb}
 use Rattle.job.specs.Limits as limit
 use Rattle.audit.specs.declared.Reply.{Reply}
 use Rattle.audit.specs.Left.{left}
@@ -22,7 +21,6 @@ use Rattle.finishing.specs.Write.{writeOf}
 use Rattle.finishing.specs.InOneCall as call
 use Rattle.finishing.specs.InOneCall.{finishOf}
 use Rattle.listing.specs.declared.Listed.{Listed}
-use Rattle.listing.specs.Room.{TEXT}
 use Rattle.listing.specs.Told.{told}
 use Rattle.job_listing.specs.Cutlist.{listedJob, listJobOf}
 use Rattle.prefix.specs.Decides.{LONGEST}
@@ -39,7 +37,7 @@ use Rattle.telling.specs.Telling.{reasonOf}
 use Rattle.telling.specs.Within.{NumberWithin, ToldWithin}
 use Rattle.telling.proofs.Within.{told-within}
 use Rattle.states.specs.Calls.{keepOf, goBackOf, dropOf}
-use Rattle.outline.specs.Calls.{openedNumber, replyNumber, writtenNumber, listedBytes, rewrittenNumber, reasonWord, toldNumber, rateFrom, worked, wrote, finished, listing, asOpened, asReplied, asWritten, asFinished, asListed, asRewritten, openC, stepC, keepC, backC, dropC, writeC, finishC, listC, rewriteC, reasonC}
+use Rattle.outline.specs.Calls.{openedNumber, replyNumber, writtenNumber, listedBytes, rewrittenNumber, reasonWord, toldNumber, rateFrom, textShort, worked, wrote, finished, listing, asOpened, asReplied, asWritten, asFinished, asListed, asRewritten, openC, stepC, keepC, backC, dropC, writeC, finishC, listC, rewriteC, reasonC}
 
 pub as-opened : (bytes lent : List ℕ) (k : ℕ) (a : Opened) (w : List ℕ) → end a w ≡ openOf bytes lent → k ≡ openedNumber a → worked k w ≡ openC bytes lent
 unfolding openC
@@ -119,13 +117,14 @@ pub some-rate : (n m : ℕ) → n ≢ 0 → m ≡ n → Cents m ≡ rateFrom n
 some-rate zero m h e = absurd (h refl)
 some-rate (suc n) m h e = ap (λ (k : ℕ). Cents k) e
 
-module _ (bytes w t : List ℕ) (rate : ℕ) (s : List ℕ) where
-  pub too-short : length s < TEXT → listing 0 w t s ≡ listC bytes w t rate s
+module _ (bytes w t : List ℕ) (rate : ℕ) (s : List ℕ) (b : Bool) (d : b ≡ textShort (length w) (length s)) where
+  pub too-short : b ≡ true → listing 0 w t s ≡ listC bytes w t rate s
   unfolding listC
-  too-short h = rw (lt-leb TEXT (length s) h)
+  too-short h = sym (ap (λ (x : Bool). cond x (listing 0 w t s) (asListed (listJobOf (rateFrom rate) bytes w t s))) (sym d ∙ h))
 
-  pub as-listed : (k : ℕ) (q : Rate) (a : Listed) (w′ t′ s′ : List ℕ) → TEXT ≤ length s → q ≡ rateFrom rate → listedJob (told a s′) w′ t′ ≡ listJobOf q bytes w t s → k ≡ listedBytes a
+  pub as-listed : (k : ℕ) (q : Rate) (a : Listed) (w′ t′ s′ : List ℕ) → b ≡ false → q ≡ rateFrom rate → listedJob (told a s′) w′ t′ ≡ listJobOf q bytes w t s → k ≡ listedBytes a
       → listing k w′ t′ s′ ≡ listC bytes w t rate s
   unfolding listC
   as-listed k q a w′ t′ s′ h i e g =
-      rw (le-leb TEXT (length s) h) (ap (λ (z : ℕ). listing z w′ t′ s′) g ∙ ap asListed (e ∙ ap (λ (p : Rate). listJobOf p bytes w t s) i))
+      ap (λ (z : ℕ). listing z w′ t′ s′) g ∙ ap asListed (e ∙ ap (λ (p : Rate). listJobOf p bytes w t s) i)
+      ∙ sym (ap (λ (x : Bool). cond x (listing 0 w t s) (asListed (listJobOf (rateFrom rate) bytes w t s))) (sym d ∙ h))

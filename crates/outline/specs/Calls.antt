@@ -1,8 +1,8 @@
 -- The calls for C and Rust: 0 or the table's number, and the words and bytes that the entry point of the same name leaves, on every input.
 use Prim.Native.Nat.{ℕ, zero, suc, _+_, _*_, _^_}
-use mathlib.Core.Bool.{cond}
+use mathlib.Core.Bool.{Bool, cond, _&&_}
 use mathlib.Core.List.{List}
-use lib.Dec.{leb}
+use lib.Dec.{leb, ltb}
 use lib.ListN.{length}
 use Rattle.rates.specs.declared.Rate.{Rate}
 use Rattle.rates.specs.declared.Rate.the-variants.{NoRate, Cents}
@@ -10,6 +10,7 @@ use Rattle.job.specs.Refusal.{numberOf}
 use Rattle.audit.specs.declared.Reply.{Reply}
 use Rattle.audit.specs.declared.Reply.the-variants as reply
 use Rattle.audit.specs.Left.{Left}
+use Rattle.store.specs.Field.{LENGTH}
 use Rattle.paths.specs.declared.Written.{Written}
 use Rattle.paths.specs.declared.Written.the-variants as written
 use Rattle.paths.specs.Tray.{tagOf}
@@ -165,9 +166,13 @@ writeC w t = asWritten (writeOf w t)
 unfoldable pub finishC : List ℕ → List ℕ → List ℕ → Finished
 finishC bytes lent t = asFinished (finishOf bytes lent t)
 
--- `outline_list`, of the job's bytes, the words, the tray, the rate and the text: a text too short for some job's listing is left as found, and so is all else
+-- a work space that is long enough, and a text too short for some job's listing: row 10 comes before that
+abbrev pub textShort : ℕ → ℕ → Bool
+textShort words bytes = leb LENGTH words && ltb bytes TEXT
+
+-- `outline_list`, of the job's bytes, the words, the tray, the rate and the text: a text that is too short is left as found, and so is all else
 unfoldable pub listC : List ℕ → List ℕ → List ℕ → ℕ → List ℕ → Listing
-listC bytes w t rate s = cond (leb TEXT (length s)) (asListed (listJobOf (rateFrom rate) bytes w t s)) (listing 0 w t s)
+listC bytes w t rate s = cond (textShort (length w) (length s)) (listing 0 w t s) (asListed (listJobOf (rateFrom rate) bytes w t s))
 
 -- `outline_rewrite`, by the job's bytes, the length n of the work space and the length m of the tray
 unfoldable pub rewriteC : List ℕ → ℕ → ℕ → Finished

@@ -29,7 +29,7 @@ ghost use Rattle.prefix.specs.Decides.{LONGEST};
 ghost use Rattle.rewriting.specs.Answers.{BytesWithin};
 ghost use Rattle.paths.specs.Tray.{tagOf};
 ghost use Rattle.telling.specs.Within.{NumberWithin, ToldWithin};
-ghost use Rattle.outline.specs.Calls.{openedNumber, replyNumber, writtenNumber, listedBytes, rewrittenNumber, reasonWord, toldNumber, rateFrom, worked, wrote, finished, listing, openC, stepC, keepC, backC, dropC, writeC, finishC, listC, rewriteC, reasonC};
+ghost use Rattle.outline.specs.Calls.{openedNumber, replyNumber, writtenNumber, listedBytes, rewrittenNumber, reasonWord, toldNumber, rateFrom, textShort, worked, wrote, finished, listing, openC, stepC, keepC, backC, dropC, writeC, finishC, listC, rewriteC, reasonC};
 
 // ---- the numbers of answers
 
@@ -219,7 +219,14 @@ pub extern "C" fn outline_finish(job: &[u8], work: &mut [u32], tray: &mut [u8]) 
     written_number(a)
 }
 
-// Finishes a job and lists it, with the charge unless the rate is 0; a text shorter than `TEXT` is left as found, and so is all else.
+// Whether the work space is long enough and the text too short for some job's listing.
+fn text_short(words: usize, bytes: usize) -> bool
+    ensures { λ r. ⌜ r ≡ textShort words bytes ⌝ }
+{
+    (LENGTH <= words) & (bytes < TEXT)
+}
+
+// Finishes a job and lists it, with the charge unless the rate is 0. A work space that is too short is refused first; then a text shorter than `TEXT` is left as found, and so is all else.
 #[no_mangle]
 pub extern "C" fn outline_list(
     job: &[u8],
@@ -230,7 +237,8 @@ pub extern "C" fn outline_list(
 ) -> u64
     ensures { λ r. ⌜ listing r (now (work .exit)) (now (tray .exit)) (now (text .exit)) ≡ listC (now (job .entry)) (now (work .entry)) (now (tray .entry)) rate (now (text .entry)) ⌝ }
 {
-    if text.len() < TEXT {
+    let short = text_short(work.len(), text.len());
+    if short {
         return 0;
     }
     let given = rate_from(rate);

@@ -175,7 +175,8 @@ pub fn finish(job: &[u8], work: &mut [u32], tray: &mut [u8]) -> Result<(), Refus
 }
 
 /// Finishes a job as [`finish`] does and gives its listing, ASCII, which `./cutlist` prints: two counts, a line for each path and, unless the rate is 0,
-/// the charge; or `refused` and the number. None, and everything as found, if the text has fewer than [`TEXT_BYTES`] bytes.
+/// the charge; or `refused` and the number. A short work space is refused first of all, with 10. Else None, and everything as found, if the text has fewer than
+/// [`TEXT_BYTES`] bytes.
 ///
 /// ```
 /// # use outline::*;
@@ -185,6 +186,7 @@ pub fn finish(job: &[u8], work: &mut [u32], tray: &mut [u8]) -> Result<(), Refus
 /// assert_eq!(listing, b"closed 2 open 0\npiece 3 60 5,5,0 0,12,0 0,0,0\nhole 3 -50 10,10,0 10,0,0 5,5,0\n");
 /// assert!(list(job, &mut work, &mut tray, 1000, &mut text).unwrap().ends_with(b"\ncharge 0 10000\n"));
 /// assert_eq!(list(job, &mut work, &mut tray, RATE + 1, &mut text), Some(&b"refused 13\n"[..]));
+/// assert_eq!(list(job, &mut work[1..], &mut tray, RATE + 1, &mut text), Some(&b"refused 10\n"[..]));
 /// let mut reversed = job.to_vec();
 /// reversed[3] = 2; // `reverse_solution`: the areas change sign, the words stay
 /// let listing = list(&reversed, &mut work, &mut tray, 0, &mut text).unwrap();

@@ -6,7 +6,7 @@ use oracle::answer::Answer;
 use oracle::charge::{self, Rate};
 use oracle::rng::Rng;
 
-/// A text of so many bytes has room for any listing; with a shorter one the call does nothing.
+/// A text of so many bytes has room for any listing; with a shorter one the call does nothing, unless the work space is too short.
 pub const TEXT: usize = 54 + 49 * 512 + 66 * 2048 + 49;
 
 const LARGEST: u32 = 1000;
@@ -57,16 +57,20 @@ pub fn case(room: &mut Room, rng: &mut Rng, expected: &Expected) -> Same {
         1..=LARGEST => Rate::Cents(rate),
         _ => Rate::Bad,
     };
-    let mut listing = charge::listing(asked, || Ok(answer))?;
-    if room_for < TEXT {
-        listing.clear();
+    // A short work space comes before a bad rate and before a short text.
+    let short = words < WORDS;
+    let mut listing = charge::listing(if short { Rate::None } else { asked }, || Ok(answer))?;
+    let whole = if short { room_for >= listing.len() } else { room_for >= TEXT };
+    if !whole {
+        listing.truncate(if short { room_for } else { 0 });
     }
+    let bytes_told = if whole { listing.len() as u64 } else { 0 };
     let (text, rest) = room.text.get().split_at(listing.len());
-    expect(got == listing.len() as u64, || format!("the text has {got} bytes, the Rust's {}", listing.len()))?;
+    expect(got == bytes_told, || format!("the text has {got} bytes, the Rust's {bytes_told}"))?;
     expect(text == listing.as_bytes(), || "the text".into())?;
     expect(rest.iter().all(|byte| *byte == text_fill), || "a byte past the text".into())?;
     room.tally.event(if asked == Rate::None { "listings" } else { "listings at a rate" }, 1);
-    if room_for < TEXT || asked == Rate::Bad {
+    if !short && (room_for < TEXT || asked == Rate::Bad) {
         expect(all_are(room.work.get(), fill), || "a word after no listing".into())?;
         return expect(room.tray.get().iter().all(|byte| *byte == tray_fill), || {
             "a byte of the tray after no listing".into()

@@ -1,6 +1,6 @@
--- `list_job` meets its contract: by the rate that is asked.
+-- `list_job` meets its contract: by the work space's length, then as `list_at`.
 use borrow.Author.Needs.{needs}
-use Rattle.job_listing.proofs.Listing.{cents-again, by-none, by-cents, by-bad}
+use Rattle.job_listing.proofs.Listing.{too-short, long-enough}
 use Rattle.job_listing.proofs.list_job.Statement.{statement}
 use Rattle.job_listing.proofs.list_job.Tie as tie
 
@@ -10,18 +10,11 @@ list-job-spec =
     (tie.spec
     (λ c κs. search needs)
     (λ c. search needs)
+    (λ c. search needs)
+    (λ c. search needs)
+    (λ c. search (needs, too-short))
     (λ c κs. search needs)
     (λ c. search needs)
-    (λ c κs. search (needs, cents-again))
-    (λ c. search needs)
-    (λ c κs. search needs)
     (λ c. search needs)
     (λ c. search needs)
-    (λ c. search needs)
-    (λ c. search (needs, by-none))
-    (λ c. search needs)
-    (λ c. search needs)
-    (λ c. search needs)
-    (λ c. search (needs, by-cents))
-    (λ c. search needs)
-    (λ c. search (needs, by-bad)))
+    (λ c. search (needs, long-enough)))

@@ -8,6 +8,7 @@ pub outline-list-spec : {M : Type 1} → statement M
 outline-list-spec =
     tie.close
     (tie.spec
+    (λ c κs. search needs)
     (λ c. search (needs, too-short))
     (λ c κs. search needs)
     (λ c κs. search needs)
