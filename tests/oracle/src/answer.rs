@@ -15,10 +15,11 @@ pub enum Answer {
     },
 }
 
-/// One path as an output field: x, y for each point.
+/// One path as an output field: x, y, z for each point.
 fn path_field(tag: u8, path: &[Pt]) -> Vec<u8> {
-    let coordinate = |c: i64| i32::try_from(c).expect("a coordinate of the Rust is within the table").to_le_bytes();
-    let value: Vec<u8> = path.iter().flat_map(|&(x, y)| [coordinate(x), coordinate(y)]).flatten().collect();
+    let number =
+        |n: i64| i32::try_from(n).expect("a number of the Rust's has 32 bits, as the job's have").to_le_bytes();
+    let value: Vec<u8> = path.iter().flat_map(|&(x, y, z)| [x, y, z]).flat_map(number).collect();
     field(tag, &value)
 }
 
@@ -42,8 +43,9 @@ fn word(area: i64, reversed: bool) -> &'static str {
     }
 }
 
-fn points(path: &[Pt]) -> String {
-    path.iter().map(|(x, y)| format!(" {x},{y}")).collect()
+/// Points after a space each, as every text here shows them.
+pub fn points(path: &[Pt]) -> String {
+    path.iter().map(|(x, y, z)| format!(" {x},{y},{z}")).collect()
 }
 
 impl Answer {

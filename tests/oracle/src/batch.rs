@@ -2,7 +2,7 @@
 use crate::oracle::{self, Oracle};
 use std::io::{self, BufReader, BufWriter, Read, Write};
 
-/// No part may be longer; a job is decided by its first 42,005 bytes.
+/// No part may be longer; a job is decided by its first 50,201 bytes.
 const LONGEST: usize = 1 << 24;
 
 /// Reads one length-prefixed part; none at the end of the input.
@@ -72,7 +72,7 @@ fn steps_part(job: &[u8], records: &[u8]) -> Vec<u8> {
         let ring = forest.ring(record);
         part.push(forest.due(record).number());
         part.extend((ring.len() as u16).to_le_bytes());
-        part.extend(ring.iter().flat_map(|&(x, y)| [x as i32, y as i32]).flat_map(i32::to_le_bytes));
+        part.extend(ring.iter().flat_map(|&(x, y, z)| [x, y, z]).flat_map(|n| (n as i32).to_le_bytes()));
     }
     part
 }

@@ -33,9 +33,9 @@ pub fn rewritten(job: &Job) -> Job {
     order.iter().enumerate().for_each(|(number, &point)| new[point] = number as u16);
     let name = |point: u16| new[point as usize];
     let point = |&old: &usize| {
-        let Point { x, y, next, prev, record } = job.points[old];
+        let Point { x, y, z, next, prev, record } = job.points[old];
         let home = resolve(job, record).expect("a point of an accepted job resolves to its ring's record");
-        Point { x, y, next: name(next), prev: name(prev), record: home as u16 }
+        Point { x, y, z, next: name(next), prev: name(prev), record: home as u16 }
     };
     let record = |old: &Record| {
         let first = if old.first == NONE { NONE } else { name(old.first) };
@@ -71,8 +71,8 @@ type Named = (usize, usize);
 #[derive(Debug, PartialEq)]
 pub struct Drawing {
     pub settings: u8,
-    /// Flags, owner, and the ring's coordinates from the first point.
-    pub records: Vec<(u8, u16, Vec<(i32, i32)>)>,
+    /// Flags, owner, and the ring's coordinates from the first point, z too.
+    pub records: Vec<(u8, u16, Vec<(i32, i32, i32)>)>,
     pub segments: Vec<Named>,
     pub joins: Vec<(Named, Named)>,
 }
@@ -85,7 +85,7 @@ pub fn drawing(job: &Job) -> Drawing {
     let name = |point: u16| {
         rings.iter().enumerate().find_map(|ring| place(ring, point)).expect("a point of an accepted job is on a ring")
     };
-    let at = |&point: &usize| (job.points[point].x, job.points[point].y);
+    let at = |&point: &usize| (job.points[point].x, job.points[point].y, job.points[point].z);
     let record = |(record, ring): (&Record, &Vec<usize>)| (record.flags, record.owner, ring.iter().map(at).collect());
     Drawing {
         settings: job.settings,

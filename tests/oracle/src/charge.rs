@@ -41,7 +41,7 @@ pub fn rate_of<T: AsRef<[u8]>>(arguments: &[T]) -> Rate {
 
 /// The sum of the doubled areas, each the sum of (prev y + y) × (prev x − x) over a path.
 fn net_area(closed: &[Vec<Pt>]) -> i128 {
-    let wide = |(x, y): Pt| (i128::from(x), i128::from(y));
+    let wide = |(x, y, _): Pt| (i128::from(x), i128::from(y));
     let edges =
         closed.iter().flat_map(|path| (0..path.len()).map(|i| (path[(i + path.len() - 1) % path.len()], path[i])));
     edges.map(|(prev, at)| (wide(prev), wide(at))).map(|(prev, at)| (prev.1 + at.1) * (prev.0 - at.0)).sum()

@@ -10,8 +10,8 @@ use crate::rng::Rng;
 use crate::stats::Stats;
 use crate::{check, model, read};
 
-/// Document 01's length that always suffices.
-const TRAY: usize = 17_920;
+/// The length that always suffices: document 02, Ask 9.
+const TRAY: usize = 26_112;
 
 #[derive(Default)]
 pub struct Comparer {
@@ -44,6 +44,9 @@ impl Comparer {
         self.stats.add("join made from segments", opened.joined.made as u64);
         self.stats.add("join splits a ring", opened.joined.split as u64);
         self.stats.add("join merges two rings", opened.joined.merged.len() as u64);
+        let copies = &opened.base.outpt_arena[opened.job.points.len()..];
+        let deep = copies.iter().filter(|copy| copy.pt.z != 0).count();
+        self.stats.add("copy by a join, of a point with a depth", deep as u64);
         self.paths_as_opened(&opened)?;
         let start = forest(&opened);
         let mut done = start.clone();
@@ -71,6 +74,9 @@ impl Comparer {
                 expect(path == model::path::path(&ring, reverse, open), "the path of a ring as opened")?;
                 if path.map_or(false, |path| path.len() < ring.len()) {
                     self.stats.add("path that drops equal neighbours", 1);
+                    let apart = |(a, b): (&real::Pt, &real::Pt)| model::geometry::same(*a, *b) && a.2 != b.2;
+                    let deep = ring.iter().zip(&ring[1..]).any(apart);
+                    self.stats.add("path that drops an equal neighbour of another depth", deep as u64);
                 }
             }
             let closed = model::path::path(&ring, false, false).unwrap_or_default();
@@ -188,7 +194,7 @@ pub fn families(forest: &Forest) -> Vec<Vec<usize>> {
 }
 
 /// The rings of each family.
-fn family(forest: &Forest) -> Vec<Vec<Vec<(i64, i64)>>> {
+fn family(forest: &Forest) -> Vec<Vec<Vec<real::Pt>>> {
     let rings = |family: Vec<usize>| family.into_iter().map(|record| forest.ring(record)).collect();
     families(forest).into_iter().map(rings).collect()
 }
@@ -209,6 +215,7 @@ fn count_act(stats: &mut Stats, forest: &Forest, record: usize, due: Due, act: A
         _ => return,
     };
     stats.add(name, 1);
+    count_depth(stats, forest, record, act);
     if let Act::Cut { .. } = act {
         if forest.ring(record).len() == 2 {
             stats.add("cut that leaves two points", 1);
@@ -217,5 +224,21 @@ fn count_act(stats: &mut Stats, forest: &Forest, record: usize, due: Due, act: A
         if started && matches!(forest.due(record), Due::Split { start: None, .. }) {
             stats.add("cut that takes the loop's start away", 1);
         }
+    }
+}
+
+/// A doubling leaves its copy before the present place; a cut leaves the first edge's start as the first point, and without a new point the second edge's end as the next.
+fn count_depth(stats: &mut Stats, forest: &Forest, record: usize, act: Act) {
+    let Entry::Closed { lone, .. } = &forest.records[record] else { return };
+    let n = lone.circle.len();
+    match (act, lone.due) {
+        (Act::Double, Due::Split { at, .. }) if lone.circle[(at + n - 1) % n].2 != 0 => {
+            stats.add("doubling of a point with a depth", 1)
+        }
+        (Act::Cut { at, point: false, .. }, _) => {
+            let deep = lone.points().iter().take(2).any(|end| model::geometry::same(*end, at) && end.2 != 0);
+            stats.add("crossing that drops onto an end with a depth", deep as u64)
+        }
+        _ => {}
     }
 }

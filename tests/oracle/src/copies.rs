@@ -48,6 +48,7 @@ pub enum Change {
     Front,
     Owner,
     Coordinate,
+    Depth,
     FirstPoint,
     WayRound,
     Segment,
@@ -58,12 +59,13 @@ pub enum Change {
     OneLess,
 }
 
-pub const CHANGES: [(&str, Change); 13] = [
+pub const CHANGES: [(&str, Change); 14] = [
     ("another settings bit", Change::Settings),
     ("open or closed", Change::Open),
     ("a front edge", Change::Front),
     ("another owner", Change::Owner),
     ("another coordinate", Change::Coordinate),
+    ("another depth", Change::Depth),
     ("another first point", Change::FirstPoint),
     ("the other way round", Change::WayRound),
     ("another segment", Change::Segment),
@@ -121,6 +123,10 @@ pub fn changed(rng: &mut Rng, job: &Job, change: Change) -> Option<Job> {
             of(points)?;
             let at = if rng.one_in(2) { &mut copy.points[p].x } else { &mut copy.points[p].y };
             *at = if *at == COORDINATE { 0 } else { *at + 1 };
+        }
+        Change::Depth => {
+            of(points)?;
+            copy.points[p].z ^= if rng.one_in(2) { 1 << rng.below(32) } else { 1 };
         }
         Change::FirstPoint => {
             of(points)?;

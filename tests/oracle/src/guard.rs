@@ -8,7 +8,7 @@ use std::io::{self, Read, Write};
 use std::process::{Child, Command, Stdio};
 use std::sync::atomic::{AtomicUsize, Ordering};
 
-/// The longest single piece of memory that a child may ask for: about 37,000 of the Rust's points, where 2,048 are allowed.
+/// The longest single piece of memory that a child may ask for: about 32,000 of the Rust's points, where 2,048 are allowed.
 const CHILD_LIMIT: usize = 2 << 20;
 /// The same for every other run; far above what a job needs, so that a wrong model ends in a message, not in a full machine.
 const LIMIT: usize = 1 << 28;

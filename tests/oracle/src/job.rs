@@ -8,6 +8,9 @@ pub const COORDINATE: i32 = 1_048_576;
 /// Means none, in a record's owner and first point only.
 pub const NONE: u16 = 65_535;
 
+/// The length of a point's value: x, y, next, prev, record, z.
+pub const POINT: usize = 18;
+
 pub const KEEP: u8 = 1;
 pub const REVERSE: u8 = 2;
 pub const OPEN: u8 = 1;
@@ -17,6 +20,8 @@ pub const FRONT: u8 = 2;
 pub struct Point {
     pub x: i32,
     pub y: i32,
+    /// Any number: no row of the table binds it.
+    pub z: i32,
     pub next: u16,
     pub prev: u16,
     pub record: u16,
@@ -50,12 +55,13 @@ impl Job {
     pub fn bytes(&self) -> Vec<u8> {
         let mut out = field(1, &[self.settings]);
         for p in &self.points {
-            let mut value = Vec::with_capacity(14);
+            let mut value = Vec::with_capacity(POINT);
             value.extend(p.x.to_le_bytes());
             value.extend(p.y.to_le_bytes());
             for number in [p.next, p.prev, p.record] {
                 value.extend(number.to_le_bytes());
             }
+            value.extend(p.z.to_le_bytes());
             out.extend(field(2, &value));
         }
         for r in &self.records {
@@ -76,13 +82,13 @@ impl Job {
     }
 
     /// Adds a ring of new points in walk order, named by a new record that starts at the first of them.
-    pub fn add_ring(&mut self, flags: u8, owner: u16, at: &[(i32, i32)]) -> u16 {
+    pub fn add_ring(&mut self, flags: u8, owner: u16, at: &[(i32, i32, i32)]) -> u16 {
         let record = self.records.len() as u16;
         let (base, n) = (self.points.len(), at.len());
-        for (k, &(x, y)) in at.iter().enumerate() {
+        for (k, &(x, y, z)) in at.iter().enumerate() {
             let next = (base + (k + 1) % n) as u16;
             let prev = (base + (k + n - 1) % n) as u16;
-            self.points.push(Point { x, y, next, prev, record });
+            self.points.push(Point { x, y, z, next, prev, record });
         }
         let first = if n == 0 { NONE } else { base as u16 };
         self.records.push(Record { flags, owner, first });

@@ -1,12 +1,12 @@
 // Reading a job's bytes: rows 1, 2 and 3 of document 01's table, field by field.
-use crate::job::{Job, Point, Record, JOINS, POINTS, RECORDS, SEGMENTS};
+use crate::job::{Job, Point, Record, JOINS, POINT, POINTS, RECORDS, SEGMENTS};
 
 pub const TORN: u8 = 1;
 pub const STRANGE: u8 = 2;
 pub const CROWDED: u8 = 3;
 
 /// The length of each tag's value.
-const LENGTH: [usize; 6] = [0, 1, 14, 5, 2, 4];
+const LENGTH: [usize; 6] = [0, 1, POINT, 5, 2, 4];
 
 /// Reads a whole job. A refusal is the first one met: header, tag, length and value, bits, count.
 pub fn read(bytes: &[u8]) -> Result<Job, u8> {
@@ -57,7 +57,7 @@ fn take_field(job: &mut Job, tag: u8, value: &[u8]) -> Result<(), u8> {
         2 => {
             let (x, y) = (signed(value, 0), signed(value, 4));
             let (next, prev, record) = (word(value, 8), word(value, 10), word(value, 12));
-            job.points.push(Point { x, y, next, prev, record });
+            job.points.push(Point { x, y, z: signed(value, 14), next, prev, record });
             job.points.len() > POINTS
         }
         3 => {

@@ -8,7 +8,8 @@ use crate::job::{Job, FRONT, KEEP, NONE, OPEN, POINTS, RECORDS, REVERSE};
 pub const KNOT: u8 = 9;
 pub const FULL: u8 = 10;
 
-pub type Pt = (i64, i64);
+/// A point by value: x, y, z. The Rust's own equality ignores z; this one does not.
+pub type Pt = (i64, i64, i64);
 
 /// What one record holds; its ring is indices and points in walk order from the first.
 #[derive(Clone, Debug, PartialEq)]
@@ -51,7 +52,7 @@ fn set(job: &Job) -> ClipperBase {
     base.preserve_collinear = job.settings & KEEP != 0;
     base.reverse_solution = job.settings & REVERSE != 0;
     for p in &job.points {
-        let mut op = OutPt::new(Point64::new(p.x as i64, p.y as i64), p.record as usize);
+        let mut op = OutPt::new(Point64::new_z(p.x as i64, p.y as i64, p.z as i64), p.record as usize);
         op.next = p.next as usize;
         op.prev = p.prev as usize;
         base.outpt_arena.push(op);
@@ -135,9 +136,14 @@ pub fn needs_points(job: &Job) -> bool {
     base.outpt_arena.len() > POINTS
 }
 
+/// A point of the Rust's with its z.
+pub fn value(pt: &Point64) -> Pt {
+    (pt.x, pt.y, pt.z)
+}
+
 /// Whether two states agree in every link and every record.
 fn same(a: &ClipperBase, b: &ClipperBase) -> bool {
-    let point = |p: &OutPt| (p.pt.x, p.pt.y, p.next, p.prev, p.outrec);
+    let point = |p: &OutPt| (value(&p.pt), p.next, p.prev, p.outrec);
     let record = |r: &OutRec| (r.owner, r.pts, r.is_open, r.front_edge);
     a.outpt_arena.iter().map(point).eq(b.outpt_arena.iter().map(point))
         && a.outrec_list.iter().map(record).eq(b.outrec_list.iter().map(record))
@@ -159,7 +165,7 @@ fn walk(base: &ClipperBase, first: usize) -> Vec<(usize, Pt)> {
     let mut at = first;
     loop {
         let op = &base.outpt_arena[at];
-        ring.push((at, (op.pt.x, op.pt.y)));
+        ring.push((at, value(&op.pt)));
         at = op.next;
         if at == first {
             return ring;
@@ -193,7 +199,7 @@ pub fn clean_all(base: &mut ClipperBase) {
 pub fn path_of(base: &ClipperBase, record: usize, reverse: bool, open: bool) -> Option<Vec<Pt>> {
     let first = base.outrec_list[record].pts?;
     let path = build_path64_from_outpt(first, reverse, open, &base.outpt_arena)?;
-    Some(path.iter().map(|p| (p.x, p.y)).collect())
+    Some(path.iter().map(value).collect())
 }
 
 /// The real `build_paths64`, closed and open lists: for NoClip the public call runs it on the state as it stands, and nothing
@@ -202,6 +208,6 @@ pub fn paths(base: ClipperBase) -> (Vec<Vec<Pt>>, Vec<Vec<Pt>>) {
     let mut clipper = Clipper64 { base };
     let (mut closed, mut open) = (Paths64::new(), Paths64::new());
     clipper.execute(ClipType::NoClip, FillRule::EvenOdd, &mut closed, Some(&mut open));
-    let value = |path: &Path64| path.iter().map(|p| (p.x, p.y)).collect();
-    (closed.iter().map(value).collect(), open.iter().map(value).collect())
+    let values = |path: &Path64| path.iter().map(value).collect();
+    (closed.iter().map(values).collect(), open.iter().map(values).collect())
 }

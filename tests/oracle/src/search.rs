@@ -1,5 +1,6 @@
 // Rings on which the Rust does not end (docs/DIFFERENCES.md): a search for small ones, and a check that one comes back to a state.
 use crate::model::forest::Forest;
+use crate::model::geometry::Pt;
 use crate::model::lone::{Due, Lone};
 use crate::output;
 use crate::rng::Rng;
@@ -8,7 +9,7 @@ use std::collections::HashMap;
 /// More steps than any ring of a job needs that ends within the store.
 const STEPS: usize = 100_000;
 
-/// A lone ring's state with its present place in front: the rest of its steps follow from it.
+/// A lone ring's state with its present place in front: the rest of its steps follow from it. No step looks at a z.
 fn state(lone: &Lone) -> Option<(Vec<(i64, i64)>, usize, Option<usize>)> {
     let (at, start) = match lone.due {
         Due::Split { at, start } => (at, start),
@@ -16,13 +17,13 @@ fn state(lone: &Lone) -> Option<(Vec<(i64, i64)>, usize, Option<usize>)> {
     };
     let n = lone.circle.len();
     let from = |place: usize| (place + n - at) % n;
-    let mut circle = lone.circle.clone();
+    let mut circle: Vec<_> = lone.circle.iter().map(|&(x, y, _)| (x, y)).collect();
     circle.rotate_left(at);
     Some((circle, from(lone.first), start.map(from)))
 }
 
 /// Steps a ring alone, without limit, until it is done or its split loop comes back to an earlier state; then it never ends.
-pub fn alone(ring: Vec<(i64, i64)>, keep: bool) -> String {
+pub fn alone(ring: Vec<Pt>, keep: bool) -> String {
     let mut lone = Lone::new(ring);
     let mut met = HashMap::new();
     for step in 0..STEPS {
@@ -44,10 +45,10 @@ pub fn endless(seed: u64, count: u64, n: usize, side: i32) -> Result<(), String>
     }
     for index in 0..count {
         let mut rng = Rng::of(seed, index);
-        let ring: Vec<_> = (0..n).map(|_| (rng.from(0, side) as i64, rng.from(0, side) as i64)).collect();
+        let ring: Vec<Pt> = (0..n).map(|_| (rng.from(0, side) as i64, rng.from(0, side) as i64, 0)).collect();
         let mut forest = Forest::new(0, n, vec![(false, ring.clone())]);
         if forest.finish(|_, _, _, _| ()).is_err() {
-            let points: String = ring.iter().map(|(x, y)| format!(" {x},{y}")).collect();
+            let points: String = ring.iter().map(|(x, y, _)| format!(" {x},{y}")).collect();
             output(format!("ring 0 -{points}\n").as_bytes())?;
         }
     }

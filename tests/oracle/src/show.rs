@@ -1,4 +1,5 @@
 // A job's state as text: the rings after opening, and the model's steps one by one. README.md has the formats.
+use crate::answer::points;
 use crate::model::forest::Forest;
 use crate::model::lone::{Act, Due};
 use crate::oracle::{forest, open};
@@ -23,7 +24,7 @@ pub fn rings_of(state: &State) -> String {
     for (r, record) in state.records.iter().enumerate() {
         let flags = record.open as u8 + 2 * record.front as u8;
         let owner = record.owner.map_or("-".to_string(), |owner| owner.to_string());
-        let ring: String = record.ring.iter().map(|(at, (x, y))| format!(" {at}:{x},{y}")).collect();
+        let ring: String = record.ring.iter().map(|(at, (x, y, z))| format!(" {at}:{x},{y},{z}")).collect();
         out += &format!("record {r} flags {flags} owner {owner} ring {}{ring}\n", record.ring.len());
     }
     out
@@ -47,10 +48,10 @@ fn act_words(act: Act) -> String {
         Act::Drop => "drop".into(),
         Act::Settle => "settle".into(),
         Act::Double => "double".into(),
-        Act::Cut { at: (x, y), point, offcut } => {
+        Act::Cut { at: (x, y, z), point, offcut } => {
             let point = if point { "point" } else { "spliced" };
             let offcut = if offcut { "offcut" } else { "nothing" };
-            format!("cut {x},{y} {point} {offcut}")
+            format!("cut {x},{y},{z} {point} {offcut}")
         }
     }
 }
@@ -64,7 +65,7 @@ fn line(forest: &Forest, record: usize, due: Due, act: Act) -> String {
 pub fn rings(forest: &Forest) -> String {
     let mut out = format!("points {} records {}\n", forest.points, forest.records.len());
     for record in 0..forest.records.len() {
-        let ring: String = forest.ring(record).iter().map(|(x, y)| format!(" {x},{y}")).collect();
+        let ring = points(&forest.ring(record));
         out +=
             &format!("record {record} due {} ring {}{ring}\n", due_word(forest.due(record)), forest.ring(record).len());
     }

@@ -1,7 +1,7 @@
 // How often each refusal and each event came up, and how that is printed.
 
 /// Everything that is counted, in the order it is printed.
-pub const NAMES: [&str; 39] = [
+pub const NAMES: [&str; 43] = [
     "accepted",
     "refused 1 torn",
     "refused 2 strange",
@@ -41,6 +41,10 @@ pub const NAMES: [&str; 39] = [
     "open path",
     "path that drops equal neighbours",
     "small path that stays, its ring having more points",
+    "copy by a join, of a point with a depth",
+    "doubling of a point with a depth",
+    "crossing that drops onto an end with a depth",
+    "path that drops an equal neighbour of another depth",
 ];
 
 #[derive(Clone)]

@@ -16,7 +16,7 @@ const ACTS: usize = 150;
 /// So many stored jobs that make several rings are also stepped in other orders.
 const ORDERS: usize = 12;
 /// No longer job is drawn, so that a hundred cases fit the program's input.
-const LONGEST: usize = 2000;
+const LONGEST: usize = 2400;
 /// A start that is not on the ring.
 const NOWHERE: u16 = 65535;
 

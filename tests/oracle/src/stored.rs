@@ -97,11 +97,11 @@ pub fn choose(seed: u64, count: u64, each: usize) -> Result<(), String> {
     for index in 0..count {
         let job = gen::job(seed, index);
         // Only a store that is full of points or records needs a long job.
-        if job.len() > 7000 || jobs.contains(&job) {
+        if job.len() > 8600 || jobs.contains(&job) {
             continue;
         }
         let names = seen(&mut comparer, seed, index, &job)?;
-        let long = job.len() > 500;
+        let long = job.len() > 610;
         let wanted = |name: &&&str| {
             let stage = name.starts_with("full:") || **name == "refused 3 crowded";
             let trays = name.starts_with("refused 11") || name.starts_with("refused 12");

@@ -27,9 +27,13 @@ fn maybe(word: &str) -> Result<u16, String> {
     }
 }
 
-fn place(word: &str) -> Result<(i32, i32), String> {
-    let (x, y) = word.split_once(',').ok_or_else(|| format!("not a point x,y: {word}"))?;
-    Ok((number(x)?, number(y)?))
+/// A point X,Y or X,Y,Z; without a z it is 0.
+fn place(word: &str) -> Result<(i32, i32, i32), String> {
+    match word.split(',').collect::<Vec<_>>()[..] {
+        [x, y] => Ok((number(x)?, number(y)?, 0)),
+        [x, y, z] => Ok((number(x)?, number(y)?, number(z)?)),
+        _ => Err(format!("not a point x,y or x,y,z: {word}")),
+    }
 }
 
 /// Takes one line into the job being written, or into the bytes that follow it.
@@ -53,8 +57,8 @@ fn take_line(job: &mut Option<Job>, tail: &mut Vec<u8>, line: &str) -> Result<()
     let job = job.as_mut().ok_or_else(|| format!("before any settings: {line}"))?;
     match words[..] {
         ["point", at, next, prev, record] => {
-            let (x, y) = place(at)?;
-            job.points.push(Point { x, y, next: number(next)?, prev: number(prev)?, record: number(record)? });
+            let (x, y, z) = place(at)?;
+            job.points.push(Point { x, y, z, next: number(next)?, prev: number(prev)?, record: number(record)? });
         }
         ["record", flags, owner, first] => {
             job.records.push(Record { flags: number(flags)?, owner: maybe(owner)?, first: maybe(first)? });
@@ -64,7 +68,7 @@ fn take_line(job: &mut Option<Job>, tail: &mut Vec<u8>, line: &str) -> Result<()
             job.add_ring(number(flags)?, maybe(owner)?, &at?);
         }
         ["fill", count] => {
-            job.add_ring(OPEN, NONE, &vec![(0, 0); number::<u16>(count)? as usize]);
+            job.add_ring(OPEN, NONE, &vec![(0, 0, 0); number::<u16>(count)? as usize]);
         }
         ["segment", point] => job.segments.push(number(point)?),
         ["join", first, second] => job.joins.push((number(first)?, number(second)?)),
@@ -96,7 +100,7 @@ pub fn show(bytes: &[u8]) -> String {
     };
     let mut out = format!("settings {}\n", job.settings);
     for p in &job.points {
-        out += &format!("point {},{} {} {} {}\n", p.x, p.y, p.next, p.prev, p.record);
+        out += &format!("point {},{},{} {} {} {}\n", p.x, p.y, p.z, p.next, p.prev, p.record);
     }
     for r in &job.records {
         out += &format!("record {} {} {}\n", r.flags, none(r.owner), none(r.first));

@@ -1,4 +1,4 @@
-// Cases of the real geometry functions, one a line: `name numbers = result`. README.md has the format.
+// Cases of the real geometry functions, one a line: `name numbers = result`. README.md has the format. Depths are drawn apart, so that places are as before.
 use crate::core::{dot_product_three_points, get_segment_intersect_pt, is_collinear, segments_intersect, Point64};
 use crate::engine_fns::{area_triangle, is_very_small_triangle, pts_really_close};
 use crate::fraction::{near_tie, rounded};
@@ -26,6 +26,11 @@ fn coordinate(rng: &mut Rng, kind: usize) -> i64 {
 fn beside(rng: &mut Rng, at: Point64) -> Point64 {
     let mut near = |c: i64| (c + rng.from(-3, 3) as i64).clamp(-COORDINATE as i64, COORDINATE as i64);
     Point64::new(near(at.x), near(at.y))
+}
+
+/// The same places with a depth each.
+fn deep<const N: usize>(rng: &mut Rng, points: [Point64; N]) -> [Point64; N] {
+    points.map(|p| Point64::new_z(p.x, p.y, gen::depth(rng) as i64))
 }
 
 fn points(rng: &mut Rng) -> [Point64; 4] {
@@ -73,13 +78,13 @@ fn crossing([a, b, c, d]: [Point64; 4]) -> String {
     let second = (a.x - c.x) * (b.y - a.y) - (a.y - c.y) * (b.x - a.x);
     let along = first * divisor.signum();
     if along <= 0 {
-        return format!("start {} {}", at.x, at.y);
+        return format!("start{}", text(&[at]));
     }
     if along >= divisor.abs() {
-        return format!("end {} {}", at.x, at.y);
+        return format!("end{}", text(&[at]));
     }
     let ((m1, e1), (m2, e2)) = (rounded(first, divisor), rounded(second, divisor));
-    format!("inside {} {} {m1} {e1} {m2} {e2}", at.x, at.y)
+    format!("inside{} {m1} {e1} {m2} {e2}", text(&[at]))
 }
 
 /// The condition in `clean_collinear` on which it drops `pt`, from the real functions that it calls.
@@ -91,12 +96,12 @@ fn removable(preserve: bool, prev: Point64, pt: Point64, next: Point64) -> bool 
 /// The real `is_very_small_triangle` of a ring of three, asked of `pt`.
 fn very_small(prev: Point64, pt: Point64, next: Point64) -> bool {
     let mut job = Job::default();
-    job.add_ring(0, NONE, &[prev, pt, next].map(|p| (p.x as i32, p.y as i32)));
+    job.add_ring(0, NONE, &[prev, pt, next].map(|p| (p.x as i32, p.y as i32, p.z as i32)));
     is_very_small_triangle(1, &real::open_untested(&job).outpt_arena)
 }
 
 fn text(points: &[Point64]) -> String {
-    points.iter().map(|p| format!(" {} {}", p.x, p.y)).collect()
+    points.iter().map(|p| format!(" {} {} {}", p.x, p.y, p.z)).collect()
 }
 
 /// Two cases of four points: whether their edges cross, and where.
@@ -109,10 +114,10 @@ fn edges(four: [Point64; 4]) -> String {
 /// One round: a case of each function on the same four points, and a crossing near the middle of two floats.
 pub fn geometry(seed: u64, index: u64) -> String {
     let mut out = String::new();
-    let mut rng = Rng::of(seed, index);
-    let four = points(&mut rng);
+    let (mut rng, mut depths) = (Rng::of(seed, index), Rng::of(!seed, !index));
+    let four = deep(&mut depths, points(&mut rng));
     let [a, b, c, _] = four;
-    let near = beside(&mut rng, a);
+    let [near] = deep(&mut depths, [beside(&mut rng, a)]);
     let three = text(&[a, b, c]);
     let dot = dot_product_three_points(a, b, c);
     let sign = (dot > 0.0) as i32 - (dot < 0.0) as i32;
@@ -129,12 +134,12 @@ pub fn geometry(seed: u64, index: u64) -> String {
     }
     let [prev, pt, next] = rng.pick(&[[a, near, b], [near, b, a], [b, a, near], [a, b, c]]);
     out += &format!("is_very_small_triangle{} = {}\n", text(&[prev, pt, next]), very_small(prev, pt, next) as u8);
-    out + &edges(near_points(&mut rng))
+    out + &edges(deep(&mut depths, near_points(&mut rng)))
 }
 
 /// One case of the real `build_path64_from_outpt`: `path REVERSE OPEN points = path` or `none`.
 pub fn path(seed: u64, index: u64) -> String {
-    let mut rng = Rng::of(seed, index);
+    let (mut rng, mut depths) = (Rng::of(seed, index), Rng::of(!seed, !index));
     let mut ring = gen::ring(&mut rng);
     // Equal neighbours, and now and then an end equal to the first.
     for k in 1..ring.len() {
@@ -144,10 +149,11 @@ pub fn path(seed: u64, index: u64) -> String {
     }
     let (reverse, open) = (rng.one_in(2), rng.one_in(3));
     let mut job = Job::default();
+    let ring: Vec<_> = ring.iter().map(|&(x, y)| (x, y, gen::depth(&mut depths))).collect();
     job.add_ring(0, NONE, &ring);
     let path = real::path_of(&real::open_untested(&job), 0, reverse, open);
-    let text = |points: &[(i64, i64)]| points.iter().map(|(x, y)| format!(" {x} {y}")).collect::<String>();
-    let ring: Vec<_> = ring.iter().map(|&(x, y)| (x as i64, y as i64)).collect();
+    let text = |points: &[real::Pt]| points.iter().map(|(x, y, z)| format!(" {x} {y} {z}")).collect::<String>();
+    let ring: Vec<_> = ring.iter().map(|&(x, y, z)| (x as i64, y as i64, z as i64)).collect();
     let result = path.map_or_else(|| " none".to_string(), |path| text(&path));
     format!("path {} {}{} ={result}\n", reverse as u8, open as u8, text(&ring))
 }

@@ -1,10 +1,12 @@
 // Damaged copies of good jobs, for each refusal that reading can give.
+use super::depths::depths;
 use super::good::{closed_points, edges, level, tangled};
-use crate::job::{field, Job, Point, Record, COORDINATE, NONE, OPEN};
+use crate::job::{field, Job, Point, Record, COORDINATE, NONE, OPEN, POINT};
 use crate::rng::Rng;
 
-pub fn damaged(rng: &mut Rng) -> Vec<u8> {
+pub fn damaged(rng: &mut Rng, deep: &mut Rng) -> Vec<u8> {
     let mut job = if rng.one_in(3) { level(rng) } else { tangled(rng) };
+    depths(deep, &mut job);
     match rng.below(11) {
         0 => torn(rng, job.bytes()),
         1 => strange(rng, job.bytes()),
@@ -47,15 +49,25 @@ pub fn damaged(rng: &mut Rng) -> Vec<u8> {
 }
 
 fn torn(rng: &mut Rng, mut bytes: Vec<u8>) -> Vec<u8> {
-    match rng.below(3) {
+    match rng.below(4) {
         0 => bytes.truncate(1 + rng.below(bytes.len())),
         1 => bytes.extend((0..1 + rng.below(2)).map(|_| rng.bits() as u8)),
+        2 => without_depth(rng, &mut bytes),
         _ => {
             let at = field_start(rng, &bytes) + 1 + rng.below(2);
             bytes[at] = bytes[at].wrapping_add(1 + rng.below(255) as u8);
         }
     }
     bytes
+}
+
+/// A point's field without its z, whole otherwise, as jobs had it before.
+fn without_depth(rng: &mut Rng, bytes: &mut Vec<u8>) {
+    let at = field_start(rng, bytes);
+    if bytes[at] == 2 {
+        bytes.drain(at + 3 + POINT - 4..at + 3 + POINT);
+        bytes[at + 1] -= 4;
+    }
 }
 
 /// Where a field of a good job starts.
@@ -80,7 +92,7 @@ fn strange(rng: &mut Rng, mut bytes: Vec<u8>) -> Vec<u8> {
             let more = field(1, &[0]);
             bytes.splice(at..at, more);
         }
-        3 => bytes.extend(field(2, &[0; 14])),
+        3 => bytes.extend(field(2, &[0; POINT])),
         _ => bytes[3] |= 4 << rng.below(6),
     }
     bytes
@@ -137,7 +149,7 @@ fn no_such(rng: &mut Rng, mut job: Job) -> Vec<u8> {
 /// Links stay good; owners circle, a ring has no record or two, a point names another record.
 fn muddled(rng: &mut Rng, mut job: Job) -> Vec<u8> {
     if job.records.is_empty() || job.points.is_empty() {
-        job.add_ring(0, NONE, &[(0, 0), (9, 0), (9, 9)]);
+        job.add_ring(0, NONE, &[(0, 0, 1), (9, 0, 2), (9, 9, 3)]);
     }
     let (points, records) = (job.points.len(), job.records.len());
     let (at, of) = (rng.below(points), rng.below(records));

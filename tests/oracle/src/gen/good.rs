@@ -1,5 +1,5 @@
 // Jobs that can be read: tangled rings, rings with shared level edges, long rings, rings out to the coordinate limit.
-use super::shapes::{self, At};
+use super::shapes::{self, flat, At};
 use crate::job::{Job, Record, COORDINATE, FRONT, NONE, OPEN};
 use crate::rng::Rng;
 
@@ -20,7 +20,7 @@ fn add(rng: &mut Rng, job: &mut Job, ring: &[At]) {
     let open = if rng.one_in(8) { OPEN } else { 0 };
     let front = if rng.one_in(3) { FRONT } else { 0 };
     let owner = owner(rng, job);
-    job.add_ring(open | front, owner, ring);
+    job.add_ring(open | front, owner, &flat(ring));
     if rng.one_in(8) {
         ringless(rng, job);
     }

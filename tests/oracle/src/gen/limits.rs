@@ -1,6 +1,7 @@
 // Jobs that fill the store, jobs on which the Rust does not end, and jobs at a limit and one past it.
+use super::depths::depths;
 use super::good::{closed_points, edges, level, renumber, tangled};
-use super::shapes::{self, At};
+use super::shapes::{self, flat, At};
 use crate::job::{field, Job, Record, COORDINATE, FRONT, JOINS, NONE, OPEN, POINTS, RECORDS, SEGMENTS};
 use crate::rng::Rng;
 
@@ -21,7 +22,7 @@ fn fill_points(rng: &mut Rng, job: &mut Job, to: usize) {
     };
     let ring: Vec<At> = (0..n).map(outline).collect();
     let open = if rng.one_in(8) { 0 } else { OPEN };
-    job.add_ring(open, NONE, &ring);
+    job.add_ring(open, NONE, &flat(&ring));
 }
 
 /// Fills up to a number of records with ringless ones in owner chains.
@@ -40,7 +41,7 @@ pub fn full_points(rng: &mut Rng) -> Job {
     for _ in 0..rng.below(3) {
         let size = rng.from(4, 12);
         let bow = shapes::bow(rng, size);
-        job.add_ring(0, NONE, &bow);
+        job.add_ring(0, NONE, &flat(&bow));
     }
     let left = rng.below(5);
     fill_points(rng, &mut job, POINTS - left);
@@ -53,7 +54,7 @@ pub fn full_records(rng: &mut Rng) -> Job {
     for _ in 0..1 + rng.below(4) {
         let size = rng.from(4, 12);
         let bow = shapes::bow(rng, size);
-        job.add_ring(0, NONE, &bow);
+        job.add_ring(0, NONE, &flat(&bow));
     }
     if rng.one_in(2) {
         let joins = 1 + rng.below(3);
@@ -80,7 +81,7 @@ pub fn many_segments(rng: &mut Rng) -> Job {
         }
         let base = job.points.len() as u16;
         let front = if rng.one_in(4) { FRONT } else { 0 };
-        job.add_ring(front, NONE, &ring);
+        job.add_ring(front, NONE, &flat(&ring));
         let corner = if rng.one_in(8) { 2 } else { rng.below(2) };
         job.segments.push(base + corner as u16);
     }
@@ -101,7 +102,7 @@ pub fn endless(rng: &mut Rng) -> Job {
         ring[k] = (ring[k].0 + rng.from(-1, 1), ring[k].1 + rng.from(-1, 1));
     }
     let mut job = if rng.one_in(2) { tangled(rng) } else { Job::default() };
-    job.add_ring(0, NONE, &ring);
+    job.add_ring(0, NONE, &flat(&ring));
     if rng.one_in(2) {
         let n = ring.len();
         let k = rng.below(n);
@@ -125,7 +126,7 @@ pub fn at_a_limit(rng: &mut Rng) -> Job {
         }
         3 => {
             let base = job.points.len() as u16;
-            job.add_ring(0, NONE, &shapes::scatter(rng, 5, 9));
+            job.add_ring(0, NONE, &flat(&shapes::scatter(rng, 5, 9)));
             // A join and its undoing, again and again: each pair splits a ring and merges it.
             while job.joins.len() < JOINS {
                 let second = if job.joins.len() % 2 == 0 { base } else { base + 3 };
@@ -142,7 +143,7 @@ pub fn at_a_limit(rng: &mut Rng) -> Job {
 }
 
 /// One field more than there may be, or one coordinate beyond; sometimes a later fault too.
-pub fn past_a_limit(rng: &mut Rng) -> Vec<u8> {
+pub fn past_a_limit(rng: &mut Rng, deep: &mut Rng) -> Vec<u8> {
     let mut job = tangled(rng);
     match rng.below(5) {
         0 => fill_points(rng, &mut job, POINTS + 1),
@@ -160,6 +161,7 @@ pub fn past_a_limit(rng: &mut Rng) -> Vec<u8> {
             }
         }
     }
+    depths(deep, &mut job);
     let mut bytes = job.bytes();
     if rng.one_in(4) {
         bytes.extend(field(9, &[]));

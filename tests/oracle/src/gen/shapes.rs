@@ -3,6 +3,11 @@ use crate::rng::Rng;
 
 pub type At = (i32, i32);
 
+/// Places as points of depth 0.
+pub fn flat(ring: &[At]) -> Vec<(i32, i32, i32)> {
+    ring.iter().map(|&(x, y)| (x, y, 0)).collect()
+}
+
 /// Points anywhere in a small square.
 pub fn scatter(rng: &mut Rng, n: usize, side: i32) -> Vec<At> {
     (0..n).map(|_| (rng.from(0, side), rng.from(0, side))).collect()

@@ -1,6 +1,12 @@
 // Whole-number geometry of the model, from document 01; only the crossing point takes floats.
 
-pub type Pt = (i64, i64);
+/// x, y and z. Rules look at places alone: only `same` says whether two points are equal.
+pub type Pt = (i64, i64, i64);
+
+/// Equality of points ignores z (document 02, Ask 9).
+pub fn same(a: Pt, b: Pt) -> bool {
+    (a.0, a.1) == (b.0, b.1)
+}
 
 /// Twice the signed area that three points turn through.
 fn cross(a: Pt, b: Pt, c: Pt) -> i64 {
@@ -10,7 +16,7 @@ fn cross(a: Pt, b: Pt, c: Pt) -> i64 {
 /// Whether b is to be dropped between a and c: in line, and equal to one of them, or a spike, or collinear points aren't kept.
 pub fn droppable(a: Pt, b: Pt, c: Pt, keep: bool) -> bool {
     let dot = (b.0 - a.0) * (c.0 - b.0) + (b.1 - a.1) * (c.1 - b.1);
-    cross(a, b, c) == 0 && (a == b || b == c || !keep || dot < 0)
+    cross(a, b, c) == 0 && (same(a, b) || same(b, c) || !keep || dot < 0)
 }
 
 /// Whether two points differ by under 2 in both x and y.
@@ -33,12 +39,12 @@ pub fn crosses(a: Pt, b: Pt, c: Pt, d: Pt) -> bool {
     inside(along_first) && inside(along_second)
 }
 
-/// Where edges that cross meet: one division, one product, one sum, each rounded once, then toward zero.
+/// Where edges that cross meet: one division, one product, one sum, each rounded once, then toward zero. They cross inside, so z is 0.
 pub fn crossing_point(a: Pt, b: Pt, c: Pt, d: Pt) -> Pt {
     let (divisor, along_first, _) = fractions(a, b, c, d);
     let fraction = along_first as f64 / divisor as f64;
     let along = |from: i64, to: i64| (from as f64 + fraction * (to - from) as f64) as i64;
-    (along(a.0, b.0), along(a.1, b.1))
+    (along(a.0, b.0), along(a.1, b.1), 0)
 }
 
 /// Twice a ring's area, by the listing's formula.

@@ -1,5 +1,5 @@
 // The lone ring of document 01: one circle of points by value, stepped by its rules. Uses none of the Rust's code.
-use super::geometry::{close, crosses, crossing_point, doubled_area, droppable, Pt};
+use super::geometry::{close, crosses, crossing_point, doubled_area, droppable, same, Pt};
 
 /// The step due; a place is a position on the circle, and a start that was cut away is none.
 #[derive(Clone, Copy, Debug, PartialEq)]
@@ -148,7 +148,7 @@ impl Lone {
         // The triangle's doubled area stands against the ring's area as it is, so the ring's doubled one is halved.
         let larger = 2 * triangle.abs() > ring.abs();
         let offcut = triangle != 0 && (larger || (triangle > 0) == (ring > 0));
-        Act::Cut { at: meet, point: meet != prev && meet != second, offcut }
+        Act::Cut { at: meet, point: !same(meet, prev) && !same(meet, second), offcut }
     }
 
     /// Does an act that `decide` gave; answers the offcut where one is cut.
@@ -192,7 +192,7 @@ impl Lone {
         self.due = if ends { Due::Done } else { Due::Split { at, start } };
     }
 
-    /// Puts a copy of the point two ahead before the present one, which stays the present one.
+    /// Puts a copy of the point two ahead, z too, before the present one, which stays the present one.
     fn double(&mut self, at: usize, start: Option<usize>) {
         let copy = self.value(at, 2);
         let shift = |place: usize| if place >= at { place + 1 } else { place };

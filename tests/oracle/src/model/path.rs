@@ -1,5 +1,5 @@
 // A ring's path after document 01's "Path and tray". Uses none of the Rust's code.
-use super::geometry::{close, Pt};
+use super::geometry::{close, same, Pt};
 
 /// What building a path came to: the path, or the test that ended it.
 #[derive(Clone, Debug, PartialEq)]
@@ -23,7 +23,8 @@ pub fn build(ring: &[Pt], reverse: bool, open: bool) -> Built {
     } else {
         order.rotate_left(1);
     }
-    order.dedup();
+    // Of neighbouring equals the first walked stays, with its z.
+    order.dedup_by(|next, kept| same(*next, *kept));
     let small = n == 3 && (close(ring[0], ring[1]) || close(ring[1], ring[2]) || close(ring[2], ring[0]));
     if !open && order.len() == 3 && small {
         return Built::Small;
