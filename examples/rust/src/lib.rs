@@ -15,15 +15,19 @@
 //! # Ok::<(), outline::Refused>(())
 //! ```
 //!
+//! [`Job`] makes those bytes from rings, and shares rings that are too many for one job out over several.
+//!
 //! Or by steps, in any order: [`open`], [`step`] on each record until it is refused as [`Refused::OUT_OF_TURN`], [`write()`].
 //!
 //! A work space is lent by the caller and nothing else is kept between calls, so two threads may use two work spaces at once.
 #![deny(missing_docs)]
 
+mod job;
 mod reason;
 mod refused;
 mod tray;
 
+pub use job::{Job, Ring};
 pub use reason::Reason;
 pub use refused::Refused;
 pub use tray::{paths, Path, Point};
