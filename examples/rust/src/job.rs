@@ -67,7 +67,7 @@ impl Job {
     }
 
     /// Finishes the rings and gives their outlines, closed ones before open ones, in the order in which the Rust would have them of all the rings at once: those of the rings, then
-    /// those of what was cut off them, then of what was cut off that. Rings that one job cannot hold are shared out over several, each ring whole: no ring's outline
+    /// those of what was cut off them, which are triangles and are not cut again. Rings that one job cannot hold are shared out over several, each ring whole: no ring's outline
     /// depends on the others. Refused as the first job that is: [`Refused::CROWDED`] where one ring has more than [`POINTS`](crate::POINTS) points, [`Refused::FULL`] where finishing one needs more.
     pub fn finish(&self) -> Result<Vec<Path>, Refused> {
         let mut lent = Lent::new();
@@ -75,17 +75,14 @@ impl Job {
         let (mut rest, mut most) = (&self.rings[..], RECORDS);
         while !rest.is_empty() {
             let (share, after) = rest.split_at(fitting(rest).min(most));
-            match lent.outlines(&self.bytes_of(share)?, share.len()) {
-                Ok(outlines) => {
-                    all.take(outlines);
-                    (rest, most) = (after, RECORDS);
-                }
+            match lent.outlines(&self.bytes_of(share)?, share.len(), &mut all) {
+                Ok(()) => (rest, most) = (after, RECORDS),
                 // What finishing makes counts too.
                 Err(Refused::FULL) if share.len() > 1 => most = share.len() / 2,
                 Err(refused) => return Err(refused),
             }
         }
-        Ok(all.closed.into_iter().flatten().chain(all.open).collect())
+        Ok([all.closed, all.cut_off, all.open].concat())
     }
 }
 
@@ -108,20 +105,12 @@ fn fitting(rings: &[Ring]) -> usize {
     fits.count().max(1)
 }
 
-/// The outlines of some rings: closed ones by generation, those of the rings themselves first, then those of what was cut off them, and so on; and open ones.
+/// The outlines of some rings: closed ones, those of what was cut off them, and open ones.
 #[derive(Default)]
 struct Outlines {
-    closed: Vec<Vec<Path>>,
+    closed: Vec<Path>,
+    cut_off: Vec<Path>,
     open: Vec<Path>,
-}
-
-impl Outlines {
-    fn take(&mut self, more: Outlines) {
-        let generations = self.closed.len().max(more.closed.len());
-        self.closed.resize(generations, Vec::new());
-        self.closed.iter_mut().zip(more.closed).for_each(|(all, paths)| all.extend(paths));
-        self.open.extend(more.open);
-    }
 }
 
 struct Lent {
@@ -134,31 +123,15 @@ impl Lent {
         Lent { work: vec![0; WORK_WORDS], tray: vec![0; TRAY_BYTES] }
     }
 
-    /// The outlines of a job of so many rings. The tray has them by rising record, so each generation's stand together; the work space has for each record which one it was cut from.
-    fn outlines(&mut self, job: &[u8], rings: usize) -> Result<Outlines, Refused> {
+    /// Adds the outlines of a job of so many rings. The tray has closed ones by rising record, and what was cut off has the records after the job's own.
+    fn outlines(&mut self, job: &[u8], rings: usize, all: &mut Outlines) -> Result<(), Refused> {
         finish(job, &mut self.work, &mut self.tray)?;
         let (open, mut closed): (Vec<Path>, Vec<Path>) = paths(&self.tray).into_iter().partition(|path| path.open);
-        let records = self.work[RECORD_COUNT] as usize;
-        let mut cut_off: Vec<Vec<Path>> = Vec::new();
-        for record in (rings..records).rev() {
-            if let Reason::Written { open: false, .. } = reason(&self.work, record as u32)? {
-                let generation = self.generation(record);
-                cut_off.resize(cut_off.len().max(generation), Vec::new());
-                cut_off[generation - 1].extend(closed.pop());
-            }
-        }
-        cut_off.iter_mut().for_each(|paths| paths.reverse());
-        Ok(Outlines { closed: std::iter::once(closed).chain(cut_off).collect(), open })
-    }
-
-    /// How many cuts a record is away from a ring of the job.
-    fn generation(&self, record: usize) -> usize {
-        std::iter::successors(Some(record), |at| Some(self.work[CUT_FROM + at] as usize).filter(|from| *from < RECORDS))
-            .count()
-            - 1
+        let cut_off = (rings as u32..).map_while(|record| reason(&self.work, record).ok());
+        let written = cut_off.filter(|told| matches!(told, Reason::Written { .. })).count();
+        all.cut_off.extend(closed.split_off(closed.len().saturating_sub(written)));
+        all.closed.extend(closed);
+        all.open.extend(open);
+        Ok(())
     }
 }
-
-/// The word of a work space that counts its records, and where the records' words begin that name what each was cut from: `docs/WORKSPACE.md`.
-const RECORD_COUNT: usize = 2;
-const CUT_FROM: usize = 16 + 6 * POINTS + 6 * RECORDS;
