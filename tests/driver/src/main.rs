@@ -5,6 +5,7 @@ mod audit_cases;
 mod calls;
 mod canon;
 mod damage;
+mod drawn;
 mod finish;
 mod large;
 mod lent;
@@ -25,7 +26,7 @@ use oracle::text::number;
 use runs::{Kind, Run, KINDS};
 
 const USAGE: &str =
-    "usage: driver finish|large|steps|bytes|altered|canon|reasons SEED COUNT THREADS [FROM], driver faults SEED COUNT, \
+    "usage: driver finish|large|steps|bytes|altered|canon|reasons|drawn SEED COUNT THREADS [FROM], driver faults SEED COUNT, \
                      driver fault NAME KIND SEED COUNT, or driver audit_cases";
 
 fn run_of(kind: &str, seed: &str, count: &str, threads: &str, from: u64) -> Result<Run, String> {
@@ -41,6 +42,8 @@ fn run_of(kind: &str, seed: &str, count: &str, threads: &str, from: u64) -> Resu
 fn is_made(fault: Fault, kind: Kind) -> bool {
     let name = format!("{fault:?}");
     match () {
+        // The same calls as kind `finish`, and slower: one fault shows that it sees.
+        _ if kind == Kind::Drawn => fault == Fault::TrayByte,
         _ if name.starts_with("Reason") => kind == Kind::Reasons,
         _ if name.starts_with("Rewrite") => kind == Kind::Canon,
         _ => true,

@@ -3,7 +3,7 @@
 use crate::calls::Fault;
 use crate::room::{Room, Same};
 use crate::tally::Tally;
-use crate::{altered, canon, damage, finish, large, open, reasons, steps};
+use crate::{altered, canon, damage, drawn, finish, large, open, reasons, steps};
 use oracle::gen;
 use oracle::rng::Rng;
 use std::panic::{catch_unwind, AssertUnwindSafe};
@@ -22,6 +22,7 @@ pub enum Kind {
     Altered,
     Canon,
     Reasons,
+    Drawn,
 }
 
 pub const KINDS: &[(&str, Kind)] = &[
@@ -32,6 +33,7 @@ pub const KINDS: &[(&str, Kind)] = &[
     ("altered", Kind::Altered),
     ("canon", Kind::Canon),
     ("reasons", Kind::Reasons),
+    ("drawn", Kind::Drawn),
 ];
 
 impl Kind {
@@ -76,6 +78,7 @@ impl Kind {
                 room.start(&gen::job(seed, index), at);
                 reasons::case(room, &mut rng)
             }
+            Kind::Drawn => drawn::case(room, &mut rng),
         }
     }
 
@@ -95,6 +98,7 @@ impl Kind {
             }
             Kind::Canon => vec![("rewrite", (0..=8).chain(10..=11).collect()), ("finish", vec![0, 9, 10, 11])],
             Kind::Reasons => vec![("reason", vec![0, 3, 4, 5, 6, 7, 10, 12])],
+            Kind::Drawn => vec![("finish", vec![0, 3, 10, 11])],
         }
     }
 
@@ -180,6 +184,9 @@ impl Run {
         let mut lacking: Vec<String> = must.flat_map(|(call, answers)| tally.lacking(call, &answers)).collect();
         if self.kind == Kind::Reasons {
             lacking.extend(tally.lacking_events(&reasons::TOLD));
+        }
+        if self.kind == Kind::Drawn {
+            lacking.extend(tally.lacking_events(&drawn::SEEN));
         }
         lacking.extend(self.kind.must_test().iter().flat_map(|call| tally.lacking_kept(call)));
         if count >= 10_000 && !lacking.is_empty() {
