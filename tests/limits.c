@@ -1,10 +1,12 @@
 /* limits: every constant of outline.h against the library's calls. What is at a limit passes, what is one past it is refused; each refusal
- * is given by name, on a smallest job of docs/JOB.md; and each reason, on the job with one of each. */
+ * is given by name, on a smallest job of docs/JOB.md; each reason, on the job with one of each; and states are kept of it. */
 #include "outline.h"
 #include <stdio.h>
 #include <string.h>
 
 #define NONE 65535
+/* Where the records' progress marks stand (docs/WORKSPACE.md). */
+#define MARKS (16 + 6 * OUTLINE_POINTS + 3 * OUTLINE_RECORDS)
 
 static uint8_t job[2 * OUTLINE_JOB_BYTES], tray[OUTLINE_TRAY_BYTES], text[OUTLINE_TEXT_BYTES], written[OUTLINE_REWRITTEN_BYTES];
 static uint32_t work[OUTLINE_WORK_WORDS];
@@ -233,11 +235,52 @@ static void reasons(void) {
     is("a word less, of a reason", outline_reason(work, OUTLINE_WORK_WORDS - 1, 0), OUTLINE_FULL);
 }
 
+/* ---- states to come back to */
+
+static uint32_t keep(uint8_t name) { return outline_keep(work, OUTLINE_WORK_WORDS, name); }
+static uint32_t go_back(uint8_t name) { return outline_go_back(work, OUTLINE_WORK_WORDS, name); }
+static uint32_t drop(uint8_t name) { return outline_drop(work, OUTLINE_WORK_WORDS, name); }
+
+/* Names from 255 down, and 0 at last. */
+static uint8_t name_of(uint32_t place) { return place + 1 < OUTLINE_STATES ? 255 - place : 0; }
+
+static void states(void) {
+    one_of_each();
+    memset(work, 7, sizeof work);
+    is("one of each, to keep", outline_open(job, length, work, OUTLINE_WORK_WORDS), 0);
+    is("words behind the names, opened", work[OUTLINE_WORK_WORDS - 1], 0x07070707);
+    is("going back before keeping", go_back(0), OUTLINE_UNKNOWN_NAME);
+    is("dropping before keeping", drop(255), OUTLINE_UNKNOWN_NAME);
+    for (uint32_t place = 0; place < OUTLINE_STATES; place++) is("a name", keep(name_of(place)), 0);
+    is("a name too many", keep(100), OUTLINE_NO_PLACE);
+    is("a name once more", keep(255), 0);
+    is("a step to go back from", outline_step(work, OUTLINE_WORK_WORDS, 0), 0);
+    is("its mark", work[MARKS], 1);
+    is("going back", go_back(0), 0);
+    is("its mark, gone back", work[MARKS], 0);
+    is("a name, dropped", drop(0), 0);
+    is("going back, dropped", go_back(0), OUTLINE_UNKNOWN_NAME);
+    is("another in its place", keep(100), 0);
+    is("a word less, of keeping", outline_keep(work, OUTLINE_WORK_WORDS - 1, 255), OUTLINE_FULL);
+    is("a word less, of going back", outline_go_back(work, OUTLINE_WORK_WORDS - 1, 1), OUTLINE_FULL);
+    is("a word less, of dropping", outline_drop(work, OUTLINE_WORK_WORDS - 1, 1), OUTLINE_FULL);
+    work[1] = OUTLINE_POINTS + 1;
+    is("no way back to spoilt rings", go_back(255), OUTLINE_CROWDED);
+    is("nor to a name that is not kept", go_back(1), OUTLINE_CROWDED);
+    is("but opening", outline_open(job, length, work, OUTLINE_WORK_WORDS), 0);
+    is("which frees the names", go_back(255), OUTLINE_UNKNOWN_NAME);
+    is("one of each, finished to keep", whole(), 0);
+    is("finished, and kept", keep(255), 0);
+    is("back to what is finished", go_back(255), 0);
+    is("its reason", (uint32_t)told(0), 0);
+}
+
 int main(void) {
     lengths();
     listings();
     rewriting();
     reasons();
+    states();
     counts();
     coordinates();
     depths();

@@ -6,14 +6,14 @@ use oracle::job::{Job, Point, Record, NONE};
 
 type At = (i32, i32);
 
-/// One closed record for each ring, its points in walk order.
+/// One closed record for each ring, its points in walk order, each of depth 0.
 fn of_rings(rings: &[Vec<At>]) -> Job {
     let mut job = Job::default();
     for (record, ring) in rings.iter().enumerate() {
         let (base, n) = (job.points.len(), ring.len());
         let number = |k: usize| (base + k % n) as u16;
         for (k, &(x, y)) in ring.iter().enumerate() {
-            job.points.push(Point { x, y, next: number(k + 1), prev: number(k + n - 1), record: record as u16 });
+            job.points.push(Point { x, y, z: 0, next: number(k + 1), prev: number(k + n - 1), record: record as u16 });
         }
         job.records.push(Record { flags: 0, owner: NONE, first: base as u16 });
     }

@@ -44,9 +44,12 @@ extern "C" {
 
 /* ---- the work space and the tray */
 
-/* The fixed length of a work space in words. A shorter one is refused with 10 by every call, first of all. */
+/* So many states may be kept at once, each under a name. */
+#define OUTLINE_STATES 4
+
+/* The fixed length of a work space in words: the live block, a name for each state, and a copy of the block for each. A shorter one is refused with 10 by every call, first of all. */
 #define OUTLINE_WORK_WORDS 84564
-#if OUTLINE_WORK_WORDS != 5 * (16 + 6 * OUTLINE_POINTS + 9 * OUTLINE_RECORDS) + 4
+#if OUTLINE_WORK_WORDS != (1 + OUTLINE_STATES) * (16 + 6 * OUTLINE_POINTS + 9 * OUTLINE_RECORDS) + OUTLINE_STATES
 #error "OUTLINE_WORK_WORDS is not what the limits make it"
 #endif
 
@@ -116,7 +119,7 @@ enum outline_reason_number {
 uint64_t outline_work_words(void);
 
 /* Finishes a job in one call: opens it, steps every ring until it is done, and writes out. Refused: every word of the work space and every
- * byte of the tray is 0. Else the tray holds the paths, and past them every byte is 0; the work space holds the finished rings. */
+ * byte of the tray is 0. Else the tray holds the paths, and past them every byte is 0; the work space holds the finished rings, and no name is kept. */
 uint32_t outline_finish(const uint8_t *job, size_t job_bytes, uint32_t *work, size_t work_words, uint8_t *tray, size_t tray_bytes);
 
 /* Finishes a job as outline_finish does and writes its listing, ASCII with a line feed after each line, into the text; bytes past it stay. The
@@ -132,7 +135,8 @@ uint64_t outline_list(const uint8_t *job, size_t job_bytes, uint32_t *work, size
  * every byte is 0; every word is 0 too. */
 uint64_t outline_rewrite(const uint8_t *job, size_t job_bytes, uint32_t *work, size_t work_words, uint8_t *tray, size_t tray_bytes);
 
-/* Opens a job: reads it and joins its rings. Refused: every word of the work space is 0. Else it holds the rings, each closed one at its start. */
+/* Opens a job: reads it and joins its rings. Refused: every word of the work space is 0. Else it holds the rings, each closed one at its start, and no name is kept, whatever it held
+ * before; the words behind the names are as found. */
 uint32_t outline_open(const uint8_t *job, size_t job_bytes, uint32_t *work, size_t work_words);
 
 /* One step on the ring of a record. Refused with 12: the record is unknown, open, without a ring, or done; with 10: the step needs more
@@ -140,11 +144,19 @@ uint32_t outline_open(const uint8_t *job, size_t job_bytes, uint32_t *work, size
  * found. Steps may be taken in any order; an offcut is a new record, with the next number. */
 uint32_t outline_step(uint32_t *work, size_t work_words, uint32_t record);
 
-/* Four states may be kept, each under a name of one byte. Keeping under a name that is kept replaces its state; going back makes points, records, progress, reasons and counts those kept, the name staying
- * kept; dropping a name frees its place. Refused with 15: four other names are kept; with 14: the name isn't kept; with 3 to 7 as a step, and with 7 too if one name is kept twice. Refused: every word is
- * as found. Opening a job keeps no name. */
+/* States to come back to: the next three calls. A name is one byte, any of the 256, 0 and 255 too. Refusals in this order: 10 for the length; 3 to 7 as a step, the last of them 7 for a name that
+ * is kept twice, which every call on an opened work space tests; then 14 or 15. A refused call leaves every word as found.
+ * The names and the copies are words of the work space, so opening a job, and finishing or listing one, keeps no name. If somebody else wrote into the live rings, every call is refused
+ * with 3 to 7, going back too: then there is no way back but opening the job again. A copy is not tested while it is kept; what somebody wrote into it, the next call after going back finds.
+ *
+ * Keeps the state, the rings as they are now, under a name; a state that the name kept is replaced. Refused with 15: OUTLINE_STATES other names are kept. */
 uint32_t outline_keep(uint32_t *work, size_t work_words, uint8_t name);
+
+/* Goes back to the state that a name keeps: points, records, progress, reasons and counts are those kept, and places taken since count as never taken. The name stays kept, and so does every
+ * other, with its state. Refused with 14: the name isn't kept. */
 uint32_t outline_go_back(uint32_t *work, size_t work_words, uint8_t name);
+
+/* Drops a name: its place is free for another. The rings are as they were. Refused with 14: the name isn't kept. */
 uint32_t outline_drop(uint32_t *work, size_t work_words, uint8_t name);
 
 /* Writes the paths of a work space whose closed rings are all done into the tray; past them every byte is 0. Refused with 12: a closed ring isn't

@@ -83,7 +83,7 @@ fn altered(w: &mut [u32], c: Col, i: usize, v: usize)
     say(r);
 }
 
-// Numbers, coordinates and counts.
+// Numbers, coordinates, a depth, which nothing binds, and counts.
 fn alter_numbers(w: &mut [u32])
     requires { ⌜ BLOCK ≤ length (now w) ⌝ }
 {
@@ -91,6 +91,7 @@ fn alter_numbers(w: &mut [u32])
     altered(w, Col::Records, 0, Job::RECORDS + 1);
     altered(w, Col::X, 2, 2 * AT);
     altered(w, Col::X, 2, 2 * AT + 1);
+    altered(w, Col::Z, 2, 2 * AT + 1);
     altered(w, Col::Next, 1, 8);
     altered(w, Col::Prev, 5, 8);
     altered(w, Col::Rec, 0, 2);

@@ -63,21 +63,44 @@ fn coordinate(z: i64) -> i32
     z as i32
 }
 
+// The word of a depth whose size and sign are given.
+fn depth(v: u64, minus: bool) -> u32 {
+    let w = v % 4294967296;
+    if minus {
+        return ((4294967296 - w) % 4294967296) as u32;
+    }
+    w as u32
+}
+
+// The word of the depth at a place.
+fn depth_at(s: &[u8], at: usize) -> u32 {
+    if byte(s, at) == b'-' {
+        return depth(digits(s, further(at, 1)), true);
+    }
+    depth(digits(s, at), false)
+}
+
 // The point at a place.
 fn point(s: &[u8], at: usize) -> Point
     ensures { λ r. ⌜ InTable r ⌝ }
 {
     let y = past_word(s, at);
+    let z = past_word(s, y);
     Point {
         x: coordinate(number(s, at)),
         y: coordinate(number(s, y)),
-        z: 0,
+        z: depth_at(s, z),
     }
 }
 
 // The place after the point at a place.
 fn past_point(s: &[u8], at: usize) -> usize {
-    past_word(s, past_word(s, at))
+    past_word(s, past_word(s, past_word(s, at)))
+}
+
+// Two points agree in x, y and z.
+fn whole(p: Point, q: Point) -> bool {
+    geometry::same_point(p, q) & (p.z == q.z)
 }
 
 // The number after `= `.
@@ -158,7 +181,7 @@ fn inside_agrees(s: &[u8], at: usize, e: Edges, first: f64, second: f64) -> bool
 {
     let p = past_point(s, at);
     let q = past_point(s, p);
-    geometry::same_point(geometry::point_inside(e, first), point(s, at))
+    whole(geometry::point_inside(e, first), point(s, at))
         & (fraction(s, p) == first)
         & (fraction(s, q) == second)
 }
@@ -175,10 +198,10 @@ fn crossing_agrees(s: &[u8], at: usize, e: Edges) -> bool
             return word == b'p';
         }
         Crossing::Start => {
-            return (word == b's') & geometry::same_point(e.a, point(s, p));
+            return (word == b's') & whole(e.a, point(s, p));
         }
         Crossing::End => {
-            return (word == b'e') & geometry::same_point(e.b, point(s, p));
+            return (word == b'e') & whole(e.b, point(s, p));
         }
         Crossing::Inside { first, second } => {
             return (word == b'i') & inside_agrees(s, p, e, first, second);
@@ -262,7 +285,7 @@ fn run(s: &[u8]) -> Counts {
 }
 
 fn main() {
-    let mut buf = [0u8; 131072];
+    let mut buf = [0u8; 262144];
     let n = io::read_full(STDIN_FILENO, &mut buf);
     let c = run(&buf[..n]);
     io::print_decimal(STDOUT_FILENO, c.cases);

@@ -1,6 +1,6 @@
 // Writes the path of each ring on standard input and lists it. The rings, and the listings that the crate's file `stdout` has, come from the real Rust:
-// `tests/paths_cases` makes both from `oracle vectors paths`. A ring is a byte each for reverse, open and how many points, a byte 0, then x and y of each
-// point (four bytes each, low byte first).
+// `tests/paths_cases` makes both from `oracle vectors paths`. A ring is a byte each for reverse, open and how many points, a byte 0, then x, y and z of
+// each point (four bytes each, low byte first).
 use audit::Verdict;
 use job::Job;
 use libc::STDIN_FILENO;
@@ -31,6 +31,14 @@ fn word(s: &[u8], at: usize) -> usize
     numbers::read_raised(s, at, Job::COORDINATE) as usize
 }
 
+// The depth at a place, which is its word.
+fn depth(s: &[u8], at: usize) -> usize
+    requires { ⌜ at + 4 ≤ length (now s) ⌝ }
+    ensures { λ r. ⌜ r < 2 ^ 32 ⌝ }
+{
+    numbers::read_raised(s, at, 0) as usize
+}
+
 // The point after k on a ring of n.
 fn next(k: usize, n: usize) -> usize
     requires { ⌜ (k < n) × (n < limit.POINTS) ⌝ }
@@ -55,10 +63,11 @@ fn prev(k: usize, n: usize) -> usize
 
 // Point k of a ring of n.
 fn set_point(work: &mut [u32; LENGTH], s: &[u8], at: usize, k: usize, n: usize)
-    requires { ⌜ (at + 8 ≤ length (now s)) × (k < n) × (n < limit.POINTS) ⌝ }
+    requires { ⌜ (at + 12 ≤ length (now s)) × (k < n) × (n < limit.POINTS) ⌝ }
 {
     let x = word(s, at);
     let y = word(s, at + 4);
+    let z = depth(s, at + 8);
     let a = next(k, n);
     let b = prev(k, n);
     store::set(work, Col::X, k, x);
@@ -66,6 +75,7 @@ fn set_point(work: &mut [u32; LENGTH], s: &[u8], at: usize, k: usize, n: usize)
     store::set(work, Col::Next, k, a);
     store::set(work, Col::Prev, k, b);
     store::set(work, Col::Rec, k, 0);
+    store::set(work, Col::Z, k, z);
 }
 
 // One record, with the first point 0, done.
@@ -82,11 +92,11 @@ fn set_record(work: &mut [u32; LENGTH], rev: usize, opened: usize, n: usize)
 }
 
 fn set_points(work: &mut [u32; LENGTH], s: &[u8], at: usize, n: usize)
-    requires { ⌜ (at + 8 * n ≤ length (now s)) × (n < limit.POINTS) ⌝ }
+    requires { ⌜ (at + 12 * n ≤ length (now s)) × (n < limit.POINTS) ⌝ }
 {
     let mut k: usize = 0;
     while k < n {
-        set_point(work, s, at + 8 * k, k, n);
+        set_point(work, s, at + 12 * k, k, n);
         k += 1;
     }
 }
@@ -117,7 +127,7 @@ fn one(work: &mut [u32; LENGTH], tray: &mut [u8], out: &mut [u8], s: &[u8], at: 
     let rev = small(s, at);
     let opened = small(s, at + 1);
     let n = small(s, at + 2);
-    let end = at + 4 + 8 * n;
+    let end = at + 4 + 12 * n;
     if s.len() < end {
         return s.len();
     }

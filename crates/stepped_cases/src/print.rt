@@ -60,11 +60,28 @@ fn print_signed(x: i32) {
     print(n);
 }
 
+fn below(z: u32) -> u64 {
+    4294967296 - z as u64
+}
+
+// The signed number that a depth's word is.
+fn print_depth(z: u32) {
+    if z < 2147483648 {
+        io::print_decimal(STDOUT_FILENO, z as u64);
+        return;
+    }
+    let n = below(z);
+    say(b"-");
+    io::print_decimal(STDOUT_FILENO, n);
+}
+
 fn print_cut(v: Point, put: bool, off: bool) {
     say(b" cut ");
     print_signed(v.x);
     say(b",");
     print_signed(v.y);
+    say(b",");
+    print_depth(v.z);
     if put {
         say(b" point");
     } else {

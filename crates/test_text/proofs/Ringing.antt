@@ -11,11 +11,12 @@ use borrow.Author.Tests.{lt-ltb, le-ltb, eq-eqb, ne-eqb}
 use Rattle.job.specs.Limits as limit
 use Rattle.rings.specs.Walk.{run}
 use Rattle.rings.specs.Table.{ringFrom}
-use Rattle.store.specs.Field.{pt, X, Y, NEXT}
+use Rattle.store.specs.Field.{pt, X, Y, Z, NEXT}
 use Rattle.store.specs.Words.{cell}
 use Rattle.store.specs.Named.{nextOf, ringOf}
 use Rattle.listing.specs.Pour.{poured, pour}
 use Rattle.listing.specs.Text.{decimal}
+use Rattle.listing.specs.Lines.{depthText}
 use Rattle.listing.proofs.Pouring.{pour-none, pour-more, pour-length}
 use Rattle.test_text.specs.Ring.{RING, coordinateText, nameText, pairText, placeText, placesText, ringText}
 
@@ -46,12 +47,20 @@ pub pair-poured : (x y at a b r : ℕ) (t u v o : List ℕ) → poured a u ≡ p
     → poured r o ≡ pour (pairText x y) at t
 pair-poured x y at a b r t u v o e f g = pour-more (coordinateText x ++ (44 ∷ [])) (coordinateText y) t v o at b r (pour-more (coordinateText x) (44 ∷ []) t u v at a b e f) g
 
-pub place-poured : (named : Bool) (w : List ℕ) (p x y at a b r : ℕ) (t u v o : List ℕ) → x ≡ cell (pt X) w p → y ≡ cell (pt Y) w p
-    → poured a u ≡ pour (32 ∷ []) at t → poured b v ≡ pour (nameText named p) a u → poured r o ≡ pour (pairText x y) b v → poured r o ≡ pour (placeText named w p) at t
-place-poured named w p x y at a b r t u v o ex ey e f g =
-    pour-more ((32 ∷ []) ++ nameText named p) (pairText x y) t v o at b r (pour-more (32 ∷ []) (nameText named p) t u v at a b e f) g
-    ∙ ap (λ (z : ℕ). pour ((32 ∷ []) ++ nameText named p ++ pairText z y) at t) ex
-    ∙ ap (λ (z : ℕ). pour ((32 ∷ []) ++ nameText named p ++ pairText (cell (pt X) w p) z) at t) ey
+module _ (named : Bool) (w : List ℕ) (p x y z at a b c d r : ℕ) (t u v i j o : List ℕ) where
+  said : ℕ → ℕ → List ℕ
+  said h k = (32 ∷ []) ++ nameText named p ++ pairText h k
+
+  pub place-poured : x ≡ cell (pt X) w p → y ≡ cell (pt Y) w p → z ≡ cell (pt Z) w p → poured a u ≡ pour (32 ∷ []) at t → poured b v ≡ pour (nameText named p) a u
+      → poured c i ≡ pour (pairText x y) b v → poured d j ≡ pour (44 ∷ []) c i → poured r o ≡ pour (depthText z) d j → poured r o ≡ pour (placeText named w p) at t
+  unfolding said
+  place-poured ex ey ez e f g h k =
+      pour-more (said x y ++ (44 ∷ [])) (depthText z) t j o at d r
+      (pour-more (said x y) (44 ∷ []) t i j at c d
+      (pour-more ((32 ∷ []) ++ nameText named p) (pairText x y) t v i at b c (pour-more (32 ∷ []) (nameText named p) t u v at a b e f) g) h) k
+      ∙ ap (λ (q : ℕ). pour (said q y ++ (44 ∷ []) ++ depthText z) at t) ex
+      ∙ ap (λ (q : ℕ). pour (said (cell (pt X) w p) q ++ (44 ∷ []) ++ depthText z) at t) ey
+      ∙ ap (λ (q : ℕ). pour (said (cell (pt X) w p) (cell (pt Y) w p) ++ (44 ∷ []) ++ depthText q) at t) ez
 
 -- ---- along the ring
 

@@ -1,4 +1,4 @@
--- A ring as the test programs print it: " ring ", how many points, and each from the first in walk order as X,Y or, named, as NUMBER:X,Y; a line.
+-- A ring as the test programs print it: " ring ", how many points, and each from the first in walk order as X,Y,Z or, named, as NUMBER:X,Y,Z; a line.
 use Prim.Native.Nat.{ℕ, _-_}
 use mathlib.Core.Bool.{Bool, true, false, cond}
 use mathlib.Core.List.{List, [], _∷_, _++_}
@@ -6,10 +6,11 @@ use lib.Dec.{ltb}
 use lib.ListN.{length}
 use Rattle.job.specs.Limits as limit
 use Rattle.rings.specs.Table.{ringFrom}
-use Rattle.store.specs.Field.{pt, X, Y}
+use Rattle.store.specs.Field.{pt, X, Y, Z}
 use Rattle.store.specs.Words.{view}
 use Rattle.store.specs.Named.{nextOf}
 use Rattle.listing.specs.Text.{SPACE, COMMA, MINUS, NEWLINE, decimal}
+use Rattle.listing.specs.Lines.{depthText}
 
 abbrev pub COLON : ℕ
 COLON = 58
@@ -31,7 +32,7 @@ pairText x y = coordinateText x ++ (COMMA ∷ []) ++ coordinateText y
 
 -- a point after a space
 abbrev pub placeText : Bool → List ℕ → ℕ → List ℕ
-placeText named w p = (SPACE ∷ []) ++ nameText named p ++ pairText (view w (pt X) p) (view w (pt Y) p)
+placeText named w p = (SPACE ∷ []) ++ nameText named p ++ pairText (view w (pt X) p) (view w (pt Y) p) ++ (COMMA ∷ []) ++ depthText (view w (pt Z) p)
 
 abbrev pub placesText : Bool → List ℕ → List ℕ → List ℕ
 placesText named w [] = []

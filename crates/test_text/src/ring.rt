@@ -7,17 +7,18 @@ use store::Col;
 use store::NONE;
 use store::read;
 ghost use mathlib.Core.Path.{_≡_};
-ghost use Prim.Native.Nat.{_≤_};
+ghost use Prim.Native.Nat.{_≤_, _<_, _^_};
 ghost use lib.ListN.{length};
 ghost use Rattle.store.specs.Field.{BLOCK};
 ghost use Rattle.store.specs.Named.{ringOf};
 ghost use Rattle.listing.specs.Pour.{poured, pour};
+ghost use Rattle.listing.specs.Lines.{depthText};
 ghost use Rattle.test_text.specs.Ring.{coordinateText, nameText, pairText, placeText, placesText, ringText};
 
 const RAISE: usize = Job::COORDINATE as usize;
 
-// So many bytes have room for the text of any ring: a point takes at most 35.
-pub const TEXT: usize = 32 + 35 * Job::POINTS;
+// So many bytes have room for the text of any ring: a point takes at most 47.
+pub const TEXT: usize = 32 + 47 * Job::POINTS;
 
 // A coordinate, by its word.
 fn put_coordinate(v: usize, out: &mut [u8], at: usize) -> usize
@@ -50,6 +51,18 @@ fn put_pair(x: usize, y: usize, out: &mut [u8], at: usize) -> usize
     put_coordinate(y, out, b)
 }
 
+// A depth, by its word: the signed number that it is.
+fn put_depth(v: usize, out: &mut [u8], at: usize) -> usize
+    requires { ⌜ v < 2 ^ 32 ⌝ }
+    ensures { λ r. ⌜ poured r (now (out .exit)) ≡ pour (depthText v) at (now (out .entry)) ⌝ }
+{
+    if v < 2147483648 {
+        return put_decimal(out, at, v as u64);
+    }
+    let k = put(out, at, b'-');
+    put_decimal(out, k, (4294967296 - v) as u64)
+}
+
 // A point after a space.
 fn put_place(w: &[u32], named: bool, p: usize, out: &mut [u8], at: usize) -> usize
     requires { ⌜ BLOCK ≤ length (now w) ⌝ }
@@ -57,9 +70,12 @@ fn put_place(w: &[u32], named: bool, p: usize, out: &mut [u8], at: usize) -> usi
 {
     let x = read(w, Col::X, p);
     let y = read(w, Col::Y, p);
+    let z = read(w, Col::Z, p);
     let a = put(out, at, b' ');
     let b = put_name(named, p, out, a);
-    put_pair(x, y, out, b)
+    let c = put_pair(x, y, out, b);
+    let d = put(out, c, b',');
+    put_depth(z, out, d)
 }
 
 // How many points the ring from a on has.

@@ -17,7 +17,8 @@
 //!
 //! [`Job`] makes those bytes from rings, and shares rings that are too many for one job out over several.
 //!
-//! Or by steps, in any order: [`open`], [`step`] on each record until it is refused as [`Refused::OUT_OF_TURN`], [`write()`].
+//! Or by steps, in any order: [`open`], [`step`] on each record until it is refused as [`Refused::OUT_OF_TURN`], [`write()`]. On the way a state may be kept under a name, and gone back to:
+//! [`keep`], [`go_back`], [`drop_name`].
 //!
 //! A work space is lent by the caller and nothing else is kept between calls, so two threads may use two work spaces at once.
 #![deny(missing_docs)]
@@ -25,11 +26,13 @@
 mod job;
 mod reason;
 mod refused;
+mod states;
 mod tray;
 
 pub use job::{Job, Ring};
 pub use reason::Reason;
 pub use refused::Refused;
+pub use states::{drop_name, go_back, keep};
 pub use tray::{paths, Path, Point};
 
 /// At most so many points, those made while finishing included.
@@ -42,8 +45,10 @@ pub const SEGMENTS: usize = 256;
 pub const JOINS: usize = 256;
 /// A coordinate is at most so many micrometres either way; a depth may be any `i32`.
 pub const COORDINATE: i32 = 1_048_576;
-/// The fixed length of a work space in words; a shorter one is refused with 10.
-pub const WORK_WORDS: usize = 5 * (16 + 6 * POINTS + 9 * RECORDS) + 4;
+/// At most so many states are kept, each under a name.
+pub const STATES: usize = 4;
+/// The fixed length of a work space in words: the live block, and a name and a copy of it for each state. A shorter one is refused with 10.
+pub const WORK_WORDS: usize = (1 + STATES) * (16 + 6 * POINTS + 9 * RECORDS) + STATES;
 /// A tray of so many bytes is always long enough.
 pub const TRAY_BYTES: usize = 3 * RECORDS + 12 * POINTS;
 /// The first so many bytes of a job decide what becomes of it: the longest job that is accepted, and one point more.
@@ -111,7 +116,7 @@ pub fn work_words() -> u64 {
     unsafe { c::outline_work_words() }
 }
 
-/// Opens a job: reads it and joins its rings. Refused, it leaves every word 0.
+/// Opens a job: reads it and joins its rings; no name is kept. Refused, it leaves every word 0.
 ///
 /// ```
 /// let mut work = vec![7; outline::WORK_WORDS];
@@ -159,7 +164,7 @@ pub fn write(work: &[u32], tray: &mut [u8]) -> Result<(), Refused> {
     answer(unsafe { c::outline_write(work.as_ptr(), work.len(), tray.as_mut_ptr(), tray.len()) })
 }
 
-/// Opens, steps every ring until it is done, and writes out. Refused, it leaves every word and every byte 0.
+/// Opens, steps every ring until it is done, and writes out; no name is kept. Refused, it leaves every word and every byte 0.
 ///
 /// ```
 /// # use outline::*;

@@ -4,7 +4,7 @@ use std::fmt;
 /// A number, a word and what it means in each line, with a tab between them.
 const TABLE: &str = include_str!("../../../tools/refusals");
 
-/// The number of a refusal, 1 to 13.
+/// The number of a refusal, 1 to 15.
 ///
 /// ```
 /// use outline::Refused;
@@ -42,6 +42,10 @@ impl Refused {
     pub const OUT_OF_TURN: Refused = Refused(12);
     /// More than one rate is given, or one that is not a whole number from 1 to [`RATE`](crate::RATE).
     pub const BAD_RATE: Refused = Refused(13);
+    /// Going back to, or dropping, a name that is not kept.
+    pub const UNKNOWN_NAME: Refused = Refused(14);
+    /// Keeping a fifth name.
+    pub const NO_PLACE: Refused = Refused(15);
 
     /// The word and the meaning; none of a number that is no refusal's.
     fn said(self) -> Option<(&'static str, &'static str)> {

@@ -55,3 +55,83 @@ fn refused_jobs_leave_zeros() {
         assert!(work[..words].iter().all(|word| *word == 0) && tray[..bytes].iter().all(|byte| *byte == 0));
     }
 }
+
+/// Kept, stepped, gone back to: every word is what it was, and the steps go as before.
+#[test]
+fn kept_and_gone_back_to() {
+    let (mut work, mut tray) = (vec![7; WORK_WORDS], vec![7; TRAY_BYTES]);
+    assert_eq!(open(JOB, &mut work), Ok(()));
+    for name in [0, 255] {
+        assert_eq!(keep(&mut work, name), Ok(()));
+    }
+    let kept = work.clone();
+    for _ in 0..2 {
+        for record in 0..2 {
+            while step(&mut work, record).is_ok() {}
+        }
+        assert_eq!(write(&work, &mut tray), Ok(()));
+        assert_eq!(paths(&tray), triangles());
+        assert_eq!(go_back(&mut work, 255), Ok(()));
+        assert_eq!(work, kept);
+    }
+    assert_eq!(step(&mut work, 0), Ok(()));
+    assert_eq!(keep(&mut work, 255), Ok(()));
+    let later = work.clone();
+    assert_eq!(go_back(&mut work, 0), Ok(()));
+    assert_eq!(go_back(&mut work, 255), Ok(()));
+    assert_eq!(work, later);
+}
+
+#[test]
+fn refused_names_leave_every_word() {
+    let mut work = vec![7; WORK_WORDS + 3];
+    assert_eq!(open(JOB, &mut work), Ok(()));
+    for name in [0, 9, 99, 255] {
+        assert_eq!(keep(&mut work, name), Ok(()));
+    }
+    let before = work.clone();
+    assert_eq!(keep(&mut work, 1), Err(Refused::NO_PLACE));
+    assert_eq!(go_back(&mut work, 1), Err(Refused::UNKNOWN_NAME));
+    assert_eq!(drop_name(&mut work, 254), Err(Refused::UNKNOWN_NAME));
+    assert_eq!(keep(&mut work[..WORK_WORDS - 1], 0), Err(Refused::FULL));
+    assert_eq!(go_back(&mut work[..WORK_WORDS - 1], 0), Err(Refused::FULL));
+    assert_eq!(drop_name(&mut work[..WORK_WORDS - 1], 0), Err(Refused::FULL));
+    assert_eq!(work, before);
+    assert_eq!(drop_name(&mut work, 99), Ok(()));
+    assert_eq!(keep(&mut work, 1), Ok(()));
+    assert_eq!(go_back(&mut work, 99), Err(Refused::UNKNOWN_NAME));
+}
+
+/// Spoilt rings are refused before an unknown name; opening is the way back, and keeps no name.
+#[test]
+fn no_way_back_but_opening() {
+    let mut work = vec![7; WORK_WORDS];
+    assert_eq!(open(JOB, &mut work), Ok(()));
+    assert_eq!(keep(&mut work, 7), Ok(()));
+    let behind = work[WORK_WORDS - 1];
+    work[1] = POINTS as u32 + 1;
+    for name in [7, 8] {
+        assert_eq!(go_back(&mut work, name), Err(Refused::CROWDED));
+        assert_eq!(keep(&mut work, name), Err(Refused::CROWDED));
+        assert_eq!(drop_name(&mut work, name), Err(Refused::CROWDED));
+    }
+    assert_eq!(open(JOB, &mut work), Ok(()));
+    assert_eq!(go_back(&mut work, 7), Err(Refused::UNKNOWN_NAME));
+    assert_eq!((behind, work[WORK_WORDS - 1]), (7, 7));
+    assert_eq!(open(&JOB[..9], &mut work), Err(Refused::TORN));
+    assert!(work.iter().all(|word| *word == 0));
+}
+
+#[test]
+fn kept_after_finishing_in_one_call() {
+    let (mut work, mut tray) = (vec![7; WORK_WORDS], vec![7; TRAY_BYTES]);
+    assert_eq!(open(JOB, &mut work), Ok(()));
+    assert_eq!(keep(&mut work, 7), Ok(()));
+    assert_eq!(finish(JOB, &mut work, &mut tray), Ok(()));
+    assert_eq!(go_back(&mut work, 7), Err(Refused::UNKNOWN_NAME));
+    assert_eq!(keep(&mut work, 8), Ok(()));
+    let kept = work.clone();
+    assert_eq!(go_back(&mut work, 8), Ok(()));
+    assert_eq!(work, kept);
+    assert_eq!(reason(&work, 1), Ok(Reason::Written { open: false, place: 1 }));
+}

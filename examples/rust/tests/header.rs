@@ -23,6 +23,7 @@ fn constants() {
         ("SEGMENTS", SEGMENTS as u64),
         ("JOINS", JOINS as u64),
         ("COORDINATE", COORDINATE as u64),
+        ("STATES", STATES as u64),
         ("WORK_WORDS", WORK_WORDS as u64),
         ("TRAY_BYTES", TRAY_BYTES as u64),
         ("JOB_BYTES", JOB_BYTES as u64),
@@ -44,6 +45,8 @@ fn constants() {
         ("SMALL_TRAY", Refused::SMALL_TRAY),
         ("OUT_OF_TURN", Refused::OUT_OF_TURN),
         ("BAD_RATE", Refused::BAD_RATE),
+        ("UNKNOWN_NAME", Refused::UNKNOWN_NAME),
+        ("NO_PLACE", Refused::NO_PLACE),
     ];
     for (name, refused) in refusals {
         assert_eq!(refused.word().replace(' ', "_").to_uppercase(), name);

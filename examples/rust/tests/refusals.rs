@@ -1,4 +1,4 @@
-// The refusals' words; and 11 and 12, which only the library gives, on the examples of docs/JOB.md. 1 to 10 are run by tests/cutlist.
+// The refusals' words; and 11, 12, 14 and 15, which only the library gives, on the examples of docs/JOB.md. 1 to 10 are run by tests/cutlist.
 use outline::*;
 
 /// `ring 1 - 0,0 5,5` under `settings 0`: an open line of two points, a path of 27 bytes.
@@ -23,10 +23,22 @@ fn out_of_turn() {
 }
 
 #[test]
+fn unknown_name_and_no_place() {
+    let mut work = vec![7; WORK_WORDS];
+    assert_eq!(open(&[1, 1, 0, 0], &mut work), Ok(()));
+    assert_eq!(go_back(&mut work, 0), Err(Refused(14)));
+    assert_eq!(drop_name(&mut work, 0), Err(Refused(14)));
+    for name in 1..=4 {
+        assert_eq!(keep(&mut work, name), Ok(()));
+    }
+    assert_eq!(keep(&mut work, 5), Err(Refused(15)));
+}
+
+#[test]
 fn every_refusal_has_its_word() {
-    assert!((1..=13).all(|number| !Refused(number).word().is_empty() && !Refused(number).meaning().is_empty()));
+    assert!((1..=15).all(|number| !Refused(number).word().is_empty() && !Refused(number).meaning().is_empty()));
     assert_eq!(Refused(7).word(), "muddled");
     assert_eq!(Refused(12).to_string(), format!("refused 12, out of turn: {}", Refused::OUT_OF_TURN.meaning()));
-    assert_eq!((Refused(0).word(), Refused(14).meaning()), ("", ""));
+    assert_eq!((Refused(0).word(), Refused(16).meaning()), ("", ""));
     assert_eq!(Refused(99).to_string(), "refused 99");
 }

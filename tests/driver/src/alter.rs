@@ -1,4 +1,4 @@
-// Alterations of a work space, by kind: counts, links, records, first points, progress marks, present places, reasons and takers, coordinates, any word;
+// Alterations of a work space, by kind: counts, links, records, first points, progress marks, present places, reasons and takers, coordinates, names, any word;
 // and some that keep it sound but leave it in a state that our own calls never make.
 use crate::words::*;
 use oracle::rng::Rng;
@@ -114,6 +114,30 @@ fn record_word(w: &mut [u32], rng: &mut Rng) -> String {
         9 => put(w, REASON + r, rng.pick(&[0, 1, 2, 3, 4, 5, 6, NONE, u32::MAX])),
         _ => put(w, TAKER + r, number(rng, records)),
     }
+}
+
+/// A place's word is another: another place's, free in one of two ways, some name.
+pub fn names(w: &mut [u32], rng: &mut Rng) -> String {
+    let place = rng.below(STATES);
+    let other = (place + 1 + rng.below(STATES - 1)) % STATES;
+    let name = 1 + rng.below(256) as u32;
+    let word = rng.pick(&[w[NAMES + other], name, 1, 256, 257, 65_536 + name, u32::MAX, 0]);
+    if !rng.one_in(4) {
+        put(w, NAMES + other, word);
+    }
+    put(w, NAMES + place, word) + &format!(", and word {} is {}", NAMES + other, w[NAMES + other])
+}
+
+/// Names, and beside them a count, a coordinate, a link or nothing, so that the order of the tests shows.
+pub fn names_beside(w: &mut [u32], rng: &mut Rng) -> String {
+    let said = names(w, rng);
+    let beside = match (rng.below(4), ring_point(rng, w)) {
+        (0, _) => count(w, rng),
+        (1, Some(p)) => put(w, rng.pick(&[X, Y]) + p, rng.pick(&[(1 << 21) + 1, u32::MAX])),
+        (2, _) => point_word(w, rng),
+        _ => return said,
+    };
+    format!("{said}; {beside}")
 }
 
 /// A record loses its ring, or the reason or the taker of one without is another.

@@ -1,6 +1,6 @@
 // Kind `altered`: a work space after opening and some steps, some words altered; then steps and writing out against the plain
 // reading of the tests, then 12, then 10; where a step is carried out, against the model loaded from the words.
-use crate::alter::{alter, kept, made_up, progress};
+use crate::alter::{alter, kept, made_up, names_beside, progress};
 use crate::calls::{Calls, Fault};
 use crate::finish::tray_length;
 use crate::model::{load, same_forest, stray};
@@ -58,21 +58,26 @@ pub fn case(room: &mut Room, seed: u64, index: u64, rng: &mut Rng) -> Same {
     room.base.job = job;
     room.trace.extend(room.base.trace.iter().cloned());
     let past = rng.below(2) * rng.below(20);
-    room.work.lend(WORDS + past, rng.bits() as u32)[..WORDS].copy_from_slice(&room.base.words);
+    let fill = rng.bits() as u32;
+    room.work.lend(WORDS + past, fill)[..KEPT].copy_from_slice(&room.base.words[..KEPT]);
     // One case in three has rings elsewhere in their stepping only, so that steps are carried out there.
     let elsewhere = rng.one_in(3);
     let change = if elsewhere { progress } else { alter };
     if rng.one_in(8) {
-        let said = made_up(&mut room.work.get_mut()[..WORDS], rng);
+        let said = made_up(&mut room.work.get_mut()[..BLOCK], rng);
         room.trace.push(said);
     }
     for _ in 0..1 + rng.below(3) {
-        let said = change(&mut room.work.get_mut()[..WORDS], rng);
+        let said = change(&mut room.work.get_mut()[..KEPT], rng);
         room.trace.push(said);
     }
     // Beside other faults, so that the order of the tests shows.
     if !elsewhere && rng.one_in(4) {
-        let said = kept(&mut room.work.get_mut()[..WORDS], rng);
+        let said = kept(&mut room.work.get_mut()[..KEPT], rng);
+        room.trace.push(said);
+    }
+    if !elsewhere && rng.one_in(6) {
+        let said = names_beside(&mut room.work.get_mut()[..KEPT], rng);
         room.trace.push(said);
     }
     if rng.one_in(30) {
@@ -85,7 +90,7 @@ pub fn case(room: &mut Room, seed: u64, index: u64, rng: &mut Rng) -> Same {
             write(room, rng)?;
         }
     }
-    Ok(())
+    room.behind(fill)
 }
 
 /// A record number: mostly one with a ring that isn't done.
@@ -107,12 +112,12 @@ fn model_step(w: &[u32], number: u32) -> (Result<Act, u8>, Forest) {
     (model.step(number as usize), model)
 }
 
-fn step(room: &mut Room, number: u32) -> Same {
-    let before = room.work.get().to_vec();
+pub fn step(room: &mut Room, number: u32) -> Same {
+    let before = room.front().to_vec();
     let answer = room.calls.step(room.work.get_mut(), number);
     room.trace.push(format!("step {number}: {answer}"));
     room.tally.tested("step", &before, answer);
-    let (act, model) = match plain::tests(&before) {
+    let (act, model) = match plain::tested(&before) {
         Err(refusal) => (Err(refusal), None),
         Ok(()) => {
             let (act, model) = model_step(&before, number);
@@ -122,7 +127,7 @@ fn step(room: &mut Room, number: u32) -> Same {
     let theirs = act.err().map_or(0, u32::from);
     expect(answer == theirs, || format!("the step answers {answer}, the plain reading {theirs}"))?;
     room.margins()?;
-    let w = room.work.get();
+    let w = &room.work.get()[..KEPT];
     let (Ok(act), Some(mut model)) = (act, model) else {
         return expect(w == before, || "a refused step leaves another word".into());
     };
@@ -130,7 +135,7 @@ fn step(room: &mut Room, number: u32) -> Same {
     if let Some(at) = stray(&before, w, number as usize) {
         return Err(format!("a step on record {number} writes word {at}"));
     }
-    expect(plain::tests(w).is_ok(), || "after a step the work space fails the tests".into())?;
+    expect(plain::tested(w).is_ok(), || "after a step the work space fails the tests".into())?;
     meet_new_point(&mut model, &before, w, number as usize);
     same_forest(w, &model)
 }
@@ -151,9 +156,9 @@ fn meet_new_point(model: &mut Forest, before: &[u32], w: &[u32], r: usize) {
     }
 }
 
-fn write(room: &mut Room, rng: &mut Rng) -> Same {
-    let before = room.work.get().to_vec();
-    let tests = plain::tests(&before);
+pub fn write(room: &mut Room, rng: &mut Rng) -> Same {
+    let before = room.front().to_vec();
+    let tests = plain::tested(&before);
     let live = tests.is_ok() && (0..records(&before)).any(|r| is_live(&before, r));
     let bytes = if tests.is_ok() && !live {
         let forest = load(&before);

@@ -1,5 +1,6 @@
 // The proved entry points as liboutline.a exports them. A slice is a pointer and a length.
 // A fault, which only the check of the driver itself switches on, spoils what a call left.
+use crate::names::stands;
 use crate::plain::kept;
 use crate::words::*;
 
@@ -136,6 +137,38 @@ pub enum Fault {
     ReasonUnknown,
     /// A refusal has a reason beside it.
     ReasonHalf,
+    /// A copy misses a column: the loop's starts stay what they were.
+    KeepColumn,
+    /// A name that is kept, with three others, is refused with 15.
+    KeepAgain,
+    /// A fifth name replaces the first.
+    KeepFifth,
+    /// A word above 256 is taken for a name.
+    KeepWord,
+    /// A name is kept at the highest free place.
+    KeepHighest,
+    /// A name not kept is said before a muddled work space.
+    BackOrder,
+    /// Going back frees the name.
+    BackFrees,
+    /// Going back takes another place's copy.
+    BackOther,
+    /// Going back leaves the counts.
+    BackCounts,
+    /// A dropped name stays.
+    DropStays,
+    /// A name not kept is said before a muddled work space.
+    DropOrder,
+    /// Opening leaves a name.
+    OpenName,
+    /// Opening clears a word behind the names.
+    OpenBehind,
+    /// A refused job leaves a copy's first word.
+    OpenCopy,
+    /// Finishing in one call leaves a name.
+    FinishName,
+    /// A step passes a name that is kept twice.
+    StepTwice,
 }
 
 pub const FAULTS: &[Fault] = &[
@@ -186,7 +219,29 @@ pub const FAULTS: &[Fault] = &[
     Fault::ReasonEarly,
     Fault::ReasonUnknown,
     Fault::ReasonHalf,
+    Fault::KeepColumn,
+    Fault::KeepAgain,
+    Fault::KeepFifth,
+    Fault::KeepWord,
+    Fault::KeepHighest,
+    Fault::BackOrder,
+    Fault::BackFrees,
+    Fault::BackOther,
+    Fault::BackCounts,
+    Fault::DropStays,
+    Fault::DropOrder,
+    Fault::OpenName,
+    Fault::OpenBehind,
+    Fault::OpenCopy,
+    Fault::FinishName,
+    Fault::StepTwice,
 ];
+
+/// Whether a fault is one of names and copies.
+pub fn is_of_names(fault: Fault) -> bool {
+    let first = FAULTS.iter().position(|other| *other == Fault::KeepColumn);
+    FAULTS.iter().position(|other| *other == fault) >= first
+}
 
 /// The listing with `piece` and `hole` exchanged, and its length.
 fn exchanged(text: &mut [u8], length: usize) -> u64 {
@@ -210,9 +265,13 @@ pub struct Calls(pub Fault);
 
 impl Calls {
     pub fn open(self, job: &[u8], work: &mut [u32]) -> u32 {
-        let answer = unsafe { outline_open(job.as_ptr(), job.len(), work.as_mut_ptr(), work.len()) };
         let n = work.len();
+        let found = [NAMES, KEPT].map(|at| work.get(at).copied().unwrap_or(0));
+        let answer = unsafe { outline_open(job.as_ptr(), job.len(), work.as_mut_ptr(), work.len()) };
         match self.0 {
+            Fault::OpenName if answer == 0 => work[NAMES] = found[0],
+            Fault::OpenBehind if answer == 0 => work[KEPT] = 0,
+            Fault::OpenCopy if answer != 0 && n > KEPT => work[KEPT] = found[1],
             Fault::OpenPresent if answer == 0 && is_live(work, 0) => {
                 work[PRESENT] = work[NEXT + work[FIRST] as usize];
             }
@@ -246,6 +305,7 @@ impl Calls {
             (Fault::StepReason, 0) if work[FIRST + r] == NONE => work[REASON + r] = AT_VALIDITY + (work[REASON + r] - JOINED) % 3,
             (Fault::StepTaker, 5) if kept(work, 5) == Some("5 for a taker alone") => return 7,
             (Fault::StepOrder, 5 | 6) if untold(work) => return 7,
+            (Fault::StepTwice, 7) if stands(work, 7).is_some() => return 0,
             (Fault::Beyond, 0) => unsafe { *work.as_mut_ptr().sub(1) = 1 },
             _ => {}
         }
@@ -266,6 +326,7 @@ impl Calls {
 
     pub fn finish(self, job: &[u8], work: &mut [u32], tray: &mut [u8]) -> u32 {
         let (bytes, n) = (tray.len(), work.len());
+        let name = work.get(NAMES).copied().unwrap_or(0);
         let answer = unsafe { outline_finish(job.as_ptr(), job.len(), work.as_mut_ptr(), n, tray.as_mut_ptr(), bytes) };
         match (self.0, answer) {
             (Fault::FinishAnswer, 10) => return 9,
@@ -277,6 +338,7 @@ impl Calls {
             (Fault::PastPaths, 0) if bytes == 17_920 && tray[bytes - 1] == 0 => tray[bytes - 1] = 1,
             (Fault::RefusedWord, 1..) if n > 0 => work[n - 1] = 1,
             (Fault::RefusedTray, 1..) if bytes > 0 => tray[bytes - 1] = 1,
+            (Fault::FinishName, 0) => work[NAMES] = name,
             (Fault::FinishStart, 0) if records(work) > 0 => work[START] ^= 1,
             (Fault::FinishOwner, 0) if records(work) > 1 => work[OWNER + 1] = 0,
             _ => {}

@@ -45,7 +45,7 @@ pub fn expected(room: &mut Room) -> Expected {
 pub fn work_length(rng: &mut Rng) -> usize {
     match rng.below(32) {
         0 => rng.below(WORDS),
-        1 => rng.pick(&[0, 1, 2, 3, 16, 10_256, WORDS - 2, WORDS - 1]),
+        1 => rng.pick(&[0, 1, 2, 3, 16, 10_256, BLOCK, KEPT, WORDS - 2, WORDS - 1]),
         2..=5 => WORDS + 1 + rng.below(60),
         _ => WORDS,
     }
@@ -86,7 +86,8 @@ fn one_call(room: &mut Room, rng: &mut Rng, expected: &Expected) -> Same {
         Expected::Finished { answer, .. } => answer.tray(),
     };
     let (words, length) = (work_length(rng), tray_length(rng, bytes.len()));
-    room.work.lend(words, rng.pick(&[u32::MAX, 1, 65_535, 0x0101_0101]));
+    let fill = rng.pick(&[u32::MAX, 1, 65_535, 0x0101_0101]);
+    room.work.lend(words, fill);
     room.tray.lend(length, 1 + rng.below(255) as u8);
     let answer = room.calls.finish(&room.paper[room.at..], room.work.get_mut(), room.tray.get_mut());
     room.trace.push(format!("finish with {words} words and a tray of {length} bytes: {answer}"));
@@ -106,6 +107,7 @@ fn one_call(room: &mut Room, rng: &mut Rng, expected: &Expected) -> Same {
     let (paths, rest) = room.tray.get().split_at(bytes.len());
     expect(paths == bytes, || "the paths' bytes".into())?;
     expect(all_zero(rest), || "a byte past the paths".into())?;
+    room.freed(fill)?;
     match expected {
         Expected::Finished { settings, state, answer } => finished(room, *settings, state, answer),
         Expected::Refused(_) => Ok(()),
@@ -117,7 +119,6 @@ fn finished(room: &mut Room, settings: u8, state: &State, answer: &Answer) -> Sa
     let listing = read_tray(room.tray.get(), settings).ok_or("the tray cannot be read back")?.listing();
     expect(listing == answer.listing(), || "the listing".into())?;
     let w = room.work.get();
-    expect(all_zero(&w[WORDS..]), || "a word past the fixed length".into())?;
     expect(w[SETTINGS] == settings as u32, || "the settings".into())?;
     same_state(w, state)?;
     expect((0..words::records(w)).all(|r| !is_live(w, r)), || "a closed ring isn't done".into())?;

@@ -76,6 +76,7 @@ pub fn case(room: &mut Room, rng: &mut Rng, expected: &Expected) -> Same {
         expect(all_zero(room.work.get()), || "a refused job, listed, leaves a word".into())?;
         return expect(all_zero(room.tray.get()), || "a refused job, listed, leaves a byte of the tray".into());
     }
+    room.freed(fill)?;
     let (paths, rest) = room.tray.get().split_at(bytes.len());
     expect(paths == bytes && all_zero(rest), || "the tray of a listing".into())
 }

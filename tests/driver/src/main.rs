@@ -7,26 +7,29 @@ mod canon;
 mod damage;
 mod drawn;
 mod finish;
+mod kept;
 mod large;
 mod lent;
 mod listed;
 mod model;
+mod names;
 mod open;
 mod plain;
 mod reasons;
 mod room;
 mod runs;
+mod states;
 mod steps;
 mod tally;
 mod tidied;
 mod words;
 
-use calls::{Fault, FAULTS};
+use calls::{is_of_names, Fault, FAULTS};
 use oracle::text::number;
 use runs::{Kind, Run, KINDS};
 
 const USAGE: &str =
-    "usage: driver finish|large|steps|bytes|altered|canon|reasons|drawn SEED COUNT THREADS [FROM], driver faults SEED COUNT, \
+    "usage: driver finish|large|steps|bytes|altered|canon|reasons|kept|drawn SEED COUNT THREADS [FROM], driver faults SEED COUNT, \
                      driver fault NAME KIND SEED COUNT, or driver audit_cases";
 
 fn run_of(kind: &str, seed: &str, count: &str, threads: &str, from: u64) -> Result<Run, String> {
@@ -38,12 +41,14 @@ fn run_of(kind: &str, seed: &str, count: &str, threads: &str, from: u64) -> Resu
     Ok(Run { kind, seed, from, to: from + count, threads, fault: Fault::None })
 }
 
-/// Whether a kind makes the call that a fault spoils. Two calls have a kind of their own; every other is tried in all.
-fn is_made(fault: Fault, kind: Kind) -> bool {
+/// Whether a kind is tried with a fault: the kind of its own that a call has; kind `kept` with the faults of names and copies alone, all of which it must find; every other with the rest.
+fn is_tried(fault: Fault, kind: Kind) -> bool {
     let name = format!("{fault:?}");
     match () {
         // The same calls as kind `finish`, and slower: one fault shows that it sees.
         _ if kind == Kind::Drawn => fault == Fault::TrayByte,
+        _ if kind == Kind::Kept => is_of_names(fault),
+        _ if ["Keep", "Back", "Drop"].iter().any(|call| name.starts_with(call)) => false,
         _ if name.starts_with("Reason") => kind == Kind::Reasons,
         _ if name.starts_with("Rewrite") => kind == Kind::Canon,
         _ => true,
@@ -55,13 +60,13 @@ fn faults(seed: u64, count: u64) -> Result<(), String> {
     let mut missed = Vec::new();
     for &fault in FAULTS {
         let mut found = Vec::new();
-        for &(name, kind) in KINDS.iter().filter(|(_, kind)| is_made(fault, *kind)) {
+        for &(name, kind) in KINDS.iter().filter(|(_, kind)| is_tried(fault, *kind)) {
             let run = Run { kind, seed, from: 0, to: count, threads: 1, fault };
             if let Err(difference) = run.all() {
                 found.push(format!("{name} at case {} ({})", difference.index, difference.what));
             }
         }
-        match found.is_empty() {
+        match found.is_empty() || (is_of_names(fault) && !found.iter().any(|by| by.starts_with("kept"))) {
             true => missed.push(format!("{fault:?}")),
             false => println!("fault {fault:?}: found by {}", found.join("; ")),
         }

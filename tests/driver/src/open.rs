@@ -7,8 +7,17 @@ use oracle::real;
 
 /// Opens the room's job in a work space of so many words; what the Rust opened where both accept.
 pub fn open_job(room: &mut Room, words: usize, fill: u32) -> Result<Option<Opened>, String> {
-    let theirs = open(room.job());
     room.work.lend(words, fill);
+    let opened = open_lent(room)?;
+    if opened.is_some() {
+        room.freed(fill)?;
+    }
+    Ok(opened)
+}
+
+/// The same in the work space as it is lent; of what is behind the live block only that a refused job leaves zeros.
+pub fn open_lent(room: &mut Room) -> Result<Option<Opened>, String> {
+    let (theirs, words) = (open(room.job()), room.work.get().len());
     let answer = room.calls.open(&room.paper[room.at..], room.work.get_mut());
     room.trace.push(format!("open with {words} words: {answer}"));
     room.tally.answer("open", answer);
@@ -31,7 +40,7 @@ pub fn open_job(room: &mut Room, words: usize, fill: u32) -> Result<Option<Opene
 /// The work space of an accepted job: settings, rings and records, each point as the Rust has it, each closed ring at its start.
 fn as_opened(w: &[u32], opened: &Opened) -> Same {
     expect(w[SETTINGS] == opened.job.settings as u32, || "the settings".into())?;
-    expect(all_zero(&w[3..X]) && all_zero(&w[WORDS..]), || "a spare word after opening".into())?;
+    expect(all_zero(&w[3..X]), || "a spare word after opening".into())?;
     same_state(w, &real::look(&opened.base))?;
     for (p, point) in opened.base.outpt_arena.iter().enumerate() {
         let theirs = [point.next as u32, point.prev as u32, point.outrec as u32];

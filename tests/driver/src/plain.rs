@@ -1,6 +1,7 @@
 // A plain reading of document 01: "A step, or writing out after steps, first tests the work space it is handed".
 // And of document 02, Ask 5: "A ringless record without one of the first five reasons kept meets 7; a taker's number naming nothing meets 5".
-// Written from these paragraphs and docs/WORKSPACE.md alone.
+// And of Ask 8: "A work space keeping one name twice meets 7", last of all. Written from these paragraphs and docs/WORKSPACE.md alone.
+use crate::names;
 use crate::words::*;
 
 /// The tests in the paper's order; the refusal's number where one fails. A work space that is too short is 10, before them all.
@@ -8,6 +9,11 @@ pub fn tests(w: &[u32]) -> Result<(), u8> {
     if w.len() < WORDS {
         return Err(10);
     }
+    tested(w)
+}
+
+/// The tests after the length, of a live block and its names.
+pub fn tested(w: &[u32]) -> Result<(), u8> {
     if points(w) > MOST_POINTS || records(w) > MOST_RECORDS {
         return Err(3);
     }
@@ -23,6 +29,9 @@ pub fn tests(w: &[u32]) -> Result<(), u8> {
         return Err(6);
     }
     if shared(w) || (0..records(w)).any(|r| misplaced(w, r) || untold(w, r)) {
+        return Err(7);
+    }
+    if names::twice(w) {
         return Err(7);
     }
     Ok(())
@@ -54,7 +63,7 @@ pub fn kept(w: &[u32], refusal: u8) -> Option<&'static str> {
     // The same words, but that these records keep a right reason.
     let mut other = w.to_vec();
     ringless.iter().for_each(|&r| other[REASON + r] = NO_RING);
-    let which = match (refusal, tests(&other)) {
+    let which = match (refusal, tested(&other)) {
         (4, _) => 0,
         (5, Ok(())) => 1 + 3 * reason as usize,
         (5, Err(6)) => 2,

@@ -1,6 +1,6 @@
 // Kind `reasons`: outline_reason after opening, steps in any order and finishing in one call, against what happened in the oracle's stepping model; on altered
 // work spaces, against a plain reading of document 02, Ask 5. The work space is only read.
-use crate::alter::{alter, kept, made_up};
+use crate::alter::{alter, kept, made_up, names_beside};
 use crate::finish::read_tray;
 use crate::open::open_job;
 use crate::plain;
@@ -58,11 +58,11 @@ fn event(reason: Reason) -> &'static str {
 }
 
 /// Asks for one record's reason, in the first so many words.
-fn ask_in(room: &mut Room, words: usize, record: u32, told: Result<Reason, u32>) -> Same {
-    let before = room.work.get().to_vec();
+pub fn ask_in(room: &mut Room, words: usize, record: u32, told: Result<Reason, u32>) -> Same {
+    let before = room.front().to_vec();
     let answer = room.calls.reason(&room.work.get()[..words], record);
     room.trace.push(format!("reason of {record} with {words} words: {}, {:#x}", answer as u32, answer >> 32));
-    room.tally.tested("reason", &before[..words], answer as u32);
+    room.tally.tested("reason", &before, answer as u32);
     if let Ok(reason) = told {
         room.tally.event(event(reason), 1);
     }
@@ -71,10 +71,10 @@ fn ask_in(room: &mut Room, words: usize, record: u32, told: Result<Reason, u32>)
         format!("the reason of record {record} is {answer:#x}, by the rule {theirs:#x}: {told:?}")
     })?;
     room.margins()?;
-    expect(room.work.get() == before, || "asking for a reason changes a word".into())
+    expect(room.front() == before, || "asking for a reason changes a word".into())
 }
 
-fn ask(room: &mut Room, record: u32, told: Result<Reason, u32>) -> Same {
+pub fn ask(room: &mut Room, record: u32, told: Result<Reason, u32>) -> Same {
     let words = room.work.get().len();
     ask_in(room, words, record, told)
 }
@@ -96,12 +96,12 @@ fn ask_all(room: &mut Room, rng: &mut Rng, history: &History) -> Same {
         }
     }
     ask(room, unknown(rng, held), Err(12))?;
-    let short = rng.pick(&[0, 1, 3, CUT, REASON, TAKER, WORDS - 1]);
+    let short = rng.pick(&[0, 1, 3, CUT, REASON, TAKER, BLOCK, WORDS - 1]);
     ask_in(room, short, rng.below(held + 1) as u32, Err(10))
 }
 
 /// What the work space keeps of each record without a ring is what ended it.
-fn same_kept(w: &[u32], history: &History) -> Same {
+pub fn same_kept(w: &[u32], history: &History) -> Same {
     for r in (0..records(w)).filter(|&r| w[FIRST + r] == NONE) {
         let kept = history.kept(r).ok_or_else(|| format!("record {r} has lost its ring, but nothing ended it"))?;
         let (reason, taker) = (w[REASON + r], w[TAKER + r] as usize);
@@ -115,13 +115,15 @@ fn same_kept(w: &[u32], history: &History) -> Same {
 
 /// Finished in one call: the reasons are those of the steps in rising order, and the tray has each path at the place told.
 fn in_one_call(room: &mut Room, rng: &mut Rng) -> Same {
-    room.work.lend(WORDS + rng.below(2) * rng.below(40), rng.bits() as u32);
+    let fill = rng.bits() as u32;
+    room.work.lend(WORDS + rng.below(2) * rng.below(40), fill);
     room.tray.lend(TRAY, 0);
     let answer = room.calls.finish(&room.paper[room.at..], room.work.get_mut(), room.tray.get_mut());
     room.trace.push(format!("finish: {answer}"));
     if answer != 0 {
         // Every word is 0: a good work space without a record.
-        return ask(room, rng.below(2) as u32, Err(12));
+        ask(room, rng.below(2) as u32, Err(12))?;
+        return room.freed(0);
     }
     let opened = open(room.job()).map_err(|number| format!("the Rust refuses the job with {number}"))?;
     let mut history = History::opened(&opened);
@@ -135,7 +137,8 @@ fn in_one_call(room: &mut Room, rng: &mut Rng) -> Same {
         Some(Built::Path(path)) => Some(path),
         _ => None,
     })?;
-    ask_all(room, rng, &history)
+    ask_all(room, rng, &history)?;
+    room.freed(fill)
 }
 
 /// Opened and stepped in any order, asked between the steps and at the end.
@@ -167,7 +170,8 @@ fn by_steps(room: &mut Room, rng: &mut Rng) -> Same {
         }
     }
     same_kept(room.work.get(), &history)?;
-    ask_all(room, rng, &history)
+    ask_all(room, rng, &history)?;
+    room.freed(fill)
 }
 
 /// What building the path of a record's ring comes to; none where it has no ring.
@@ -177,7 +181,7 @@ fn built(w: &[u32], r: usize) -> Option<Built> {
 }
 
 /// Document 02, Ask 5, read plainly of any words: the length and the tests, then 12, then what is kept of a record without a ring, or what its path comes to.
-fn told(w: &[u32], record: u32) -> Result<Reason, u32> {
+pub fn told(w: &[u32], record: u32) -> Result<Reason, u32> {
     plain::tests(w).map_err(u32::from)?;
     let r = record as usize;
     if r >= records(w) || (0..records(w)).any(|r| is_live(w, r)) {
@@ -199,20 +203,24 @@ fn told(w: &[u32], record: u32) -> Result<Reason, u32> {
 
 /// A finished or an opened work space with some words altered, reasons and takers mostly.
 fn altered(room: &mut Room, rng: &mut Rng) -> Same {
-    room.work.lend(WORDS + rng.below(2) * rng.below(20), rng.bits() as u32);
+    let fill = rng.bits() as u32;
+    room.work.lend(WORDS + rng.below(2) * rng.below(20), fill);
     room.tray.lend(TRAY, 0);
     let finish = !rng.one_in(6);
     let (work, job) = (room.work.get_mut(), &room.paper[room.at..]);
     let answer = if finish { room.calls.finish(job, work, room.tray.get_mut()) } else { room.calls.open(job, work) };
     room.trace.push(format!("{}: {answer}", if finish { "finish" } else { "open" }));
-    let w = &mut work[..WORDS];
+    let w = &mut work[..KEPT];
     if rng.one_in(8) {
-        room.trace.push(made_up(w, rng));
+        room.trace.push(made_up(&mut w[..BLOCK], rng));
         (0..records(w)).filter(|_| rng.one_in(3)).for_each(|r| w[MARK + r] = DONE);
     }
     for _ in 0..1 + rng.below(4) {
         let said = if rng.one_in(4) { alter(w, rng) } else { kept(w, rng) };
         room.trace.push(said);
+    }
+    if rng.one_in(4) {
+        room.trace.push(names_beside(w, rng));
     }
     for _ in 0..4 {
         let w = room.work.get();
@@ -221,5 +229,6 @@ fn altered(room: &mut Room, rng: &mut Rng) -> Same {
         let told = told(w, record);
         ask(room, record, told)?;
     }
-    ask_in(room, rng.below(WORDS), 0, Err(10))
+    ask_in(room, rng.below(WORDS), 0, Err(10))?;
+    room.behind(if answer == 0 { fill } else { 0 })
 }

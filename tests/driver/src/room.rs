@@ -5,7 +5,7 @@ use crate::lent::Lent;
 use crate::listed::TEXT;
 use crate::tally::Tally;
 use crate::tidied::Passes;
-use crate::words::WORDS;
+use crate::words::{KEPT, NAMES, WORDS};
 use oracle::guard::Guard;
 
 /// Document 01's length that always suffices.
@@ -68,10 +68,27 @@ impl Room {
         &self.paper[self.at..]
     }
 
-    /// What writing out leaves: every word; refused, every byte of a tray that was filled; else the paths' bytes and zeros.
+    /// The live block and the names.
+    pub fn front(&self) -> &[u32] {
+        &self.work.get()[..KEPT]
+    }
+
+    /// The words behind the names are as they were lent; each kind looks at them once, when a case is over.
+    pub fn behind(&self, fill: u32) -> Same {
+        let as_lent = self.work.get()[KEPT..].iter().all(|word| *word == fill);
+        expect(as_lent, || "a word behind the names is another".into())
+    }
+
+    /// A job was opened over words that were filled: no name is kept, and the words behind the names are as they were lent.
+    pub fn freed(&self, fill: u32) -> Same {
+        expect(all_zero(&self.work.get()[NAMES..KEPT]), || "opening leaves a name".into())?;
+        self.behind(fill)
+    }
+
+    /// What writing out leaves: every word of the front; refused, every byte of a tray that was filled; else the paths' bytes and zeros.
     pub fn wrote(&self, before: &[u32], number: u32, fill: u8, bytes: &[u8]) -> Same {
         self.margins()?;
-        expect(self.work.get() == before, || "writing out changes a word".into())?;
+        expect(self.front() == before, || "writing out changes a word".into())?;
         if number != 0 {
             return expect(self.tray.get().iter().all(|b| *b == fill), || {
                 "a refused writing out leaves another byte".into()

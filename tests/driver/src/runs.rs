@@ -3,7 +3,7 @@
 use crate::calls::Fault;
 use crate::room::{Room, Same};
 use crate::tally::Tally;
-use crate::{altered, canon, damage, drawn, finish, large, open, reasons, steps};
+use crate::{altered, canon, damage, drawn, finish, kept, large, open, reasons, steps};
 use oracle::gen;
 use oracle::rng::Rng;
 use std::panic::{catch_unwind, AssertUnwindSafe};
@@ -22,6 +22,7 @@ pub enum Kind {
     Altered,
     Canon,
     Reasons,
+    Kept,
     Drawn,
 }
 
@@ -33,6 +34,7 @@ pub const KINDS: &[(&str, Kind)] = &[
     ("altered", Kind::Altered),
     ("canon", Kind::Canon),
     ("reasons", Kind::Reasons),
+    ("kept", Kind::Kept),
     ("drawn", Kind::Drawn),
 ];
 
@@ -78,6 +80,10 @@ impl Kind {
                 room.start(&gen::job(seed, index), at);
                 reasons::case(room, &mut rng)
             }
+            Kind::Kept => {
+                room.start(&gen::job(seed, index), at);
+                kept::case(room, seed, index, &mut rng)
+            }
             Kind::Drawn => drawn::case(room, &mut rng),
         }
     }
@@ -98,6 +104,7 @@ impl Kind {
             }
             Kind::Canon => vec![("rewrite", (0..=8).chain(10..=11).collect()), ("finish", vec![0, 9, 10, 11])],
             Kind::Reasons => vec![("reason", vec![0, 3, 4, 5, 6, 7, 10, 12])],
+            Kind::Kept => kept::must_see(),
             Kind::Drawn => vec![("finish", vec![0, 3, 10, 11])],
         }
     }
@@ -107,6 +114,7 @@ impl Kind {
         match self {
             Kind::Altered => &["step", "write"],
             Kind::Reasons => &["reason"],
+            Kind::Kept => &kept::TESTED,
             _ => &[],
         }
     }
@@ -184,6 +192,9 @@ impl Run {
         let mut lacking: Vec<String> = must.flat_map(|(call, answers)| tally.lacking(call, &answers)).collect();
         if self.kind == Kind::Reasons {
             lacking.extend(tally.lacking_events(&reasons::TOLD));
+        }
+        if self.kind == Kind::Kept {
+            lacking.extend(tally.lacking_events(&kept::EVENTS));
         }
         if self.kind == Kind::Drawn {
             lacking.extend(tally.lacking_events(&drawn::SEEN));

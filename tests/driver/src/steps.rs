@@ -32,6 +32,7 @@ pub fn case(room: &mut Room, rng: &mut Rng) -> Same {
     let rising = steps(room, rng, &mut model, most)?;
     same_forest(room.work.get(), &model)?;
     expect(plain::tests(room.work.get()).is_ok(), || "the work space fails the tests".into())?;
+    room.freed(fill)?;
     let done = (0..model.records.len()).all(|r| model.due(r) == Due::Done);
     room.tally.event(if done { "lists until all are done" } else { "lists that end before" }, 1);
     if done && rising {
@@ -76,7 +77,7 @@ fn steps(room: &mut Room, rng: &mut Rng, model: &mut Forest, most: usize) -> Res
 fn as_in_one_call(room: &mut Room) -> Same {
     let mut work = vec![0; WORDS];
     let answer = room.calls.finish(&room.paper[room.at..], &mut work, room.tray.lend(TRAY, 0));
-    expect(answer == 0 && work == room.work.get()[..WORDS], || "finishing in one call leaves other words".into())?;
+    expect(answer == 0 && work[..KEPT] == *room.front(), || "finishing in one call leaves other words".into())?;
     room.tally.event("lists in rising order, the words as after finishing in one call", 1);
     Ok(())
 }
@@ -110,7 +111,7 @@ fn aside(room: &mut Room, rng: &mut Rng, model: &mut Forest, rising: bool) -> Sa
 
 /// One step on a record number, against the model; the answer.
 fn step(room: &mut Room, rng: &mut Rng, model: &mut Forest, number: u32) -> Result<u32, String> {
-    let before = room.work.get().to_vec();
+    let before = room.front().to_vec();
     let answer = room.calls.step(room.work.get_mut(), number);
     room.trace.push(format!("step {number}: {answer}"));
     room.tally.answer("step", answer);
@@ -118,7 +119,7 @@ fn step(room: &mut Room, rng: &mut Rng, model: &mut Forest, number: u32) -> Resu
     let theirs = act.err().map_or(0, u32::from);
     expect(answer == theirs, || format!("the step answers {answer}, the model {theirs}"))?;
     room.margins()?;
-    let w = room.work.get();
+    let w = &room.work.get()[..KEPT];
     let Ok(act) = act else {
         expect(w == before, || "a refused step leaves another word".into())?;
         return Ok(answer);
@@ -179,7 +180,7 @@ fn short_step(room: &mut Room, words: usize, number: u32) -> Same {
 
 /// Writing out against the model: 10 for the length, 12 while a closed ring isn't done, 11, else every byte.
 pub fn write_out(room: &mut Room, rng: &mut Rng, model: &Forest, words: usize, tray: usize) -> Same {
-    let before = room.work.get().to_vec();
+    let before = room.front().to_vec();
     let fill = 1 + rng.below(255) as u8;
     room.tray.lend(tray, fill);
     let answer = room.calls.write(&room.work.get()[..words], room.tray.get_mut());

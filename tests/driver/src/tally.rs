@@ -1,12 +1,12 @@
 // How often each call gave each answer, and each event came up.
-use crate::plain;
+use crate::{names, plain};
 use std::collections::BTreeMap;
 
 #[derive(Clone, Default)]
 pub struct Tally {
     answers: BTreeMap<(&'static str, u32), u64>,
     events: BTreeMap<&'static str, u64>,
-    /// How a call's refusals stood to what ringless records keep.
+    /// How a call's refusals stood to what ringless records keep, and to a name that is kept twice.
     kept: BTreeMap<(&'static str, &'static str), u64>,
 }
 
@@ -22,7 +22,8 @@ impl Tally {
     /// A call's answer on a work space that somebody altered.
     pub fn tested(&mut self, call: &'static str, w: &[u32], answer: u32) {
         self.answer(call, answer);
-        if let Some(name) = u8::try_from(answer).ok().and_then(|refusal| plain::kept(w, refusal)) {
+        let Ok(refusal) = u8::try_from(answer) else { return };
+        for name in plain::kept(w, refusal).into_iter().chain(names::stands(w, refusal)) {
             *self.kept.entry((call, name)).or_default() += 1;
         }
     }
@@ -50,9 +51,9 @@ impl Tally {
         events.iter().filter(|name| !self.events.contains_key(*name)).map(|name| name.to_string()).collect()
     }
 
-    /// In which ways a call's refusals never stood to what ringless records keep.
+    /// In which ways a call's refusals never stood to what ringless records keep, or to a name that is kept twice.
     pub fn lacking_kept(&self, call: &'static str) -> Vec<String> {
-        let missing = plain::KEPT.iter().filter(|name| !self.kept.contains_key(&(call, **name)));
+        let missing = plain::KEPT.iter().chain(&names::TWICE).filter(|name| !self.kept.contains_key(&(call, **name)));
         missing.map(|name| format!("{call} {name}")).collect()
     }
 

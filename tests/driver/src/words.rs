@@ -1,7 +1,6 @@
 // The work space as docs/WORKSPACE.md lays it out, written from that table and not from the code.
 use oracle::real::Pt;
 
-pub const WORDS: usize = 14_864;
 pub const MOST_POINTS: usize = 2048;
 pub const MOST_RECORDS: usize = 512;
 pub const NONE: u32 = 65_535;
@@ -25,6 +24,14 @@ pub const START: usize = PRESENT + MOST_RECORDS;
 pub const CUT: usize = START + MOST_RECORDS;
 pub const REASON: usize = CUT + MOST_RECORDS;
 pub const TAKER: usize = REASON + MOST_RECORDS;
+
+/// The live block; behind it a word for each place's name, and a copy of the block for each.
+pub const BLOCK: usize = TAKER + MOST_RECORDS;
+pub const STATES: usize = 4;
+pub const NAMES: usize = BLOCK;
+pub const KEPT: usize = NAMES + STATES;
+/// The fixed length.
+pub const WORDS: usize = KEPT + STATES * BLOCK;
 
 /// Why a record has no ring: none in the job, joined into another, and a step's three rules in the order of the marks.
 pub const NO_RING: u32 = 1;

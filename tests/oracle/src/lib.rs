@@ -30,6 +30,7 @@ pub mod stats;
 pub mod stepped;
 pub mod stored;
 pub mod text;
+pub mod trails;
 pub mod vectors;
 
 use std::io::Write;

@@ -3,7 +3,7 @@ use ::oracle::oracle::Oracle;
 use ::oracle::text::number;
 use ::oracle::{
     answer, batch, canon, canon_cases, cases, charge, gen, guard, output, raw, reasons, reasons_cases, runs, search,
-    show, stepped, stored, text, vectors,
+    show, stepped, stored, text, trails, vectors,
 };
 use std::io::Read;
 
@@ -56,6 +56,7 @@ fn run(words: &[&str]) -> Result<(), String> {
             let records: Result<Vec<u16>, String> = records.iter().map(|word| number(word)).collect();
             output(show::steps(&input()?, &records?).as_bytes())
         }
+        ["states", file] => trails::list(&input()?, file),
         ["show"] => output(text::show(&input()?).as_bytes()),
         ["text"] => {
             let words = String::from_utf8(input()?).map_err(|_| "a job as text is not UTF-8".to_string())?;

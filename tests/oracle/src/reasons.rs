@@ -87,6 +87,11 @@ pub struct History {
 }
 
 impl History {
+    /// No ring and no record, as a work space of zeros has it.
+    pub fn nothing() -> History {
+        History { forest: Forest::new(0, 0, Vec::new()), events: Vec::new(), steps: 0 }
+    }
+
     /// What reading and the joins did.
     pub fn opened(opened: &Opened) -> History {
         let forest = forest(opened);

@@ -11,6 +11,7 @@ use std::process::exit;
 const USAGE: &str = "usage: same_shapes JOB [--seed N] [--html FILE]
 
 Finishes the job in three orders: rising record numbers, falling ones, and shuffled, one step at a time (--seed N: another shuffle).
+The third keeps a state on its way, takes up to twelve steps more, and goes back to it.
 Rings are matched by their record, offcuts by the ring they were cut from and cutting order.
 --html FILE writes a page in which the steps of two orders can be played side by side.
 Ends with 0 if the shapes are the same, with 1 if not or if the job is refused, with 2 if it could not be run.";
@@ -64,7 +65,8 @@ fn report(run: &Run) {
         Ok(paths) => count(paths.len(), "path"),
         Err(Refused(number)) => format!("then refused {number}"),
     };
-    println!("{:9} {}, {}, {end}", run.order.name(), count(run.count, "step"), count(offcuts, "offcut"));
+    let back = run.taken_back.map_or(String::new(), |steps| format!("; {steps} more taken back"));
+    println!("{:9} {}, {}, {end}{back}", run.order.name(), count(run.count, "step"), count(offcuts, "offcut"));
 }
 
 /// What is to be said of three runs, and the status to end with.
