@@ -1,6 +1,7 @@
-// Alterations of a work space, by kind: counts, links, records, first points, progress marks, present places, reasons and takers, coordinates, names, any word;
+// Alterations of a work space, by kind: counts, links, records, first points, progress marks, present places, reasons and takers, coordinates, depths, names, any word;
 // and some that keep it sound but leave it in a state that our own calls never make.
 use crate::words::*;
+use oracle::gen;
 use oracle::rng::Rng;
 
 /// A number that names one of `count`, or nearly, or nothing at all.
@@ -70,13 +71,14 @@ fn count(w: &mut [u32], rng: &mut Rng) -> String {
     put(w, at, word)
 }
 
-/// A coordinate, a link or the record of a point on a ring.
+/// A coordinate, a depth, which may be any word, a link or the record of a point on a ring.
 fn point_word(w: &mut [u32], rng: &mut Rng) -> String {
     let Some(p) = ring_point(rng, w) else {
         return "nothing".into();
     };
     let (points, records) = (points(w), records(w));
-    match rng.below(8) {
+    match rng.below(9) {
+        8 => put(w, Z + p, any_depth(rng)),
         0 | 1 => {
             let near = (1 << 20) + rng.below(24) as u32;
             let word = rng.pick(&[0, 1 << 20, 1 << 21, (1 << 21) + 1, u32::MAX, near, near]);
@@ -86,6 +88,11 @@ fn point_word(w: &mut [u32], rng: &mut Rng) -> String {
         4 | 5 => put(w, PREV + p, number(rng, points)),
         _ => put(w, REC + p, number(rng, records)),
     }
+}
+
+/// The word of any depth.
+fn any_depth(rng: &mut Rng) -> u32 {
+    gen::depth(rng) as u32
 }
 
 /// One word of a record.
@@ -231,7 +238,7 @@ fn lone_point(w: &mut [u32], rng: &mut Rng) -> String {
         return "nothing".into();
     }
     (w[POINTS], w[RECORDS]) = (p as u32 + 1, r as u32 + 1);
-    (w[X + p], w[Y + p]) = (1 << 20, 1 << 20);
+    (w[X + p], w[Y + p], w[Z + p]) = (1 << 20, 1 << 20, any_depth(rng));
     (w[NEXT + p], w[PREV + p], w[REC + p]) = (p as u32, p as u32, r as u32);
     (w[FLAGS + r], w[OWNER + r], w[FIRST + r]) = (rng.one_in(6) as u32, NONE, p as u32);
     (w[MARK + r], w[PRESENT + r], w[START + r], w[CUT + r]) = (rng.below(5) as u32, p as u32, number(rng, p), NONE);
@@ -266,6 +273,7 @@ pub fn made_up(w: &mut [u32], rng: &mut Rng) -> String {
     (1..points).rev().for_each(|k| next.swap(k, rng.below(k + 1)));
     for p in 0..points {
         (w[X + p], w[Y + p]) = ((1 << 20) + rng.below(9) as u32, (1 << 20) + rng.below(9) as u32);
+        w[Z + p] = any_depth(rng);
         w[NEXT + p] = next[p] as u32;
         w[PREV + next[p]] = p as u32;
         w[REC + p] = if rng.one_in(80) { number(rng, records) } else { rng.below(records) as u32 };

@@ -26,11 +26,12 @@ fn built() -> Vec<u32> {
 }
 
 /// The altered words: column, place and what is written there.
-const ALTERED: [(usize, usize, u32); 16] = [
+const ALTERED: [(usize, usize, u32); 17] = [
     (POINTS, 0, MOST_POINTS as u32 + 1),
     (RECORDS, 0, MOST_RECORDS as u32 + 1),
     (X, 2, 2 * AT),
     (X, 2, 2 * AT + 1),
+    (Z, 2, 2 * AT + 1),
     (NEXT, 1, 8),
     (PREV, 5, 8),
     (REC, 0, 2),

@@ -1,7 +1,9 @@
 // The proved entry points as liboutline.a exports them. A slice is a pointer and a length.
 // A fault, which only the check of the driver itself switches on, spoils what a call left.
+use crate::depths;
 use crate::names::stands;
 use crate::plain::kept;
+use crate::room::TRAY;
 use crate::words::*;
 
 extern "C" {
@@ -91,6 +93,28 @@ pub enum Fault {
     ListFound,
     /// The words of a reversed job's listing go by the printed sign.
     ListWord,
+    /// A depth below zero is listed as its word, without a sign.
+    ListDepth,
+    /// Opening makes a copy without its point's depth.
+    OpenDepth,
+    /// A doubling makes its copy without the point's depth.
+    StepDoubled,
+    /// A crossing keeps the depth of the first edge's start.
+    StepCrossing,
+    /// A crossing has the depth of the second edge's end.
+    StepEnd,
+    /// A removal turn compares depths too: of two equal neighbours of different depths none goes.
+    StepEquals,
+    /// A step refuses a depth past the coordinate limit.
+    StepDepth,
+    /// Of neighbouring equals a path keeps the last one walked.
+    FinishLast,
+    /// A path keeps neighbouring equals of different depths.
+    FinishEquals,
+    /// Writing out keeps the last one walked.
+    WriteLast,
+    /// A job is written with its last point's depth 0.
+    RewriteDepth,
     /// A job is written with the points of its last join exchanged.
     RewriteJoin,
     /// A job is written with its last record's owner another.
@@ -196,6 +220,17 @@ pub const FAULTS: &[Fault] = &[
     Fault::ListDigit,
     Fault::ListFound,
     Fault::ListWord,
+    Fault::ListDepth,
+    Fault::OpenDepth,
+    Fault::StepDoubled,
+    Fault::StepCrossing,
+    Fault::StepEnd,
+    Fault::StepEquals,
+    Fault::StepDepth,
+    Fault::FinishLast,
+    Fault::FinishEquals,
+    Fault::WriteLast,
+    Fault::RewriteDepth,
     Fault::RewriteJoin,
     Fault::RewriteOwner,
     Fault::RewriteOrder,
@@ -279,6 +314,7 @@ impl Calls {
             Fault::OpenTaker if answer == 0 => {
                 (0..records(work)).for_each(|r| work[TAKER + r] = in_the_end(work, r) as u32)
             }
+            Fault::OpenDepth if answer == 0 => depths::opened(job, work),
             Fault::OpenReason if answer == 0 => {
                 (0..records(work)).for_each(|r| work[REASON + r] &= !NO_RING);
             }
@@ -290,8 +326,12 @@ impl Calls {
     pub fn step(self, work: &mut [u32], record: u32) -> u32 {
         let known = work.len() >= WORDS && (record as usize) < records(work).min(MOST_RECORDS);
         let held = if known { records(work) } else { 0 };
+        let before = depths::of_steps(self.0).then(|| work.to_vec());
         let answer = unsafe { outline_step(work.as_mut_ptr(), work.len(), record) };
         let r = record as usize;
+        if let (Some(before), 0) = (before, answer) {
+            return depths::stepped(self.0, &before, work, r);
+        }
         match (self.0, answer) {
             (Fault::StepAnswer, 12) if !known => return 5,
             (Fault::StepFound, 1..) if known => work[9] ^= 1,
@@ -317,6 +357,7 @@ impl Calls {
         match (self.0, answer) {
             (Fault::WriteFound, 1..) if !tray.is_empty() => tray[0] = 0,
             (Fault::WriteEarly, 12) => return 0,
+            (Fault::WriteLast, 0) => depths::walked(self.0, work, tray),
             (Fault::WriteTaker, 5) if kept(work, 5) == Some("5 for a taker alone") => return 0,
             (Fault::WriteReason, 7) if kept(work, 7).is_some() => return 0,
             _ => {}
@@ -335,11 +376,12 @@ impl Calls {
                     tray[last] ^= 1;
                 }
             }
-            (Fault::PastPaths, 0) if bytes == 17_920 && tray[bytes - 1] == 0 => tray[bytes - 1] = 1,
+            (Fault::PastPaths, 0) if bytes == TRAY && tray[bytes - 1] == 0 => tray[bytes - 1] = 1,
             (Fault::RefusedWord, 1..) if n > 0 => work[n - 1] = 1,
             (Fault::RefusedTray, 1..) if bytes > 0 => tray[bytes - 1] = 1,
             (Fault::FinishName, 0) => work[NAMES] = name,
             (Fault::FinishStart, 0) if records(work) > 0 => work[START] ^= 1,
+            (Fault::FinishLast | Fault::FinishEquals, 0) => depths::walked(self.0, work, tray),
             (Fault::FinishOwner, 0) if records(work) > 1 => work[OWNER + 1] = 0,
             _ => {}
         }
@@ -352,6 +394,7 @@ impl Calls {
         match self.0 {
             Fault::ListDigit if answer > 11 && rate > 0 => text[answer as usize - 2] ^= 1,
             Fault::ListFound if rate > 1000 && bytes > 0 => tray[0] = 0,
+            Fault::ListDepth => return depths::unsigned(text, answer as usize),
             Fault::ListWord if job.len() > 3 && job[3] & 2 != 0 => return exchanged(text, answer as usize),
             _ => {}
         }
@@ -369,6 +412,7 @@ impl Calls {
             (Fault::RewriteOwner, 0) if length > 8 && tray[length - 8] == 3 => tray[length - 4] ^= 1,
             (Fault::RewriteOrder, 8) if bytes < job.len() => return (11, 0),
             (Fault::RewriteKnot, 0) if oracle::oracle::open(job).is_err() => return (9, 0),
+            (Fault::RewriteDepth, 0) => depths::rewritten(tray, length),
             (Fault::RewriteWord, 0) => work[n - 1] = 1,
             (Fault::RewriteLength, 0) => return (0, length + 1),
             _ => {}

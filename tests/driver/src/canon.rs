@@ -5,7 +5,7 @@ use crate::room::{all_zero, expect, Room, Same};
 use crate::words::WORDS;
 use crate::{damage, large};
 use oracle::canon::{accepted, rewrite, rewrite_within};
-use oracle::copies::{self, CHANGES};
+use oracle::copies::{self, Change, CHANGES};
 use oracle::gen;
 use oracle::job::Job;
 use oracle::rng::Rng;
@@ -60,7 +60,18 @@ pub fn case(room: &mut Room, rng: &mut Rng) -> Same {
     room.start(&written, 1);
     one_call(room, rng)?;
     copied(room, rng, &job, &written)?;
+    deeper(room, rng, &job, &written)?;
     changed(room, rng, &job, &written)
+}
+
+/// Another depth of one point, which is written otherwise.
+fn deeper(room: &mut Room, rng: &mut Rng, job: &Job, written: &[u8]) -> Same {
+    let Some(other) = copies::changed(rng, job, Change::Depth) else { return Ok(()) };
+    let other = copies::again(rng, &other).bytes();
+    expect(rewrite(&other).is_ok_and(|bytes| bytes != written), || "the oracle writes another depth alike".into())?;
+    room.start(&other, 5);
+    room.tally.event("other depths", 1);
+    one_call(room, rng)
 }
 
 /// Another export of the same drawing, which is written alike; then one with records more that points may name.

@@ -1,7 +1,7 @@
 // Bytes for kind `bytes`: generated jobs with bytes flipped, cut off, doubled or moved, tags and lengths changed; right fields with
 // wrong numbers; noise.
 use oracle::gen;
-use oracle::job::{field, Job, Point, Record, NONE};
+use oracle::job::{field, Job, Point, Record, NONE, POINT};
 use oracle::rng::Rng;
 
 pub fn bytes(seed: u64, index: u64, rng: &mut Rng) -> Vec<u8> {
@@ -21,7 +21,7 @@ pub fn bytes(seed: u64, index: u64, rng: &mut Rng) -> Vec<u8> {
 /// Noise: any bytes, or only small ones, sometimes after a right settings field, sometimes longer than any job.
 fn noise(rng: &mut Rng) -> Vec<u8> {
     let length = match rng.below(16) {
-        0 => 42_000 + rng.below(30_000),
+        0 => 50_000 + rng.below(30_000),
         1..=4 => rng.below(4),
         _ => rng.below(120),
     };
@@ -46,7 +46,8 @@ fn loose_fields(rng: &mut Rng) -> Vec<u8> {
     // In any order, nexts go round in circles.
     let order = rng.order(points);
     for p in 0..points {
-        let mut point = Point { x: rng.from(0, 9), y: rng.from(0, 9), next: order[p], prev: 0, record: 0 };
+        let (x, y, z) = (rng.from(0, 9), rng.from(0, 9), gen::depth(rng));
+        let mut point = Point { x, y, z, next: order[p], prev: 0, record: 0 };
         point.prev = order.iter().position(|next| *next as usize == p).unwrap_or(0) as u16;
         point.record = number(rng, records, false);
         if rng.one_in(30) {
@@ -130,7 +131,7 @@ fn damage(rng: &mut Rng, mut bytes: Vec<u8>) -> Vec<u8> {
         8 => {
             let byte = field_at.start + 1 + rng.below(2);
             if byte < n {
-                bytes[byte] = rng.pick(&[0, 1, 2, 4, 5, 14, 255]);
+                bytes[byte] = rng.pick(&[0, 1, 2, 4, 5, 14, POINT as u8, 255]);
             }
         }
         9 => {
@@ -141,7 +142,7 @@ fn damage(rng: &mut Rng, mut bytes: Vec<u8>) -> Vec<u8> {
         }
         10 => {
             let tag = rng.below(8) as u8;
-            let length = [0, 1, 14, 5, 2, 4, 0, 3][tag as usize];
+            let length = [0, 1, POINT, 5, 2, 4, 0, 3][tag as usize];
             let value: Vec<u8> = (0..length).map(|_| rng.below(3) as u8).collect();
             bytes.extend(field(tag, &value));
         }

@@ -45,7 +45,7 @@ pub fn expected(room: &mut Room) -> Expected {
 pub fn work_length(rng: &mut Rng) -> usize {
     match rng.below(32) {
         0 => rng.below(WORDS),
-        1 => rng.pick(&[0, 1, 2, 3, 16, 10_256, BLOCK, KEPT, WORDS - 2, WORDS - 1]),
+        1 => rng.pick(&[0, 1, 2, 3, 16, FLAGS, BLOCK, KEPT, WORDS - 2, WORDS - 1]),
         2..=5 => WORDS + 1 + rng.below(60),
         _ => WORDS,
     }
@@ -154,7 +154,8 @@ pub fn read_tray(tray: &[u8], settings: u8) -> Option<Answer> {
         let length = u16::from_le_bytes([rest[1], rest[2]]) as usize;
         let value = rest.get(3..3 + length)?;
         let number = |part: &[u8]| i32::from_le_bytes(part.try_into().unwrap()) as i64;
-        let path = value.chunks_exact(8).map(|point| (number(&point[..4]), number(&point[4..]))).collect();
+        let point = |part: &[u8]| (number(&part[..4]), number(&part[4..8]), number(&part[8..]));
+        let path = value.chunks_exact(12).map(point).collect();
         match rest[0] {
             6 if open.is_empty() => closed.push(path),
             7 => open.push(path),

@@ -22,11 +22,12 @@ pub fn job(rng: &mut Rng) -> Vec<u8> {
             _ => gen::ring(rng),
         };
         let flags = rng.one_in(3) as u8 * FRONT + rng.one_in(16) as u8 * OPEN;
-        job.add_ring(flags, NONE, &ring);
+        job.add_ring(flags, NONE, &gen::flat(&ring));
     }
     if rng.one_in(2) {
         edges(rng, &mut job);
     }
+    gen::depths(rng, &mut job);
     job.bytes()
 }
 

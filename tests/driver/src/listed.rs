@@ -7,7 +7,7 @@ use oracle::charge::{self, Rate};
 use oracle::rng::Rng;
 
 /// A text of so many bytes has room for any listing; with a shorter one the call does nothing.
-pub const TEXT: usize = 54 + 49 * 512 + 44 * 2048 + 49;
+pub const TEXT: usize = 54 + 49 * 512 + 66 * 2048 + 49;
 
 const LARGEST: u32 = 1000;
 

@@ -5,6 +5,7 @@ mod audit_cases;
 mod calls;
 mod canon;
 mod damage;
+mod depths;
 mod drawn;
 mod finish;
 mod kept;

@@ -93,7 +93,7 @@ pub fn stray(before: &[u32], after: &[u32], record: usize) -> Option<usize> {
     }
     [FIRST, MARK, PRESENT, START].into_iter().for_each(|column| allow(column + record));
     for p in points(before)..points(after).min(MOST_POINTS) {
-        [X, Y, NEXT, PREV, REC].into_iter().for_each(|column| allow(column + p));
+        [X, Y, NEXT, PREV, REC, Z].into_iter().for_each(|column| allow(column + p));
     }
     for r in records(before)..records(after).min(MOST_RECORDS) {
         [FLAGS, OWNER, FIRST, MARK, PRESENT, START, CUT].into_iter().for_each(|column| allow(column + r));

@@ -45,7 +45,7 @@ fn as_opened(w: &[u32], opened: &Opened) -> Same {
     for (p, point) in opened.base.outpt_arena.iter().enumerate() {
         let theirs = [point.next as u32, point.prev as u32, point.outrec as u32];
         expect([w[NEXT + p], w[PREV + p], w[REC + p]] == theirs, || format!("point {p} as opened"))?;
-        expect(value(w, p) == (point.pt.x, point.pt.y), || format!("the place of point {p} as opened"))?;
+        expect(value(w, p) == real::value(&point.pt), || format!("x, y and z of point {p} as opened"))?;
     }
     for r in (0..records(w)).filter(|&r| w[FIRST + r] == NONE) {
         let told = w[REASON + r] == NO_RING || (w[REASON + r] == JOINED && w[TAKER + r] == w[OWNER + r]);

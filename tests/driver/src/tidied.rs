@@ -61,7 +61,7 @@ fn removal_turn(before: &[u32], after: &[u32], record: usize) -> Same {
     expect(is_turned(&rest, &new), || format!("record {record}: more than the point {at} went"))
 }
 
-/// No survivor meets the test, they are the ring's points in their cyclic order, and the doubled area is what it was; how many points went.
+/// No survivor meets the test, they are the ring's points, z too, in their cyclic order, and the doubled area is what it was; how many points went.
 fn whole_pass(keep: bool, start: &[Pt], now: &[Pt]) -> Result<usize, String> {
     let n = now.len();
     let stray = (0..n).find(|&i| removable(keep, now[(i + n - 1) % n], now[i], now[(i + 1) % n]));
@@ -73,11 +73,12 @@ fn whole_pass(keep: bool, start: &[Pt], now: &[Pt]) -> Result<usize, String> {
     Ok(start.len() - n)
 }
 
-/// The Rust's test in `clean_collinear`.
+/// The Rust's test in `clean_collinear`; equality ignores z.
 fn removable(keep: bool, a: Pt, b: Pt, c: Pt) -> bool {
     let in_line = (b.0 - a.0) * (c.1 - b.1) == (b.1 - a.1) * (c.0 - b.0);
     let dot = (b.0 - a.0) * (c.0 - b.0) + (b.1 - a.1) * (c.1 - b.1);
-    in_line && (b == a || b == c || !keep || dot < 0)
+    let same = |p: Pt, q: Pt| (p.0, p.1) == (q.0, q.1);
+    in_line && (same(b, a) || same(b, c) || !keep || dot < 0)
 }
 
 /// These stand in the list, in this order.

@@ -15,7 +15,8 @@ pub const Y: usize = X + MOST_POINTS;
 pub const NEXT: usize = Y + MOST_POINTS;
 pub const PREV: usize = NEXT + MOST_POINTS;
 pub const REC: usize = PREV + MOST_POINTS;
-pub const FLAGS: usize = REC + MOST_POINTS;
+pub const Z: usize = REC + MOST_POINTS;
+pub const FLAGS: usize = Z + MOST_POINTS;
 pub const OWNER: usize = FLAGS + MOST_RECORDS;
 pub const FIRST: usize = OWNER + MOST_RECORDS;
 pub const MARK: usize = FIRST + MOST_RECORDS;
@@ -69,8 +70,9 @@ pub fn is_open(w: &[u32], record: usize) -> bool {
     w[FLAGS + record] & 1 != 0
 }
 
+/// A point with its z, which is its word's 32 bits as a signed number.
 pub fn value(w: &[u32], point: usize) -> Pt {
-    (w[X + point] as i64 - RAISED, w[Y + point] as i64 - RAISED)
+    (w[X + point] as i64 - RAISED, w[Y + point] as i64 - RAISED, w[Z + point] as i32 as i64)
 }
 
 /// A record's ring: the points along next from the first; none where the walk does not come back.
