@@ -54,7 +54,8 @@ fn crossings() -> Job {
 
 /// 128 blocks in a row as a sweep leaves them before the last scanline's level segments are made into joins: their level edges at one height.
 fn level_segments() -> Job {
-    let blocks = (0..128).map(|k| square(40 * k, 0, 20).into_iter().map(|(x, y)| Point64::new(x.into(), y.into())).collect());
+    let blocks =
+        (0..128).map(|k| square(40 * k, 0, 20).into_iter().map(|(x, y)| Point64::new(x.into(), y.into())).collect());
     let drawing = Drawing { subject: blocks.collect(), ..Drawing::default() };
     cut::job(&drawing, Cut::Segments).expect("the sweep does not give up")
 }

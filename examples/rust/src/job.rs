@@ -1,6 +1,6 @@
 //! A job from rings, and one whose rings are too many for one job.
 use crate::{finish, paths, reason, Path, Point, Reason, Refused};
-use crate::{POINTS, RECORDS, TRAY_BYTES, WORK_WORDS};
+use crate::{JOB_BYTES, POINTS, RECORDS, TRAY_BYTES, WORK_WORDS};
 
 /// A ring of points, in the order in which they are walked, from its first point on.
 #[derive(Clone, Debug, Default, PartialEq, Eq)]
@@ -44,11 +44,12 @@ impl Job {
     }
 
     fn bytes_of(&self, rings: &[Ring]) -> Result<Vec<u8>, Refused> {
-        if rings.len() > RECORDS || rings.iter().map(|ring| ring.points.len()).sum::<usize>() > POINTS {
+        let all: usize = rings.iter().map(|ring| ring.points.len()).sum();
+        if rings.len() > RECORDS || all > POINTS {
             return Err(Refused::CROWDED);
         }
-        let settings = u8::from(self.preserve_collinear) + 2 * u8::from(self.reverse_solution);
-        let (mut points, mut records) = (field(1, &[&[settings]]), Vec::new());
+        let mut job = Vec::with_capacity(JOB_BYTES);
+        put(&mut job, 1, &[&[u8::from(self.preserve_collinear) + 2 * u8::from(self.reverse_solution)]]);
         let mut first = 0;
         for (record, ring) in rings.iter().enumerate() {
             let count = ring.points.len();
@@ -56,14 +57,17 @@ impl Job {
             for (k, p) in ring.points.iter().enumerate() {
                 let [x, y, z] = [p.x, p.y, p.z].map(i32::to_le_bytes);
                 let (next, prev, record) = (number(k + 1), number(k + count - 1), (record as u16).to_le_bytes());
-                points.extend(field(2, &[&x, &y, &next, &prev, &record, &z]));
+                put(&mut job, 2, &[&x, &y, &next, &prev, &record, &z]);
             }
-            let start = if count == 0 { NONE } else { first as u16 };
-            records.extend(field(3, &[&[u8::from(ring.open)], &NONE.to_le_bytes(), &start.to_le_bytes()]));
             first += count;
         }
-        points.extend(records);
-        Ok(points)
+        first = 0;
+        for ring in rings {
+            let start = if ring.points.is_empty() { NONE } else { first as u16 };
+            put(&mut job, 3, &[&[u8::from(ring.open)], &NONE.to_le_bytes(), &start.to_le_bytes()]);
+            first += ring.points.len();
+        }
+        Ok(job)
     }
 
     /// Finishes the rings and gives their outlines, closed ones before open ones, in the order in which the Rust would have them of all the rings at once: those of the rings, then
@@ -86,13 +90,12 @@ impl Job {
     }
 }
 
-/// A field: its tag, the length of its value, the value.
-fn field(tag: u8, parts: &[&[u8]]) -> Vec<u8> {
-    let value = parts.concat();
-    let mut field = vec![tag];
-    field.extend((value.len() as u16).to_le_bytes());
-    field.extend(value);
-    field
+/// Adds a field: its tag, the length of its value, the value.
+fn put(job: &mut Vec<u8>, tag: u8, parts: &[&[u8]]) {
+    let length: usize = parts.iter().map(|part| part.len()).sum();
+    job.push(tag);
+    job.extend_from_slice(&(length as u16).to_le_bytes());
+    parts.iter().for_each(|part| job.extend_from_slice(part));
 }
 
 /// How many rings from the first on one job can hold; one at least.

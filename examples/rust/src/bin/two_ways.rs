@@ -24,7 +24,7 @@ fn print_paths(work: &[u32]) -> Result<(), Refused> {
     let mut tray = vec![0; TRAY_BYTES];
     write(work, &mut tray)?;
     for path in paths(&tray) {
-        let points: String = path.points.iter().map(|(x, y)| format!(" {x},{y}")).collect();
+        let points: String = path.points.iter().map(|point| format!(" {point}")).collect();
         println!("{}{points}", if path.open { "open" } else { "closed" });
     }
     Ok(())
