@@ -45,6 +45,10 @@ record-at a b = 3 ∷ 5 ∷ 0 ∷ 0 ∷ 255 ∷ 255 ∷ a ∷ b ∷ []
 abbrev at : ℕ → ℕ → ℕ → ℕ → List ℕ
 at x nx pv r = 2 ∷ 18 ∷ 0 ∷ x ∷ 0 ∷ 0 ∷ 0 ∷ 0 ∷ 0 ∷ 0 ∷ 0 ∷ nx ∷ 0 ∷ pv ∷ 0 ∷ r ∷ 0 ∷ 0 ∷ 0 ∷ 0 ∷ 0 ∷ []
 
+-- a point with z's four bytes, a ring by itself
+abbrev deep : ℕ → ℕ → ℕ → ℕ → List ℕ
+deep a b c d = 2 ∷ 18 ∷ 0 ∷ 7 ∷ 0 ∷ 0 ∷ 0 ∷ 0 ∷ 0 ∷ 0 ∷ 0 ∷ 0 ∷ 0 ∷ 0 ∷ 0 ∷ 0 ∷ 0 ∷ a ∷ b ∷ c ∷ d ∷ []
+
 -- a record with these flags, owned by record 0, without points
 abbrev owned : ℕ → List ℕ
 owned f = 3 ∷ 5 ∷ 0 ∷ f ∷ 0 ∷ 0 ∷ 255 ∷ 255 ∷ []
@@ -71,6 +75,10 @@ rows =
     ∷ row (settings ++ point 0 0 16 0) 5
     ∷ row (settings ++ record-at 0 0) 5
     ∷ row (settings ++ record-at 255 255 ++ (5 ∷ 4 ∷ 0 ∷ 0 ∷ 0 ∷ 0 ∷ 0 ∷ [])) 5
+    -- a z that "row 4 doesn't bind": 1,048,577, the greatest and the least
+    ∷ row (settings ++ deep 1 0 16 0 ++ record-at 0 0) 0
+    ∷ row (settings ++ deep 255 255 255 127 ++ record-at 0 0) 0
+    ∷ row (settings ++ deep 0 0 0 128 ++ record-at 0 0) 0
     -- rings: three points, one; next of prev isn't the point
     ∷ row (settings ++ triangle) 0
     ∷ row (settings ++ at 7 0 0 0 ++ record-at 0 0) 0

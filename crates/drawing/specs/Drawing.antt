@@ -18,7 +18,7 @@ use Rattle.reading.specs.Fill.{ReadEnd, end}
 use Rattle.accepting.specs.Accept.{acceptOf}
 use Rattle.opening.specs.Open.{JOIN-POINTS}
 
--- a record: its flags, its owner, its "ring coordinates from the first point"
+-- a record: its flags, its owner, its "ring coordinates from the first point", z among them (Ask 9)
 pub record Drawn : Type 0 where
   pub flags : ℕ
   pub owner : ℕ

@@ -23,6 +23,7 @@ pub record Agree (d e : Drawing) : Type 0 where
   pub settings : d .settings ≡ e .settings
   pub flags : map (λ (r : Drawn). r .flags) (d .records) ≡ map (λ (r : Drawn). r .flags) (e .records)
   pub owners : map (λ (r : Drawn). r .owner) (d .records) ≡ map (λ (r : Drawn). r .owner) (e .records)
+  -- x, y and z: document 02, Ask 9, "one that differs gives different bytes"
   pub rings : map (λ (r : Drawn). r .ring) (d .records) ≡ map (λ (r : Drawn). r .ring) (e .records)
   pub segments : d .segments ≡ e .segments
   pub joins : d .joins ≡ e .joins

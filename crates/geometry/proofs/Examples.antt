@@ -24,6 +24,46 @@ at-twenty : crossingPoint (pt 0 0) (pt 10 10) (pt 10 0) (pt 0 20) ≡ pt 6 6
 unfolding getSegmentIntersectPt crossing fractionOf coordinateAt round units odd climb span size add sum mul ofInt toSigned
 at-twenty = refl
 
+-- ---- depths
+
+abbrev deep : ℕ → ℕ → ℕ → Point
+deep x y z = record { x = pos x; y = pos y; z = z }
+
+-- "Equality of points ignores z"
+same-place : samePoint (deep 3 4 1) (deep 3 4 2) ≡ true
+unfolding samePoint
+same-place = refl
+
+another-place : samePoint (deep 3 4 1) (deep 3 5 1) ≡ false
+unfolding samePoint
+another-place = refl
+
+-- "a crossing inside an edge gets 0", whatever its ends have
+crossing-flat : crossingPoint (deep 0 0 1) (deep 10 10 2) (deep 10 0 3) (deep 0 12 4) ≡ deep 5 5 0
+unfolding getSegmentIntersectPt crossing fractionOf coordinateAt round units odd climb span size add sum mul ofInt toSigned
+crossing-flat = refl
+
+-- inside is by the fraction: (5.29, 3.71) drops onto the first edge's start, and has 0 all the same
+onto-the-start : crossingPoint (deep 5 3 4) (deep 7 8 5) (deep 2 7 1) (deep 8 1 2) ≡ deep 5 3 0
+unfolding getSegmentIntersectPt crossing fractionOf coordinateAt round units odd climb span size add sum mul ofInt toSigned
+onto-the-start = refl
+
+-- at the first edge's start and at its end it is that point, z and all
+at-the-start : getSegmentIntersectPt (deep 5 0 7) (deep 9 0 8) (deep 5 0 1) (deep 5 9 2) (deep 9 9 9) ≡ deep 5 0 7
+unfolding getSegmentIntersectPt crossing fractionOf coordinateAt round units odd climb span size add sum mul ofInt toSigned
+at-the-start = refl
+
+at-the-end : getSegmentIntersectPt (deep 1 0 7) (deep 5 0 8) (deep 5 0 1) (deep 5 9 2) (deep 9 9 9) ≡ deep 5 0 8
+unfolding getSegmentIntersectPt crossing fractionOf coordinateAt round units odd climb span size add sum mul ofInt toSigned
+at-the-end = refl
+
+-- parallel edges leave what was there
+of-parallels : getSegmentIntersectPt (deep 0 0 7) (deep 5 0 8) (deep 0 1 1) (deep 5 1 2) (deep 9 9 9) ≡ deep 9 9 9
+unfolding getSegmentIntersectPt crossing fractionOf coordinateAt round units odd climb span size add sum mul ofInt toSigned
+of-parallels = refl
+
+-- ---- areas and tests
+
 -- the listing's two doubled areas
 area-piece : areaOutpt (pt 5 5 ∷ pt 0 12 ∷ pt 0 0 ∷ []) ≡ pos 60
 unfolding areaOutpt

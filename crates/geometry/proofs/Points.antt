@@ -8,6 +8,10 @@ use Rattle.exact.proofs.Size.{eqZ-true, eq-eqZ}
 use Rattle.geometry.specs.declared.Point.{Point}
 use Rattle.geometry.specs.Plane.{ground, samePoint}
 
+pub true-same : (p q : Point) → ground p ≡ ground q → samePoint p q ≡ true
+unfolding samePoint
+true-same p q e = rw (eq-eqZ (p .x) (q .x) (ap (λ (r : Point). r .x) e), eq-eqZ (p .y) (q .y) (ap (λ (r : Point). r .y) e))
+
 pub same-true : (p q : Point) → samePoint p q ≡ true → ground p ≡ ground q
 unfolding samePoint
 same-true p q e = go (eqZ (p .x) (q .x)) (eqZ (p .y) (q .y)) (eqZ-true (p .x) (q .x)) (eqZ-true (p .y) (q .y)) e
@@ -19,10 +23,6 @@ same-true p q e = go (eqZ (p .x) (q .x)) (eqZ (p .y) (q .y)) (eqZ-true (p .x) (q
     go true true h k e = both (h refl) (k refl)
     go true false h k e = absurd (false≢true e)
     go false t h k e = absurd (false≢true e)
-
-pub true-same : (p q : Point) → ground p ≡ ground q → samePoint p q ≡ true
-unfolding samePoint
-true-same p q e = rw (eq-eqZ (p .x) (q .x) (ap (λ (r : Point). r .x) e), eq-eqZ (p .y) (q .y) (ap (λ (r : Point). r .y) e))
 
 -- a point is equal to both or to neither of two that are one place
 pub same-as : (x p q : Point) → samePoint p q ≡ true → samePoint x p ≡ samePoint x q

@@ -23,9 +23,13 @@ row j p s = record { job = j; part = p; says = s }
 abbrev so : ℕ → ℕ → ℕ → ℕ → ℕ → Job
 so t p r s j = record { at = 0; last = t; bits = 0; points = p; records = r; segments = s; joins = j }
 
--- a point's last fourteen bytes: y -1, next 1, prev 2, record 0, z -2
-abbrev rest : List ℕ
-rest = 255 ∷ 255 ∷ 255 ∷ 255 ∷ 1 ∷ 0 ∷ 2 ∷ 0 ∷ 0 ∷ 0 ∷ 254 ∷ 255 ∷ 255 ∷ 255 ∷ []
+-- a point's last fourteen bytes: y -1, next 1, prev 2, record 0, and z's four
+abbrev rest : ℕ → ℕ → ℕ → ℕ → List ℕ
+rest a b c d = 255 ∷ 255 ∷ 255 ∷ 255 ∷ 1 ∷ 0 ∷ 2 ∷ 0 ∷ 0 ∷ 0 ∷ a ∷ b ∷ c ∷ d ∷ []
+
+-- a point's value without z: fourteen bytes
+abbrev shallow : List ℕ
+shallow = 0 ∷ 0 ∷ 0 ∷ 0 ∷ 255 ∷ 255 ∷ 255 ∷ 255 ∷ 1 ∷ 0 ∷ 2 ∷ 0 ∷ 0 ∷ 0 ∷ []
 
 abbrev pub rows : List Row
 rows =
@@ -39,12 +43,17 @@ rows =
     ∷ row fresh (1 ∷ 1 ∷ 0 ∷ 3 ∷ 2 ∷ 18 ∷ []) (Read (Settings 3) 4)
     ∷ row fresh (1 ∷ 1 ∷ 0 ∷ 4 ∷ []) (Refused Strange)
     ∷ row fresh (1 ∷ 2 ∷ 0 ∷ 4 ∷ 0 ∷ []) (Refused Torn)
-    -- a point: x 1,048,576 and 1,048,577, which row 4 will judge; one byte short; as it was before it had z; the 2,049th
-    ∷ row (so 1 0 0 0 0) (2 ∷ 18 ∷ 0 ∷ 0 ∷ 0 ∷ 16 ∷ 0 ∷ rest) (Read (Point 2097152 1048575 1 2 0 4294967294) 21)
-    ∷ row (so 2 2047 0 0 0) (2 ∷ 18 ∷ 0 ∷ 1 ∷ 0 ∷ 16 ∷ 0 ∷ rest) (Read (Point 2097153 1048575 1 2 0 4294967294) 21)
-    ∷ row (so 2 2047 0 0 0) (2 ∷ 18 ∷ 0 ∷ 0 ∷ 0 ∷ 0 ∷ rest) (Refused Torn)
-    ∷ row (so 1 0 0 0 0) (2 ∷ 14 ∷ 0 ∷ 0 ∷ 0 ∷ 0 ∷ 0 ∷ rest) (Refused Torn)
-    ∷ row (so 2 2048 0 0 0) (2 ∷ 18 ∷ 0 ∷ 0 ∷ 0 ∷ 0 ∷ 0 ∷ rest) (Refused Crowded)
+    -- a point: x 1,048,576 and 1,048,577, which row 4 will judge; one byte short; the 2,049th
+    ∷ row (so 1 0 0 0 0) (2 ∷ 18 ∷ 0 ∷ 0 ∷ 0 ∷ 16 ∷ 0 ∷ rest 254 255 255 255) (Read (Point 2097152 1048575 1 2 0 4294967294) 21)
+    ∷ row (so 2 2047 0 0 0) (2 ∷ 18 ∷ 0 ∷ 1 ∷ 0 ∷ 16 ∷ 0 ∷ rest 1 2 3 4) (Read (Point 2097153 1048575 1 2 0 67305985) 21)
+    ∷ row (so 2 2047 0 0 0) (2 ∷ 18 ∷ 0 ∷ 0 ∷ 0 ∷ 0 ∷ rest 0 0 0 0) (Refused Torn)
+    ∷ row (so 2 2048 0 0 0) (2 ∷ 18 ∷ 0 ∷ 0 ∷ 0 ∷ 0 ∷ 0 ∷ rest 0 0 0 0) (Refused Crowded)
+    -- its z: the greatest and the least are read like any other; without one the field is torn, after the tag and before the count
+    ∷ row (so 1 0 0 0 0) (2 ∷ 18 ∷ 0 ∷ 0 ∷ 0 ∷ 0 ∷ 0 ∷ rest 255 255 255 127) (Read (Point 1048576 1048575 1 2 0 2147483647) 21)
+    ∷ row (so 1 0 0 0 0) (2 ∷ 18 ∷ 0 ∷ 0 ∷ 0 ∷ 0 ∷ 0 ∷ rest 0 0 0 128) (Read (Point 1048576 1048575 1 2 0 2147483648) 21)
+    ∷ row (so 1 0 0 0 0) (2 ∷ 14 ∷ 0 ∷ shallow) (Refused Torn)
+    ∷ row (so 2 2048 0 0 0) (2 ∷ 14 ∷ 0 ∷ shallow) (Refused Torn)
+    ∷ row (so 3 1 1 0 0) (2 ∷ 14 ∷ 0 ∷ shallow) (Refused Strange)
     -- a record: no owner and no first point; the 513th with good bits and with a bad one
     ∷ row (so 2 9 511 0 0) (3 ∷ 5 ∷ 0 ∷ 2 ∷ 255 ∷ 255 ∷ 255 ∷ 255 ∷ []) (Read (Record 2 65535 65535) 8)
     ∷ row (so 3 9 512 0 0) (3 ∷ 5 ∷ 0 ∷ 2 ∷ 255 ∷ 255 ∷ 255 ∷ 255 ∷ []) (Refused Crowded)

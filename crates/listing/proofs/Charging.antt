@@ -15,6 +15,7 @@ use Rattle.rates.specs.declared.Charge.{Charge}
 use Rattle.rates.specs.Charge.{chargeOf}
 use Rattle.geometry.specs.Plane.{areaOutpt}
 use Rattle.geometry.proofs.Circles.{area-within}
+use Rattle.paths.specs.Tray.{POINT}
 use Rattle.listing.specs.Pour.{poured, pour}
 use Rattle.listing.specs.Text.{SPACE, NEWLINE, decimal, CHARGE}
 use Rattle.listing.specs.Fields.{pointsIn, valueLength, nextField, pathIn, pathsIn}
@@ -42,12 +43,12 @@ module _ (t : List ℕ) (n f left v : ℕ) (s : Netting t n f left (toZ w64 v)) 
     netting-field = fields .0
 
     module _ (l : ℕ) (e : l ≡ valueLength t f) (b : l < 65536) where
-      pub netting-sized : Sized t (l / 12) (f + 3)
+      pub netting-sized : Sized t (l / POINT) (f + 3)
       netting-sized = field-sized t f netting-field l e b
 
-      module _ (d : ℤ) (g : d ≡ areaOutpt (pointsIn t (l / 12) (f + 3))) where
+      module _ (d : ℤ) (g : d ≡ areaOutpt (pointsIn t (l / POINT) (f + 3))) where
         is-path : d ≡ areaOutpt (pathIn t f)
-        is-path = g ∙ ap (λ (k : ℕ). areaOutpt (pointsIn t (k / 12) (f + 3))) e
+        is-path = g ∙ ap (λ (k : ℕ). areaOutpt (pointsIn t (k / POINT) (f + 3))) e
 
         small : natAbs d ≤ length (pathIn t f) * 2 ^ 42
         small = omega (arith, ap natAbs is-path, area-within (pathIn t f) (netting-field .small) .size)

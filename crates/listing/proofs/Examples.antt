@@ -1,4 +1,4 @@
--- Document 01's listing, whole, from the tray's bytes; the same with the charge; the words under `reverse_solution`; and a refusal's line. By evaluation.
+-- Document 01's listing, whole, from the tray's bytes; the same with the charge; depths; the words under `reverse_solution`; and a refusal's line. By evaluation.
 use Prim.Native.Nat.{ℕ}
 use mathlib.Core.Path.{_≡_, refl}
 use mathlib.Core.Bool.{Bool, true, false}
@@ -7,8 +7,9 @@ use lib.IntN.{pos, negsuc}
 use Rattle.rates.specs.Charge.{chargeOf}
 use Rattle.geometry.specs.Plane.{areaOutpt}
 use Rattle.listing.specs.Text.{digits, PIECE, HOLE, FLAT}
-use Rattle.listing.specs.Fields.{pointIn}
-use Rattle.listing.specs.Lines.{wordOf, depthText, listingOf, refusedLine}
+use Rattle.listing.specs.Fields.{pointIn, asWords}
+use Rattle.listing.specs.Lines.{wordOf, depthText, pointText, listingOf, refusedLine}
+use Rattle.listing.specs.Room.{TEXT}
 use Rattle.listing.specs.Charge.{chargedOf}
 
 -- closed 5,5 0,12 0,0, then closed 10,10 10,0 5,5, all with z 0
@@ -35,7 +36,15 @@ charged : chargedOf false 1000 2 0 tray ≡ text ++ (99 ∷ 104 ∷ 97 ∷ 114 �
 unfolding chargedOf chargeOf listingOf digits pointIn areaOutpt tray text
 charged = refl
 
--- z is shown with its sign: the least, and -1
+-- z is a signed number of 32 bits: 0, the greatest, the least, -1; of a larger word its 32 bits count
+no-depth : depthText 0 ≡ 48 ∷ []
+unfolding digits
+no-depth = refl
+
+highest : depthText 2147483647 ≡ 50 ∷ 49 ∷ 52 ∷ 55 ∷ 52 ∷ 56 ∷ 51 ∷ 54 ∷ 52 ∷ 55 ∷ []
+unfolding digits
+highest = refl
+
 deepest : depthText 2147483648 ≡ 45 ∷ 50 ∷ 49 ∷ 52 ∷ 55 ∷ 52 ∷ 56 ∷ 51 ∷ 54 ∷ 52 ∷ 56 ∷ []
 unfolding digits
 deepest = refl
@@ -43,6 +52,27 @@ deepest = refl
 just-below : depthText 4294967295 ≡ 45 ∷ 49 ∷ []
 unfolding digits
 just-below = refl
+
+low-bits : depthText 4294967303 ≡ 55 ∷ []
+unfolding digits
+low-bits = refl
+
+-- "Listings show `x,y,z`": a space and 5,-6,-4
+shown : pointText (record { x = pos 5; y = negsuc 5; z = 4294967292 }) ≡ 32 ∷ 53 ∷ 44 ∷ 45 ∷ 54 ∷ 44 ∷ 45 ∷ 52 ∷ []
+unfolding digits
+shown = refl
+
+-- and so it is read from twelve bytes, whose z keeps 32 bits
+read-back : pointIn (5 ∷ 0 ∷ 0 ∷ 0 ∷ 250 ∷ 255 ∷ 255 ∷ 255 ∷ 252 ∷ 255 ∷ 255 ∷ 255 ∷ []) 0 ≡ record { x = pos 5; y = negsuc 5; z = 4294967292 }
+unfolding pointIn
+read-back = refl
+
+kept-bits : asWords (record { x = pos 5; y = negsuc 5; z = 4294967303 }) ≡ record { x = pos 5; y = negsuc 5; z = 7 }
+kept-bits = refl
+
+-- no listing is longer
+pub text-is : TEXT ≡ 160359
+text-is = refl
 
 -- with the setting -60 is a piece and 50 a hole; zero is flat under either
 reversed-piece : wordOf true (negsuc 59) ≡ PIECE

@@ -14,6 +14,7 @@ use Rattle.exact.proofs.Size.{fits-size}
 use Rattle.geometry.specs.Plane.{areaOutpt}
 use Rattle.geometry.specs.Table.{AllInTable}
 use Rattle.geometry.proofs.Circles.{area-within}
+use Rattle.paths.specs.Tray.{POINT}
 use Rattle.listing.specs.Pour.{poured, pour}
 use Rattle.listing.specs.Text.{SPACE, decimal, signedText, LINE}
 use Rattle.listing.specs.Fields.{pointsIn, valueLength, pathIn}
@@ -23,7 +24,7 @@ use Rattle.listing.proofs.Pouring.{pour-more}
 
 length-points : (t : List ℕ) (n at : ℕ) → length (pointsIn t n at) ≡ n
 length-points t zero at = refl
-length-points t (suc n) at = ap suc (length-points t n (at + 12))
+length-points t (suc n) at = ap suc (length-points t n (at + POINT))
 
 -- ---- a doubled area
 
@@ -63,17 +64,17 @@ closed-head t n at rev o k a o₁ o₂ e f = f ∙ ap (λ (x : Bool). pour (head
 -- ---- a line
 
 module _ (t : List ℕ) (from : ℕ) (f : FieldIn t from) (v : ℕ) (e : v ≡ valueLength t from) (l : v < 65536) where
-  pub field-sized : Sized t (v / 12) (from + 3)
+  pub field-sized : Sized t (v / POINT) (from + 3)
   field-sized =
       record {
-        run = record { inside = omega (arith, f .inside, e); small = subst (λ (k : ℕ). AllInTable (pointsIn t (k / 12) (from + 3))) (sym e) (f .small) };
+        run = record { inside = omega (arith, f .inside, e); small = subst (λ (k : ℕ). AllInTable (pointsIn t (k / POINT) (from + 3))) (sym e) (f .small) };
         few = omega arith;
       }
 
-  pub line-poured : (rev o : Bool) (k a b c : ℕ) (o₁ o₂ o₃ o₄ : List ℕ) → poured a o₂ ≡ pour (headOf rev o (pointsIn t (v / 12) (from + 3))) k o₁
-      → poured b o₃ ≡ pour (pointsText (pointsIn t (v / 12) (from + 3))) a o₂ → poured c o₄ ≡ pour (10 ∷ []) b o₃ → poured c o₄ ≡ pour (lineOf rev o (pathIn t from)) k o₁
+  pub line-poured : (rev o : Bool) (k a b c : ℕ) (o₁ o₂ o₃ o₄ : List ℕ) → poured a o₂ ≡ pour (headOf rev o (pointsIn t (v / POINT) (from + 3))) k o₁
+      → poured b o₃ ≡ pour (pointsText (pointsIn t (v / POINT) (from + 3))) a o₂ → poured c o₄ ≡ pour (10 ∷ []) b o₃ → poured c o₄ ≡ pour (lineOf rev o (pathIn t from)) k o₁
   line-poured rev o k a b c o₁ o₂ o₃ o₄ g h i =
-      pour-more (headOf rev o (pointsIn t (v / 12) (from + 3)) ++ pointsText (pointsIn t (v / 12) (from + 3))) (10 ∷ []) o₁ o₃ o₄ k b c
-      (pour-more (headOf rev o (pointsIn t (v / 12) (from + 3))) (pointsText (pointsIn t (v / 12) (from + 3))) o₁ o₂ o₃ k a b g h)
+      pour-more (headOf rev o (pointsIn t (v / POINT) (from + 3)) ++ pointsText (pointsIn t (v / POINT) (from + 3))) (10 ∷ []) o₁ o₃ o₄ k b c
+      (pour-more (headOf rev o (pointsIn t (v / POINT) (from + 3))) (pointsText (pointsIn t (v / POINT) (from + 3))) o₁ o₂ o₃ k a b g h)
       i
-      ∙ ap (λ (m : ℕ). pour (lineOf rev o (pointsIn t (m / 12) (from + 3))) k o₁) e
+      ∙ ap (λ (m : ℕ). pour (lineOf rev o (pointsIn t (m / POINT) (from + 3))) k o₁) e

@@ -15,6 +15,7 @@ use Rattle.geometry.specs.declared.Point.{Point}
 use Rattle.geometry.specs.Plane.{edgeArea, areaFrom, areaOutpt}
 use Rattle.geometry.specs.Table.{InTable, AllInTable}
 use Rattle.geometry.proofs.Coordinates.{edge-within}
+use Rattle.paths.specs.Tray.{POINT}
 use Rattle.listing.specs.Pour.{poured, pour}
 use Rattle.listing.specs.Fields.{pointIn, pointsIn}
 use Rattle.listing.specs.Needs.{Held, Run, Adding}
@@ -27,16 +28,16 @@ pub less : (k : ℕ) → 0 < k → k ≡ suc (k - 1)
 less k h = omega arith
 
 module _ (t : List ℕ) where
-  run-next : (m f : ℕ) → Run t (suc m) f → Held t f × Run t m (f + 12)
+  run-next : (m f : ℕ) → Run t (suc m) f → Held t f × Run t m (f + POINT)
   run-next m f r = (record { inside = omega (arith, r .inside); small = r .small .0 }, record { inside = omega (arith, r .inside); small = r .small .1 })
 
   pub run-head : (left f : ℕ) → Run t left f → 0 < left → Held t f
   run-head left f r h = run-next (left - 1) f (subst (λ (k : ℕ). Run t k f) (less left h) r) .0
 
-  pub run-rest : (left f : ℕ) → Run t left f → 0 < left → Run t (left - 1) (f + 12)
+  pub run-rest : (left f : ℕ) → Run t left f → 0 < left → Run t (left - 1) (f + POINT)
   run-rest left f r h = run-next (left - 1) f (subst (λ (k : ℕ). Run t k f) (less left h) r) .1
 
-  points-next : (left f : ℕ) → 0 < left → pointsIn t left f ≡ pointIn t f ∷ pointsIn t (left - 1) (f + 12)
+  points-next : (left f : ℕ) → 0 < left → pointsIn t left f ≡ pointIn t f ∷ pointsIn t (left - 1) (f + POINT)
   points-next left f h = ap (λ (k : ℕ). pointsIn t k f) (less left h)
 
   points-none : (left f : ℕ) → left ≤ 0 → pointsIn t left f ≡ []
@@ -48,14 +49,14 @@ pub showing-begins : (t : List ℕ) (from n at : ℕ) (out : List ℕ) → Run t
 showing-begins t from n at out r = record { rest = r; done = []; is = pour-none out at; all = refl }
 
 module _ (t : List ℕ) (from n at : ℕ) (out₀ out : List ℕ) (k f left : ℕ) (s : Showing t from n at out₀ out k f left) where
-  pub showing-on : (k′ : ℕ) (out′ : List ℕ) → 0 < left → poured k′ out′ ≡ pour (pointText (pointIn t f)) k out → Showing t from n at out₀ out′ k′ (f + 12) (left - 1)
+  pub showing-on : (k′ : ℕ) (out′ : List ℕ) → 0 < left → poured k′ out′ ≡ pour (pointText (pointIn t f)) k out → Showing t from n at out₀ out′ k′ (f + POINT) (left - 1)
   showing-on k′ out′ h e =
       record {
         rest = run-rest t left f (s .rest) h;
         done = s .done ++ pointText (pointIn t f);
         is = pour-more (s .done) (pointText (pointIn t f)) out₀ out out′ at k k′ (s .is) e;
         all =
-            append-assoc (s .done) (pointText (pointIn t f)) (pointsText (pointsIn t (left - 1) (f + 12)))
+            append-assoc (s .done) (pointText (pointIn t f)) (pointsText (pointsIn t (left - 1) (f + POINT)))
             ∙ ap (λ (l : List Point). s .done ++ pointsText l) (sym (points-next t left f h))
             ∙ s .all;
       }
@@ -82,28 +83,28 @@ edge-is t prev at p q r h g e f i =
 
 -- ---- the sum
 
-last-is : (t : List ℕ) (m from : ℕ) → lastOf (pointIn t from) (pointsIn t m (from + 12)) ≡ pointIn t (from + 12 * m)
-last-is t zero from = let z : from ≡ from + 12 * 0 = omega arith in ap (pointIn t) z
-last-is t (suc m) from = let z : from + 12 + 12 * m ≡ from + 12 * suc m = omega arith in last-is t m (from + 12) ∙ ap (pointIn t) z
+last-is : (t : List ℕ) (m from : ℕ) → lastOf (pointIn t from) (pointsIn t m (from + POINT)) ≡ pointIn t (from + POINT * m)
+last-is t zero from = let z : from ≡ from + POINT * 0 = omega arith in ap (pointIn t) z
+last-is t (suc m) from = let z : from + POINT + POINT * m ≡ from + POINT * suc m = omega arith in last-is t m (from + POINT) ∙ ap (pointIn t) z
 
-last-small : (t : List ℕ) (m from : ℕ) → AllInTable (pointsIn t (suc m) from) → InTable (pointIn t (from + 12 * m))
-last-small t zero from h = let z : from ≡ from + 12 * 0 = omega arith in subst (λ (k : ℕ). InTable (pointIn t k)) z (h .0)
-last-small t (suc m) from h = let z : from + 12 + 12 * m ≡ from + 12 * suc m = omega arith in subst (λ (k : ℕ). InTable (pointIn t k)) z (last-small t m (from + 12) (h .1))
+last-small : (t : List ℕ) (m from : ℕ) → AllInTable (pointsIn t (suc m) from) → InTable (pointIn t (from + POINT * m))
+last-small t zero from h = let z : from ≡ from + POINT * 0 = omega arith in subst (λ (k : ℕ). InTable (pointIn t k)) z (h .0)
+last-small t (suc m) from h = let z : from + POINT + POINT * m ≡ from + POINT * suc m = omega arith in subst (λ (k : ℕ). InTable (pointIn t k)) z (last-small t m (from + POINT) (h .1))
 
-begins : (t : List ℕ) (from m : ℕ) → Run t (suc m) from → suc m ≤ 8191 → Adding t (from + 12 * m) from (suc m) (pos 0) (areaOutpt (pointsIn t (suc m) from))
+begins : (t : List ℕ) (from m : ℕ) → Run t (suc m) from → suc m ≤ 8191 → Adding t (from + POINT * m) from (suc m) (pos 0) (areaOutpt (pointsIn t (suc m) from))
 unfolding areaOutpt
 begins t from m r h =
     record {
       before = record { inside = omega (arith, r .inside); small = last-small t m from (r .small) };
       rest = r;
-      sum = +ℤ-idl (areaFrom (pointIn t (from + 12 * m)) (pointsIn t (suc m) from)) ∙ ap (λ (p : Point). areaFrom p (pointsIn t (suc m) from)) (sym (last-is t m from));
+      sum = +ℤ-idl (areaFrom (pointIn t (from + POINT * m)) (pointsIn t (suc m) from)) ∙ ap (λ (p : Point). areaFrom p (pointsIn t (suc m) from)) (sym (last-is t m from));
       low = omega arith;
     }
 
-pub adding-begins : (t : List ℕ) (from n : ℕ) → Run t n from → n ≤ 8191 → n ≢ 0 → Adding t (from + 12 * (n - 1)) from n (pos 0) (areaOutpt (pointsIn t n from))
+pub adding-begins : (t : List ℕ) (from n : ℕ) → Run t n from → n ≤ 8191 → n ≢ 0 → Adding t (from + POINT * (n - 1)) from n (pos 0) (areaOutpt (pointsIn t n from))
 adding-begins t from n r h d =
     let z : suc (n - 1) ≡ n = omega arith in
-    subst (λ (k : ℕ). Adding t (from + 12 * (n - 1)) from k (pos 0) (areaOutpt (pointsIn t k from))) z (begins t from (n - 1) (subst (λ (k : ℕ). Run t k from) (sym z) r) (omega arith))
+    subst (λ (k : ℕ). Adding t (from + POINT * (n - 1)) from k (pos 0) (areaOutpt (pointsIn t k from))) z (begins t from (n - 1) (subst (λ (k : ℕ). Run t k from) (sym z) r) (omega arith))
 
 pub none-area : (t : List ℕ) (from n : ℕ) → n ≡ 0 → pos 0 ≡ areaOutpt (pointsIn t n from)
 unfolding areaOutpt
@@ -132,15 +133,15 @@ module _ (t : List ℕ) (prev at left v : ℕ) (total : ℤ) (s : Adding t prev 
     held : toZ w64 (ofZ w64 (toZ w64 v +ℤ toZ w64 (ofZ w64 d))) ≡ toZ w64 v +ℤ d
     held = toZ-ofZ adding-fits ∙ plain
 
-    pub adding-on : Adding t at (at + 12) (left - 1) (toZ w64 (ofZ w64 (toZ w64 v +ℤ toZ w64 (ofZ w64 d)))) total
+    pub adding-on : Adding t at (at + POINT) (left - 1) (toZ w64 (ofZ w64 (toZ w64 v +ℤ toZ w64 (ofZ w64 d)))) total
     adding-on =
-        subst (λ (y : ℤ). Adding t at (at + 12) (left - 1) y total) (sym held)
+        subst (λ (y : ℤ). Adding t at (at + POINT) (left - 1) y total) (sym held)
         (record {
           before = run-head t left at (s .rest) h;
           rest = run-rest t left at (s .rest) h;
           sum =
-              +ℤ-assoc (toZ w64 v) d (areaFrom (pointIn t at) (pointsIn t (left - 1) (at + 12)))
-              ∙ ap (λ (y : ℤ). toZ w64 v +ℤ (y +ℤ areaFrom (pointIn t at) (pointsIn t (left - 1) (at + 12)))) e
+              +ℤ-assoc (toZ w64 v) d (areaFrom (pointIn t at) (pointsIn t (left - 1) (at + POINT)))
+              ∙ ap (λ (y : ℤ). toZ w64 v +ℤ (y +ℤ areaFrom (pointIn t at) (pointsIn t (left - 1) (at + POINT)))) e
               ∙ ap (λ (l : List Point). toZ w64 v +ℤ areaFrom (pointIn t prev) l) (sym (points-next t left at h))
               ∙ s .sum;
           low = omega (arith, near, s .low);

@@ -25,7 +25,7 @@ use Rattle.store.specs.Words.{Store}
 use Rattle.store.specs.Sound.{recs}
 use Rattle.store.specs.Good.{Sound}
 use Rattle.paths.specs.Path.{closedPaths, openPaths}
-use Rattle.paths.specs.Tray.{lowBytes, i32Bytes, pointBytes, pathBytes, pathField, tagOf, fields, fieldsOf, padded, over}
+use Rattle.paths.specs.Tray.{POINT, lowBytes, i32Bytes, pointBytes, pathBytes, pathField, tagOf, fields, fieldsOf, padded, over}
 use Rattle.paths.proofs.Laying.{length-lowBytes, length-pointBytes, put-over}
 use Rattle.paths.proofs.Counts.{length-pathField}
 use Rattle.paths.proofs.Tables.{Fit, Each, paths-fit}
@@ -82,10 +82,10 @@ points-in (p ∷ ps) a b h =
     let r : List ℕ = pathBytes ps in
     let e : a ++ (q ++ r) ++ b ≡ a ++ q ++ (r ++ b) = simp append-assoc in
     let f : a ++ (q ++ r) ++ b ≡ (a ++ q) ++ r ++ b = simp append-assoc in
-    let g : length a + 12 ≡ length (a ++ q) = omega (arith, length-append a q, length-pointBytes p) in
+    let g : length a + POINT ≡ length (a ++ q) = omega (arith, length-append a q, length-pointBytes p) in
     let u : pointIn (a ++ (q ++ r) ++ b) (length a) ≡ asWords p = ap (λ (l : List ℕ). pointIn l (length a)) e ∙ point-in p a (r ++ b) (h .0) in
-    let v : pointsIn (a ++ (q ++ r) ++ b) (length ps) (length a + 12) ≡ map asWords ps =
-    ap (λ (l : List ℕ). pointsIn l (length ps) (length a + 12)) f ∙ ap (λ (k : ℕ). pointsIn ((a ++ q) ++ r ++ b) (length ps) k) g ∙ points-in ps (a ++ q) b (h .1)
+    let v : pointsIn (a ++ (q ++ r) ++ b) (length ps) (length a + POINT) ≡ map asWords ps =
+    ap (λ (l : List ℕ). pointsIn l (length ps) (length a + POINT)) f ∙ ap (λ (k : ℕ). pointsIn ((a ++ q) ++ r ++ b) (length ps) k) g ∙ points-in ps (a ++ q) b (h .1)
     in
     rw (u, v)
 
@@ -127,10 +127,10 @@ module _ (tag : ℕ) (path : List Point) (a b : List ℕ) (h : Fit path) where
   t : List ℕ
   t = a ++ pathField tag path ++ b
 
-  value-is : valueLength t (length a) ≡ 12 * length path
+  value-is : valueLength t (length a) ≡ POINT * length path
   unfolding t pathField
   value-is =
-      let n = 12 * length path in
+      let n = POINT * length path in
       let e : a ++ ((tag ∷ []) ++ lowBytes 2 n ++ pathBytes path) ++ b ≡ (a ++ (tag ∷ [])) ++ lowBytes 2 n ++ (pathBytes path ++ b) = simp append-assoc in
       let g : length a + 1 ≡ length (a ++ (tag ∷ [])) = omega (arith, length-append a (tag ∷ [])) in
       ap (le 2 (length a + 1)) e ∙ ap (λ (k : ℕ). le 2 k ((a ++ (tag ∷ [])) ++ lowBytes 2 n ++ (pathBytes path ++ b))) g
@@ -140,12 +140,12 @@ module _ (tag : ℕ) (path : List Point) (a b : List ℕ) (h : Fit path) where
   field-path : pathIn t (length a) ≡ map asWords path
   unfolding t pathField
   field-path =
-      let n = 12 * length path in
+      let n = POINT * length path in
       let m : List ℕ = a ++ ((tag ∷ []) ++ lowBytes 2 n) in
-      let d : n / 12 ≡ length path = omega arith in
+      let d : n / POINT ≡ length path = omega arith in
       let e : a ++ ((tag ∷ []) ++ lowBytes 2 n ++ pathBytes path) ++ b ≡ m ++ pathBytes path ++ b = simp append-assoc in
       let g : length a + 3 ≡ length m = omega (arith, length-append a ((tag ∷ []) ++ lowBytes 2 n)) in
-      ap (λ (k : ℕ). pointsIn (a ++ ((tag ∷ []) ++ lowBytes 2 n ++ pathBytes path) ++ b) (k / 12) (length a + 3)) value-is
+      ap (λ (k : ℕ). pointsIn (a ++ ((tag ∷ []) ++ lowBytes 2 n ++ pathBytes path) ++ b) (k / POINT) (length a + 3)) value-is
       ∙ ap (λ (k : ℕ). pointsIn (a ++ ((tag ∷ []) ++ lowBytes 2 n ++ pathBytes path) ++ b) k (length a + 3)) d
       ∙ ap (λ (l : List ℕ). pointsIn l (length path) (length a + 3)) e
       ∙ ap (λ (k : ℕ). pointsIn (m ++ pathBytes path ++ b) (length path) k) g

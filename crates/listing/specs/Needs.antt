@@ -9,6 +9,7 @@ use Rattle.rings.specs.Count.{sumBy}
 use Rattle.geometry.specs.declared.Point.{Point}
 use Rattle.geometry.specs.Plane.{areaFrom}
 use Rattle.geometry.specs.Table.{InTable, AllInTable}
+use Rattle.paths.specs.Tray.{POINT}
 use Rattle.listing.specs.Fields.{nextField, pathIn, pointIn, pointsIn, pathsIn, fieldAfter}
 use mathlib.Core.Bool.{Bool}
 use Rattle.listing.specs.Pour.{poured, pour}
@@ -19,12 +20,12 @@ use Rattle.listing.specs.declared.Listed.the-variants.{Bytes, NoRoom}
 
 -- a point within the tray and within the limit
 pub record Held (t : List ℕ) (at : ℕ) : Type 0 where
-  pub inside : at + 12 ≤ length t
+  pub inside : at + POINT ≤ length t
   pub small : InTable (pointIn t at)
 
 -- n points within the tray and within the limit
 pub record Run (t : List ℕ) (n at : ℕ) : Type 0 where
-  pub inside : at + 12 * n ≤ length t
+  pub inside : at + POINT * n ≤ length t
   pub small : AllInTable (pointsIn t n at)
 
 -- the same of one path: there are no more than a field's length allows

@@ -8,6 +8,7 @@ use crate::put_decimal;
 use crate::put_listing;
 use crate::put_text;
 use crate::value_length;
+use paths::POINT;
 use rates::Charge;
 use rates::charge_of;
 ghost use mathlib.Core.Path.{_≡_};
@@ -31,7 +32,7 @@ fn net_area(t: &[u8], n: usize) -> i64
     let mut left = n;
     while 0 < left {
         let length = value_length(t, f);
-        let e = area_in(t, f + 3, length / 12);
+        let e = area_in(t, f + 3, length / POINT);
         a = a + e;
         f = f + 3 + length;
         left -= 1;

@@ -3,6 +3,7 @@ pub mod charge;
 
 use geometry::Point;
 use job::Job;
+use paths::POINT;
 use store::points::lower;
 ghost use mathlib.Core.Path.{_≡_};
 ghost use mathlib.Core.Bool.{cond};
@@ -146,18 +147,24 @@ fn put_place(t: &[u8], from: usize, out: &mut [u8], at: usize) -> usize
     put_signed(out, c, p.y as i64)
 }
 
+// From this word on, 2^31, the sign's bit is set and z is below zero.
+const SIGN: u32 = 2147483648;
+
+// Its number is then so much less than its word: 2^32.
+const WORDS: u64 = 4294967296;
+
 // How far below zero the signed number is that a z's word stands for.
 fn depth_below(z: u32) -> u64
     ensures { λ r. ⌜ (r ≡ 4294967296 - z) × (z < 4294967296) ⌝ }
 {
-    4294967296 - z as u64
+    WORDS - z as u64
 }
 
 // The signed number that a z's word is.
 fn put_depth(out: &mut [u8], at: usize, z: u32) -> usize
     ensures { λ r. ⌜ poured r (now (out .exit)) ≡ pour (depthText z) at (now (out .entry)) ⌝ }
 {
-    if z < 2147483648 {
+    if z < SIGN {
         return put_decimal(out, at, z as u64);
     }
     let n = depth_below(z);
@@ -186,7 +193,7 @@ fn put_points(t: &[u8], from: usize, n: usize, out: &mut [u8], at: usize) -> usi
     let mut left = n;
     while 0 < left {
         k = put_point(t, f, out, k);
-        f += 12;
+        f += POINT;
         left -= 1;
     }
     k
@@ -211,14 +218,14 @@ fn area_in(t: &[u8], from: usize, n: usize) -> i64
         return 0;
     }
     let mut a: i64 = 0;
-    let mut prev = from + 12 * (n - 1);
+    let mut prev = from + POINT * (n - 1);
     let mut at = from;
     let mut left = n;
     while 0 < left {
         let e = edge_in(t, prev, at);
         a = a + e;
         prev = at;
-        at += 12;
+        at += POINT;
         left -= 1;
     }
     a
@@ -272,7 +279,7 @@ fn put_line(t: &[u8], from: usize, rev: bool, opened: bool, out: &mut [u8], at: 
     ensures { λ r. ⌜ poured r (now (out .exit)) ≡ pour (lineOf rev opened (pathIn (now (t .entry)) from)) at (now (out .entry)) ⌝ }
 {
     let length = value_length(t, from);
-    let n = length / 12;
+    let n = length / POINT;
     let body = from + 3;
     let a = put_head(t, body, n, rev, opened, out, at);
     let b = put_points(t, body, n, out, a);

@@ -1,5 +1,6 @@
 -- Every row of the tables, by computing the real definitions, floats included; where rows are long ones, one declaration a row, for a declaration's steps are limited.
 use mathlib.Core.Path.{_≡_, refl}
+use mathlib.Core.Bool.{true, false}
 use mathlib.Core.List.{map}
 use lib.Ieee.{toSigned, add, ofInt, mul}
 use Rattle.geometry.specs.Plane.{samePoint, isCollinear, dotProductThreePoints, areaTriangle, areaOutpt, ptsReallyClose, isVerySmallTriangle, removable, strictlyWithin, segmentsIntersect}
@@ -9,12 +10,13 @@ use Rattle.lone.specs.Path.{buildPath64FromOutpt, outline}
 use Rattle.lone.specs.Forest.{answer, stepForest}
 use Rattle.lone.specs.Finish.{stepsOn, finishForest}
 use Rattle.lone.specs.Order.{machine}
-use Rattle.lone.specs.Bench.{result, expected, after, bench, edges, rules, loneResult, loneRows}
+use Rattle.lone.specs.Bench.{result, expected, after, bench, edges, rules, depths, PathRow, pathResult, lines, loneResult, loneRows}
 use Rattle.lone.specs.Bench.{doubledAtFirst, startKept, startCutAway, crossingAfter, crossingBefore, leastOffcut, sameSign, startAfterDrop, startMovesOn, firstGoesBack, areaUnderTwo, towardZero, spikeGoes, equalsGo}
+use Rattle.lone.specs.Bench.{deepCrossing, ontoAnEnd, deepDoubling, equalsDeep}
 
 -- the definitions that a row computes with: `unfolding computing` opens them all
 unfoldable computing : Unit {0}
-unfolding result after loneResult samePoint isCollinear dotProductThreePoints areaTriangle areaOutpt ptsReallyClose isVerySmallTriangle removable strictlyWithin segmentsIntersect fractionOf crossing coordinateAt getSegmentIntersectPt removalTurn doSplitOp splitTurn decide actOf stepRing offcutRing takesRing buildPath64FromOutpt outline answer stepForest stepsOn finishForest machine toSigned add ofInt mul
+unfolding result after pathResult loneResult samePoint isCollinear dotProductThreePoints areaTriangle areaOutpt ptsReallyClose isVerySmallTriangle removable strictlyWithin segmentsIntersect fractionOf crossing coordinateAt getSegmentIntersectPt removalTurn doSplitOp splitTurn decide actOf stepRing offcutRing takesRing buildPath64FromOutpt outline answer stepForest stepsOn finishForest machine toSigned add ofInt mul
 computing = tt
 
 pub bench-holds : map result bench ≡ map expected bench
@@ -86,6 +88,36 @@ equals-go = refl
 pub rules-hold : map result rules ≡ map expected rules
 unfolding rules
 rules-hold = cc (doubled-at-first, start-kept, start-cut-away, crossing-after, crossing-before, least-offcut, same-sign, start-after-drop, start-moves-on, first-goes-back, area-under-two, toward-zero, spike-goes, equals-go)
+
+-- ---- depths
+
+deep-crossing : result deepCrossing ≡ expected deepCrossing
+unfolding computing
+deep-crossing = refl
+
+onto-an-end : result ontoAnEnd ≡ expected ontoAnEnd
+unfolding computing
+onto-an-end = refl
+
+deep-doubling : result deepDoubling ≡ expected deepDoubling
+unfolding computing
+deep-doubling = refl
+
+equals-deep : result (equalsDeep false) ≡ expected (equalsDeep false)
+unfolding computing
+equals-deep = refl
+
+equals-deep-kept : result (equalsDeep true) ≡ expected (equalsDeep true)
+unfolding computing
+equals-deep-kept = refl
+
+pub depths-hold : map result depths ≡ map expected depths
+unfolding depths
+depths-hold = cc (deep-crossing, onto-an-end, deep-doubling, equals-deep, equals-deep-kept)
+
+pub lines-hold : map pathResult lines ≡ map (λ (r : PathRow). r .path) lines
+unfolding computing lines
+lines-hold = refl
 
 -- ---- what only the ring itself shows
 

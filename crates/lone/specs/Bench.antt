@@ -1,5 +1,5 @@
 -- Rings as rows of tables: the settings, one closed ring, and the paths that it and its offcuts end in. Document 01's bench rings, rings at the rules' edges, a ring
--- for each rule that a table of simple rings would not see, and rules that only the ring itself shows.
+-- for each rule that a table of simple rings would not see, rings with depths, and rules that only the ring itself shows.
 use mathlib.Core.Bool.{Bool, true, false}
 use mathlib.Core.List.{List, [], _∷_}
 use mathlib.Core.Option.{Option, none, some}
@@ -14,6 +14,7 @@ use Rattle.lone.specs.Forest.{Entry, leftClosed, opening}
 use Rattle.lone.specs.Plane.{plane, loneRing}
 use Rattle.lone.specs.Finish.{finishForest}
 use Rattle.lone.specs.Writing.{isAllDone, closedPaths}
+use Rattle.lone.specs.Path.{buildPath64FromOutpt}
 
 abbrev pub point : ℤ → ℤ → Point
 point a b = record { x = a; y = b; z = 0 }
@@ -157,6 +158,67 @@ rules =
     ∷ towardZero
     ∷ spikeGoes
     ∷ equalsGo
+    ∷ []
+
+-- ---- depths, with the answers of the Rust under `using_z`
+
+-- one with its z; the word of z -4
+abbrev pub deep : ℕ → ℕ → ℕ → Point
+deep a b c = record { x = pos a; y = pos b; z = c }
+
+abbrev pub minusFour : ℕ
+minusFour = 4294967292
+
+-- the listing's ring: points keep their z, the crossing has 0 in both
+abbrev pub deepCrossing : Row
+deepCrossing =
+    row (deep 0 0 1 ∷ deep 10 10 2 ∷ deep 10 0 3 ∷ deep 0 12 minusFour ∷ [])
+    ((deep 5 5 0 ∷ deep 0 12 minusFour ∷ deep 0 0 1 ∷ []) ∷ (deep 10 10 2 ∷ deep 10 0 3 ∷ deep 5 5 0 ∷ []) ∷ [])
+
+-- a crossing that drops onto an end of its edge: the end stays on the ring with its z, the offcut's point has 0
+abbrev pub ontoAnEnd : Row
+ontoAnEnd =
+    row (deep 2 7 1 ∷ deep 8 1 2 ∷ deep 1 5 3 ∷ deep 5 3 4 ∷ deep 7 8 5 ∷ [])
+    ((deep 8 1 2 ∷ deep 1 5 3 ∷ deep 5 3 4 ∷ []) ∷ (deep 7 8 5 ∷ deep 2 7 1 ∷ deep 5 3 0 ∷ []) ∷ [])
+
+-- a doubling has the z of the point whose value it takes, not of the one it stands before
+abbrev pub deepDoubling : Row
+deepDoubling =
+    row (deep 0 4 1 ∷ deep 3 1 2 ∷ deep 2 1 3 ∷ deep 3 3 4 ∷ deep 0 0 5 ∷ [])
+    ((deep 3 3 4 ∷ deep 3 1 2 ∷ deep 2 1 3 ∷ deep 3 3 4 ∷ deep 0 0 5 ∷ deep 0 4 1 ∷ []) ∷ [])
+
+-- equal neighbours, with bit 0 too: the removal pass leaves the last visited
+abbrev pub equalsDeep : Bool → Row
+equalsDeep b =
+    record {
+      preserve = b;
+      reversed = false;
+      ring = deep 0 0 1 ∷ deep 10 0 2 ∷ deep 10 0 3 ∷ deep 10 10 4 ∷ deep 0 10 5 ∷ deep 0 0 6 ∷ [];
+      paths = (deep 10 0 3 ∷ deep 10 10 4 ∷ deep 0 10 5 ∷ deep 0 0 6 ∷ []) ∷ [];
+    }
+
+unfoldable pub depths : List Row
+depths = deepCrossing ∷ ontoAnEnd ∷ deepDoubling ∷ equalsDeep false ∷ equalsDeep true ∷ []
+
+-- a line, forward or reversed, and its path
+pub record PathRow : Type 0 where
+  pub reversed : Bool
+  pub line : List Point
+  pub path : Option (List Point)
+
+abbrev pub pathRow : Bool → List Point → List Point → PathRow
+pathRow rev line path = record { reversed = rev; line = line; path = some path }
+
+unfoldable pub pathResult : PathRow → Option (List Point)
+pathResult r = buildPath64FromOutpt (plane false) (r .reversed) true (r .line)
+
+-- of equal neighbours the first walked stays, which is another one the other way round; a last point equal to the first stays with its z, unless it follows one that is equal
+unfoldable pub lines : List PathRow
+lines =
+    pathRow false (deep 0 0 1 ∷ deep 5 5 2 ∷ deep 5 5 3 ∷ deep 9 0 4 ∷ []) (deep 5 5 2 ∷ deep 9 0 4 ∷ deep 0 0 1 ∷ [])
+    ∷ pathRow true (deep 0 0 1 ∷ deep 5 5 2 ∷ deep 5 5 3 ∷ deep 9 0 4 ∷ []) (deep 0 0 1 ∷ deep 9 0 4 ∷ deep 5 5 3 ∷ [])
+    ∷ pathRow false (deep 0 0 1 ∷ deep 5 5 2 ∷ deep 9 0 3 ∷ deep 0 0 4 ∷ []) (deep 5 5 2 ∷ deep 9 0 3 ∷ deep 0 0 4 ∷ [])
+    ∷ pathRow false (deep 5 5 1 ∷ deep 5 5 2 ∷ deep 9 0 3 ∷ []) (deep 5 5 2 ∷ deep 9 0 3 ∷ deep 5 5 1 ∷ [])
     ∷ []
 
 -- ---- rules that no path shows, only what the ring itself is in the end, how many steps it took and which rule discarded it

@@ -20,7 +20,7 @@ use Rattle.joins.specs.Resolve.{findIn}
 use Rattle.joins.specs.Join.{relinkOf, newOutRec, nameAll, fixOutrecPts, moveFirst, splitRing, splitOf, mergeOf, byRecords, joinOf, joinsFrom}
 use Rattle.opening.specs.Start.{startRing, startTo, startRings}
 use Rattle.opening.specs.Open.{stagesOf, openOf}
-use Rattle.opening_bench.specs.Bench.{result, RowsHold, bench, knotted, itself, overlapping, sameWay, levelFree, levelWalled, equalLeft, oneRing, nested, otherHeights, threeInLine, bothEnds, uprightSpike, openRing, ownJoinFirst}
+use Rattle.opening_bench.specs.Bench.{result, RowsHold, bench, knotted, itself, overlapping, deepCopies, sameWay, levelFree, levelWalled, equalLeft, oneRing, nested, otherHeights, threeInLine, bothEnds, uprightSpike, openRing, ownJoinFirst}
 
 -- the definitions that a row computes with: `unfolding computing` opens them all
 unfoldable computing : Unit {0}
@@ -38,6 +38,10 @@ itself-holds = refl
 overlapping-holds : result overlapping ≡ overlapping .answer
 unfolding computing overlapping
 overlapping-holds = refl
+
+deepCopies-holds : result deepCopies ≡ deepCopies .answer
+unfolding computing deepCopies
+deepCopies-holds = refl
 
 sameWay-holds : result sameWay ≡ sameWay .answer
 unfolding computing sameWay
@@ -89,4 +93,4 @@ ownJoinFirst-holds = refl
 
 -- every row
 pub bench-holds : RowsHold bench
-bench-holds = (knotted-holds, (itself-holds, (overlapping-holds, (sameWay-holds, (levelFree-holds, (levelWalled-holds, (equalLeft-holds, (oneRing-holds, (nested-holds, (otherHeights-holds, (threeInLine-holds, (bothEnds-holds, (uprightSpike-holds, (openRing-holds, (ownJoinFirst-holds, tt)))))))))))))))
+bench-holds = (knotted-holds, (itself-holds, (overlapping-holds, (deepCopies-holds, (sameWay-holds, (levelFree-holds, (levelWalled-holds, (equalLeft-holds, (oneRing-holds, (nested-holds, (otherHeights-holds, (threeInLine-holds, (bothEnds-holds, (uprightSpike-holds, (openRing-holds, (ownJoinFirst-holds, tt))))))))))))))))

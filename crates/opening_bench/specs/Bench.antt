@@ -4,7 +4,7 @@ use Prim.Native.Nat.{ℕ, suc, _+_, _-_, _%_, _/_}
 use mathlib.Core.Path.{_≡_}
 use mathlib.Core.List.{List, [], _∷_, _++_, map}
 use lib.IntN.{pos}
-use lib.ListN.{length, replicate}
+use lib.ListN.{length, replicate, take, drop}
 use Rattle.rings.specs.Count.{table}
 use Rattle.job.specs.Refusal.{numberOf}
 use Rattle.geometry.specs.declared.Point.{Point}
@@ -34,18 +34,21 @@ loop f o ps = record { flags = f; owner = o; points = ps }
 abbrev pub pair : ℕ → ℕ → JoinOf
 pair a b = record { one = a; two = b }
 
--- numbers of two bytes, low byte first; a coordinate below 256 has three zeros after it
+-- numbers of two bytes, low byte first; x, y and z below 256 have three zeros after them
 abbrev pub two : ℕ → List ℕ
 two n = n % 256 ∷ n / 256 ∷ []
 
+abbrev pub deepAt : ℕ → ℕ → ℕ → List ℕ
+deepAt x y z = x ∷ 0 ∷ 0 ∷ 0 ∷ y ∷ 0 ∷ 0 ∷ 0 ∷ z ∷ 0 ∷ 0 ∷ 0 ∷ []
+
 abbrev pub at : ℕ → ℕ → List ℕ
-at x y = x ∷ 0 ∷ 0 ∷ 0 ∷ y ∷ 0 ∷ 0 ∷ 0 ∷ []
+at x y = deepAt x y 0
 
 -- the points of a ring of n from number k on, of record r, from its point i on
 abbrev pub pointFields : ℕ → ℕ → ℕ → ℕ → List (List ℕ) → List ℕ
 pointFields k n r i [] = []
 pointFields k n r i (p ∷ ps) =
-    2 ∷ 18 ∷ 0 ∷ p ++ two (k + (i + 1) % n) ++ two (k + (i + (n - 1)) % n) ++ two r ++ (0 ∷ 0 ∷ 0 ∷ 0 ∷ []) ++ pointFields k n r (suc i) ps
+    2 ∷ 18 ∷ 0 ∷ take 8 p ++ two (k + (i + 1) % n) ++ two (k + (i + (n - 1)) % n) ++ two r ++ drop 8 p ++ pointFields k n r (suc i) ps
 
 abbrev pub ringFields : ℕ → ℕ → List Loop → List ℕ
 ringFields k r [] = []
@@ -80,8 +83,11 @@ pub record Left : Type 0 where
   pub owner : ℕ
   pub ring : List Member
 
+abbrev pub deepOn : ℕ → ℕ → ℕ → ℕ → Member
+deepOn k a b c = record { number = k; value = record { x = pos a; y = pos b; z = c } }
+
 abbrev pub on : ℕ → ℕ → ℕ → Member
-on k a b = record { number = k; value = record { x = pos a; y = pos b; z = 0 } }
+on k a b = deepOn k a b 0
 
 abbrev pub left : ℕ → ℕ → List Member → Left
 left f o c = record { flags = f; owner = o; ring = c }
@@ -128,6 +134,12 @@ unfoldable pub overlapping : Row
 overlapping =
     row (loop 0 NONE (at 0 10 ∷ at 10 10 ∷ at 10 20 ∷ at 0 20 ∷ []) ∷ loop 0 NONE (at 15 10 ∷ at 5 10 ∷ at 5 0 ∷ at 15 0 ∷ []) ∷ []) (0 ∷ 4 ∷ []) []
     (opened 10 (left 0 NONE (on 0 0 10 ∷ on 8 0 10 ∷ on 9 5 10 ∷ on 5 5 10 ∷ on 6 5 0 ∷ on 7 15 0 ∷ on 4 15 10 ∷ on 1 10 10 ∷ on 2 10 20 ∷ on 3 0 20 ∷ []) ∷ left 0 0 [] ∷ []))
+
+-- the same with depths: the two points that are made, 8 and 9, are copies of 0 and 5 and have their z
+unfoldable pub deepCopies : Row
+deepCopies =
+    row (loop 0 NONE (deepAt 0 10 1 ∷ deepAt 10 10 2 ∷ deepAt 10 20 3 ∷ deepAt 0 20 4 ∷ []) ∷ loop 0 NONE (deepAt 15 10 5 ∷ deepAt 5 10 6 ∷ deepAt 5 0 7 ∷ deepAt 15 0 8 ∷ []) ∷ []) (0 ∷ 4 ∷ []) []
+    (opened 10 (left 0 NONE (deepOn 0 0 10 1 ∷ deepOn 8 0 10 1 ∷ deepOn 9 5 10 6 ∷ deepOn 5 5 10 6 ∷ deepOn 6 5 0 7 ∷ deepOn 7 15 0 8 ∷ deepOn 4 15 10 5 ∷ deepOn 1 10 10 2 ∷ deepOn 2 10 20 3 ∷ deepOn 3 0 20 4 ∷ []) ∷ left 0 0 [] ∷ []))
 
 -- two that run the same way
 unfoldable pub sameWay : Row
@@ -207,4 +219,4 @@ RowsHold [] = Unit {0}
 RowsHold (r ∷ rs) = (result r ≡ r .answer) × RowsHold rs
 
 abbrev pub bench : List Row
-bench = knotted ∷ itself ∷ overlapping ∷ sameWay ∷ levelFree ∷ levelWalled ∷ equalLeft ∷ oneRing ∷ nested ∷ otherHeights ∷ threeInLine ∷ bothEnds ∷ uprightSpike ∷ openRing ∷ ownJoinFirst ∷ []
+bench = knotted ∷ itself ∷ overlapping ∷ deepCopies ∷ sameWay ∷ levelFree ∷ levelWalled ∷ equalLeft ∷ oneRing ∷ nested ∷ otherHeights ∷ threeInLine ∷ bothEnds ∷ uprightSpike ∷ openRing ∷ ownJoinFirst ∷ []

@@ -19,7 +19,7 @@ use Rattle.store.specs.Value.{reverseSolution}
 use Rattle.paths.specs.declared.Written.{Written}
 use Rattle.paths.specs.declared.Written.the-variants.{Paths, Refused}
 use Rattle.paths.specs.Path.{pathIf, closedPaths, openPaths, sizeOf}
-use Rattle.paths.specs.Tray.{tagOf, fields, fieldsOf, padded, TRAY}
+use Rattle.paths.specs.Tray.{POINT, tagOf, fields, fieldsOf, padded, TRAY}
 use Rattle.paths.specs.Walking.{Directed}
 use Rattle.paths.specs.Count.{needOf}
 use Rattle.paths.specs.Filling.{fieldAt, fieldsBelow, AllFit}
@@ -65,7 +65,7 @@ module _ (s : Store) where
 
   -- ---- a record has one field at most
 
-  field-le : (o : Bool) (i : ℕ) → length (fieldAt s o i) ≤ 3 + 12 * length (ringAt s i)
+  field-le : (o : Bool) (i : ℕ) → length (fieldAt s o i) ≤ 3 + POINT * length (ringAt s i)
   unfolding fieldAt
   field-le o i = omega (arith, field-length s (tagOf o) o i, fieldSize-le (sizeOf (pathIf s o i)), size-le s o i)
 
@@ -73,14 +73,14 @@ module _ (s : Store) where
   unfolding fieldAt pathIf
   none-of o i e = rw e
 
-  one-field : (i : ℕ) → length (fieldAt s false i) + length (fieldAt s true i) ≤ 3 + 12 * length (ringAt s i)
+  one-field : (i : ℕ) → length (fieldAt s false i) + length (fieldAt s true i) ≤ 3 + POINT * length (ringAt s i)
   one-field i = go (isOpen s i) refl
     where
-      go : (t : Bool) → isOpen s i ≡ t → length (fieldAt s false i) + length (fieldAt s true i) ≤ 3 + 12 * length (ringAt s i)
+      go : (t : Bool) → isOpen s i ≡ t → length (fieldAt s false i) + length (fieldAt s true i) ≤ 3 + POINT * length (ringAt s i)
       go true e = omega (arith, none-of false i (rw e), field-le true i)
       go false e = omega (arith, none-of true i (rw e), field-le false i)
 
-  all-fields : (n : ℕ) → length (fieldsBelow n s false) + length (fieldsBelow n s true) ≤ 3 * n + 12 * sumTo n (λ i. length (ringAt s i))
+  all-fields : (n : ℕ) → length (fieldsBelow n s false) + length (fieldsBelow n s true) ≤ 3 * n + POINT * sumTo n (λ i. length (ringAt s i))
   unfolding fieldsBelow
   all-fields zero = omega arith
   all-fields (suc n) =

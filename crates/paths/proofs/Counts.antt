@@ -20,7 +20,7 @@ use Rattle.store.specs.Sound.{pts, recs, ringAt, isOpen}
 use Rattle.store.specs.Value.{preserveCollinear, reverseSolution}
 use Rattle.store.proofs.Soundness.{whole}
 use Rattle.paths.specs.Path.{pointAt, pointsAt, pathBy, pathAt, pathIf, listed, pathsBelow, sizeOf}
-use Rattle.paths.specs.Tray.{lowBytes, pathBytes, pathField, tagOf, fields}
+use Rattle.paths.specs.Tray.{POINT, lowBytes, pathBytes, pathField, tagOf, fields}
 use Rattle.paths.specs.Walking.{Known, Directed, Asked}
 use Rattle.paths.specs.Count.{pathCount, fieldSize, needOf, Tally, PathsSoFar}
 use Rattle.paths.specs.Filling.{fieldAt}
@@ -76,10 +76,10 @@ size-fits w o i k h e = omega (arith, size-le (view w) o i, ring-short w i h)
 
 -- ---- fields
 
-pub length-pathField : (tag : ℕ) (path : List Point) → length (pathField tag path) ≡ 3 + 12 * length path
+pub length-pathField : (tag : ℕ) (path : List Point) → length (pathField tag path) ≡ 3 + POINT * length path
 unfolding pathField
 length-pathField tag path =
-    omega (arith, length-append ((tag ∷ []) ++ lowBytes 2 (12 * length path)) (pathBytes path), length-pathBytes path)
+    omega (arith, length-append ((tag ∷ []) ++ lowBytes 2 (POINT * length path)) (pathBytes path), length-pathBytes path)
 
 pub fields-append : (tag : ℕ) (a b : List (List Point)) → fields tag (a ++ b) ≡ fields tag a ++ fields tag b
 fields-append tag [] b = refl
@@ -94,10 +94,10 @@ module _ (n : ℕ) where
 pub field-length : (s : Store) (tag : ℕ) (o : Bool) (i : ℕ) → length (fields tag (listed (pathIf s o i))) ≡ fieldSize (sizeOf (pathIf s o i))
 field-length s tag o i = field-one (length (ringAt s i)) tag (pathIf s o i) (if-proper s o i)
 
-pub fieldSize-le : (k : ℕ) → fieldSize k ≤ 3 + 12 * k
+pub fieldSize-le : (k : ℕ) → fieldSize k ≤ 3 + POINT * k
 fieldSize-le k = go (eqb k 0)
   where
-    go : (t : Bool) → cond t 0 (3 + 12 * k) ≤ 3 + 12 * k
+    go : (t : Bool) → cond t 0 (3 + POINT * k) ≤ 3 + POINT * k
     go true = omega arith
     go false = omega arith
 
@@ -174,9 +174,9 @@ paths-on w o i paths size a c e f =
     same : (k : ℕ) → pathCount (fieldSize k) ≡ pathCount k
     same k = go (eqb k 0)
       where
-        go : (t : Bool) → pathCount (cond t 0 (3 + 12 * k)) ≡ cond t 0 1
+        go : (t : Bool) → pathCount (cond t 0 (3 + POINT * k)) ≡ cond t 0 1
         go true = refl
-        go false = rw (ne-eqb (3 + 12 * k) 0 (λ e. omega arith))
+        go false = rw (ne-eqb (3 + POINT * k) 0 (λ e. omega arith))
 
 module _ (w : List ℕ) (rev : Bool) (i : ℕ) (a : Asked w rev i) (j : ℕ) where
   pub asked-below : j < i → Asked w rev j
@@ -223,5 +223,5 @@ count-some k d = rw (ne-eqb k 0 d)
 pub field-none : (k : ℕ) → k ≡ 0 → 0 ≡ fieldSize k
 field-none k e = rw (eq-eqb k 0 e)
 
-pub field-some : (k : ℕ) → k ≢ 0 → 3 + 12 * k ≡ fieldSize k
+pub field-some : (k : ℕ) → k ≢ 0 → 3 + POINT * k ≡ fieldSize k
 field-some k d = rw (ne-eqb k 0 d)

@@ -22,7 +22,7 @@ use Rattle.store.specs.Words.{Store, view}
 use Rattle.store.specs.Sound.{ringless, isOpen}
 use Rattle.store.specs.Value.{preserveCollinear, reverseSolution}
 use Rattle.paths.specs.Path.{pointsAt, pathBy, pathAt, pathIf, listed, sizeOf}
-use Rattle.paths.specs.Tray.{lowBytes, pathBytes, pathField, tagOf, fields, over}
+use Rattle.paths.specs.Tray.{POINT, lowBytes, pathBytes, pathField, tagOf, fields, over}
 use Rattle.paths.specs.Walking.{startFrom, Round, Room, Laid, laid, pathRound}
 use Rattle.paths.specs.Count.{fieldSize}
 use Rattle.paths.specs.Filling.{pathPoints, fieldAt, layOver, PointsFit, FieldFits}
@@ -80,7 +80,7 @@ pub record There (s : Store) (rev o : Bool) (i k : ℕ) : Type 0 where
   pub is : pathIf s o i ≡ some (pathPoints s rev i)
   pub size : k ≡ length (pathPoints s rev i)
   pub ringed : ringless s i ≡ false
-  pub field-is : fieldAt s o i ≡ (tagOf o ∷ []) ++ lowBytes 2 (12 * k) ++ pathBytes (pathPoints s rev i)
+  pub field-is : fieldAt s o i ≡ (tagOf o ∷ []) ++ lowBytes 2 (POINT * k) ++ pathBytes (pathPoints s rev i)
 
 path-there : (s : Store) (rev o : Bool) (i : ℕ) → rev ≡ reverseSolution s → sizeOf (pathIf s o i) ≢ 0 → pathIf s o i ≡ some (pathPoints s rev i)
 unfolding pathIf pathAt
@@ -142,10 +142,10 @@ module _ (w : List ℕ) (rev o : Bool) (i : ℕ) (t : List ℕ) (p : FieldFits w
   is-there : There (view w) rev o i k
   is-there = there (view w) rev o i k (p .asked .direction) e d
 
-  field-room : 3 + 12 * k ≤ length t
+  field-room : 3 + POINT * k ≤ length t
   field-room =
       let z = pathBytes (pathPoints (view w) rev i) in
-      omega (arith, p .room, ap length (is-there .field-is), length-append ((tagOf o ∷ []) ++ lowBytes 2 (12 * k)) z, length-pathBytes (pathPoints (view w) rev i), is-there .size)
+      omega (arith, p .room, ap length (is-there .field-is), length-append ((tagOf o ∷ []) ++ lowBytes 2 (POINT * k)) z, length-pathBytes (pathPoints (view w) rev i), is-there .size)
 
   pub header-room : 3 ≤ length t
   header-room = omega (arith, field-room)
@@ -153,9 +153,9 @@ module _ (w : List ℕ) (rev o : Bool) (i : ℕ) (t : List ℕ) (p : FieldFits w
   pub field-sum : k ≤ 2048
   field-sum = size-fits w o i k (p .asked .of) e
 
-  module _ (tag : ℕ) (u : List ℕ) (f : tag ≡ tagOf o) (g : u ≡ putLe 2 1 (12 * k) (set t 0 tag)) where
-    laid-head : u ≡ over ((tagOf o ∷ []) ++ lowBytes 2 (12 * k)) t
-    laid-head = g ∙ ap (λ (x : ℕ). putLe 2 1 (12 * k) (set t 0 x)) f ∙ header-over t (tagOf o) (12 * k) header-room
+  module _ (tag : ℕ) (u : List ℕ) (f : tag ≡ tagOf o) (g : u ≡ putLe 2 1 (POINT * k) (set t 0 tag)) where
+    laid-head : u ≡ over ((tagOf o ∷ []) ++ lowBytes 2 (POINT * k)) t
+    laid-head = g ∙ ap (λ (x : ℕ). putLe 2 1 (POINT * k) (set t 0 x)) f ∙ header-over t (tagOf o) (POINT * k) header-room
 
     pub points-fit : PointsFit w rev i (take (length u - 3) (drop 3 u))
     points-fit =
@@ -167,18 +167,18 @@ module _ (w : List ℕ) (rev o : Bool) (i : ℕ) (t : List ℕ) (p : FieldFits w
                 arith,
                 field-room,
                 is-there .size,
-                ap length (part-is ((tagOf o ∷ []) ++ lowBytes 2 (12 * k)) t u 3 refl laid-head header-room),
+                ap length (part-is ((tagOf o ∷ []) ++ lowBytes 2 (POINT * k)) t u 3 refl laid-head header-room),
                 length-drop 3 t,
               );
         }
 
-    pub field-laid : (ys : List ℕ) → ys ≡ over (pathBytes (pathPoints (view w) rev i)) (take (length u - 3) (drop 3 u)) → laid (3 + 12 * k) (putMid 3 (length u - 3) u ys) ≡ layOver (fieldAt (view w) o i) t
+    pub field-laid : (ys : List ℕ) → ys ≡ over (pathBytes (pathPoints (view w) rev i)) (take (length u - 3) (drop 3 u)) → laid (3 + POINT * k) (putMid 3 (length u - 3) u ys) ≡ layOver (fieldAt (view w) o i) t
     field-laid ys h =
         let z = pathBytes (pathPoints (view w) rev i) in
-        let n : 3 + 12 * k ≡ length ((tagOf o ∷ []) ++ lowBytes 2 (12 * k) ++ z) =
-        omega (arith, length-append ((tagOf o ∷ []) ++ lowBytes 2 (12 * k)) z, length-pathBytes (pathPoints (view w) rev i), is-there .size)
+        let n : 3 + POINT * k ≡ length ((tagOf o ∷ []) ++ lowBytes 2 (POINT * k) ++ z) =
+        omega (arith, length-append ((tagOf o ∷ []) ++ lowBytes 2 (POINT * k)) z, length-pathBytes (pathPoints (view w) rev i), is-there .size)
         in
-        rw (is-there .field-is, n, part-over ((tagOf o ∷ []) ++ lowBytes 2 (12 * k)) t u 3 refl laid-head header-room z ys h)
+        rw (is-there .field-is, n, part-over ((tagOf o ∷ []) ++ lowBytes 2 (POINT * k)) t u 3 refl laid-head header-room z ys h)
 
   -- the points first, and then the header
   pub part-fit : PointsFit w rev i (take (length t - 3) (drop 3 t))
@@ -189,7 +189,7 @@ module _ (w : List ℕ) (rev o : Bool) (i : ℕ) (t : List ℕ) (p : FieldFits w
         room = omega (arith, field-room, is-there .size, ap length (take-all (length t - 3) (drop 3 t) (omega (arith, length-drop 3 t))), length-drop 3 t);
       }
 
-  pub part-size : (n : ℕ) (ys s : List ℕ) → laid n ys ≡ layOver (pathBytes (pathPoints (view w) rev i)) s → n ≡ 12 * k
+  pub part-size : (n : ℕ) (ys s : List ℕ) → laid n ys ≡ layOver (pathBytes (pathPoints (view w) rev i)) s → n ≡ POINT * k
   part-size n ys s h = omega (arith, ap (λ (z : Laid). z .at) h, length-pathBytes (pathPoints (view w) rev i), is-there .size)
 
   front : t ≡ over (take 3 t) t
@@ -199,7 +199,7 @@ module _ (w : List ℕ) (rev o : Bool) (i : ℕ) (t : List ℕ) (p : FieldFits w
     three : length (take 3 t) ≡ 3
     three = length-take-le 3 t header-room
 
-    sized : n ≡ 12 * k
+    sized : n ≡ POINT * k
     sized = part-size n ys (take (length t - 3) (drop 3 t)) h
 
     behind : putMid 3 (length t - 3) t ys ≡ over (take 3 t ++ pathBytes (pathPoints (view w) rev i)) t
@@ -210,18 +210,18 @@ module _ (w : List ℕ) (rev o : Bool) (i : ℕ) (t : List ℕ) (p : FieldFits w
         length-over (take 3 t ++ pathBytes (pathPoints (view w) rev i)) t
         (omega (arith, length-append (take 3 t) (pathBytes (pathPoints (view w) rev i)), three, length-pathBytes (pathPoints (view w) rev i), is-there .size, field-room))
 
-    pub head-room : (3 ≤ length (putMid 3 (length t - 3) t ys)) × (n / 12 ≤ 2048)
+    pub head-room : (3 ≤ length (putMid 3 (length t - 3) t ys)) × (n / POINT ≤ 2048)
     head-room = (omega (arith, ap length behind, same-size, header-room), omega (arith, sized, field-sum))
 
     pub sum-fits : 3 + n < 2 ^ 64
     sum-fits = omega (arith, sized, field-sum)
 
-    pub head-after : (u : List ℕ) (tag : ℕ) → tag ≡ tagOf o → u ≡ putLe 2 1 (12 * (n / 12)) (set (putMid 3 (length t - 3) t ys) 0 tag) → laid (3 + n) u ≡ layOver (fieldAt (view w) o i) t
+    pub head-after : (u : List ℕ) (tag : ℕ) → tag ≡ tagOf o → u ≡ putLe 2 1 (POINT * (n / POINT)) (set (putMid 3 (length t - 3) t ys) 0 tag) → laid (3 + n) u ≡ layOver (fieldAt (view w) o i) t
     head-after u tag f g =
         let z = pathBytes (pathPoints (view w) rev i) in
-        let H = (tagOf o ∷ []) ++ lowBytes 2 (12 * k) in
-        let v : 12 * (n / 12) ≡ 12 * k = omega (arith, sized) in
-        let b : u ≡ over H (over (take 3 t ++ z) t) = g ∙ rw (v, behind, f) (header-over (over (take 3 t ++ z) t) (tagOf o) (12 * k) (omega (arith, same-size, header-room))) in
+        let H = (tagOf o ∷ []) ++ lowBytes 2 (POINT * k) in
+        let v : POINT * (n / POINT) ≡ POINT * k = omega (arith, sized) in
+        let b : u ≡ over H (over (take 3 t ++ z) t) = g ∙ rw (v, behind, f) (header-over (over (take 3 t ++ z) t) (tagOf o) (POINT * k) (omega (arith, same-size, header-room))) in
         let c : u ≡ over (H ++ z) t = b ∙ over-front H (take 3 t) z t (sym three) in
         let j : 3 + n ≡ length (H ++ z) = omega (arith, sized, length-append H z, length-pathBytes (pathPoints (view w) rev i), is-there .size) in
         rw (is-there .field-is, j, c)

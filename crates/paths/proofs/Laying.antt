@@ -8,7 +8,7 @@ use lib.Seq.{drop-cons, append-snoc, set-append-seam, drop-append-seam, drop-app
 use Rattle.numbers.specs.Written.{putLe}
 use Rattle.numbers.proofs.Written.{put-more}
 use Rattle.geometry.specs.declared.Point.{Point}
-use Rattle.paths.specs.Tray.{lowBytes, i32Bytes, pointBytes, pathBytes, over}
+use Rattle.paths.specs.Tray.{POINT, lowBytes, i32Bytes, pointBytes, pathBytes, over}
 
 -- ---- lengths
 
@@ -16,11 +16,11 @@ pub length-lowBytes : (n v : ℕ) → length (lowBytes n v) ≡ n
 length-lowBytes zero v = refl
 length-lowBytes (suc n) v = omega (arith, length-append (lowBytes n v) (v / 256 ^ n % 256 ∷ []), length-lowBytes n v)
 
-pub length-pointBytes : (p : Point) → length (pointBytes p) ≡ 12
+pub length-pointBytes : (p : Point) → length (pointBytes p) ≡ POINT
 unfolding pointBytes
 length-pointBytes p = length-append (i32Bytes (p .x) ++ i32Bytes (p .y)) (lowBytes 4 (p .z))
 
-pub length-pathBytes : (path : List Point) → length (pathBytes path) ≡ 12 * length path
+pub length-pathBytes : (path : List Point) → length (pathBytes path) ≡ POINT * length path
 length-pathBytes [] = refl
 length-pathBytes (p ∷ ps) = omega (arith, length-append (pointBytes p) (pathBytes ps), length-pointBytes p, length-pathBytes ps)
 

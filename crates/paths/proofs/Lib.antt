@@ -12,3 +12,4 @@ pub mod Bound
 pub mod Tables
 pub mod Laying
 pub mod Writing
+pub mod Examples

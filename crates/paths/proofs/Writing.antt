@@ -15,7 +15,7 @@ use Rattle.store.specs.Field.{pt, X, Y, Z}
 use Rattle.store.specs.Words.{Store, view}
 use Rattle.store.specs.Good.{PointIn}
 use Rattle.paths.specs.Path.{pointAt}
-use Rattle.paths.specs.Tray.{lowBytes, i32Bytes, pointBytes, pathBytes, over}
+use Rattle.paths.specs.Tray.{POINT, lowBytes, i32Bytes, pointBytes, pathBytes, over}
 use Rattle.paths.specs.Walking.{linkOf, Readable, Round, Going, afterPoint, pathRound, more, putPoint, Laid, laid, putMore, Laying, Room}
 use Rattle.paths.specs.Filling.{layOver}
 use Rattle.paths.proofs.Coordinates.{coordinate-bits}
@@ -29,7 +29,7 @@ pub point-put : (s : Store) (q at x y z : ℕ) (t t₁ t₂ t₃ : List ℕ) →
 point-put s q at x y z t t₁ t₂ t₃ e f g h i j = rw (j, i, h, e, f, g)
 
 -- laid over the tray after the bytes a
-point-over : (s : Store) (q : ℕ) (a t : List ℕ) → PointIn s q → length a + 12 ≤ length t → putPoint s q (length a) (over a t) ≡ over (a ++ pointBytes (pointAt s q)) t
+point-over : (s : Store) (q : ℕ) (a t : List ℕ) → PointIn s q → length a + POINT ≤ length t → putPoint s q (length a) (over a t) ≡ over (a ++ pointBytes (pointAt s q)) t
 unfolding pointBytes pointAt
 point-over s q a t i h =
     let x = lowered COORDINATE (s (pt X) q) in
@@ -52,36 +52,36 @@ pub more-none : (s : Store) (b q d at : ℕ) (t : List ℕ) → d ≡ more s b q
 unfolding putMore
 more-none s b q d at t e h = go (samePoint (pointAt s q) (pointAt s b)) refl
   where
-    go : (r : Bool) → samePoint (pointAt s q) (pointAt s b) ≡ r → laid at t ≡ cond r (laid at t) (laid (at + 12) (putPoint s q at t))
+    go : (r : Bool) → samePoint (pointAt s q) (pointAt s b) ≡ r → laid at t ≡ cond r (laid at t) (laid (at + POINT) (putPoint s q at t))
     go true f = refl
     go false f = absurd (omega (arith, e, h, more-same s b q false f))
 
-pub more-some : (s : Store) (b q d at : ℕ) (t u : List ℕ) → d ≡ more s b q → d ≢ 0 → u ≡ putPoint s q at t → laid (at + 12) u ≡ putMore s b q at t
+pub more-some : (s : Store) (b q d at : ℕ) (t u : List ℕ) → d ≡ more s b q → d ≢ 0 → u ≡ putPoint s q at t → laid (at + POINT) u ≡ putMore s b q at t
 unfolding putMore
 more-some s b q d at t u e h g = go (samePoint (pointAt s q) (pointAt s b)) refl
   where
-    go : (r : Bool) → samePoint (pointAt s q) (pointAt s b) ≡ r → laid (at + 12) u ≡ cond r (laid at t) (laid (at + 12) (putPoint s q at t))
+    go : (r : Bool) → samePoint (pointAt s q) (pointAt s b) ≡ r → laid (at + POINT) u ≡ cond r (laid at t) (laid (at + POINT) (putPoint s q at t))
     go true f = absurd (h (e ∙ more-same s b q true f))
     go false f = rw g
 
-at-put : (s : Store) (b q at : ℕ) (t : List ℕ) → at + 12 * more s b q ≡ putMore s b q at t .at
+at-put : (s : Store) (b q at : ℕ) (t : List ℕ) → at + POINT * more s b q ≡ putMore s b q at t .at
 unfolding putMore
 at-put s b q at t = go (samePoint (pointAt s q) (pointAt s b))
   where
-    go : (r : Bool) → at + 12 * cond r 0 1 ≡ cond r (laid at t) (laid (at + 12) (putPoint s q at t)) .at
+    go : (r : Bool) → at + POINT * cond r 0 1 ≡ cond r (laid at t) (laid (at + POINT) (putPoint s q at t)) .at
     go true = omega arith
     go false = omega arith
 
 -- ---- the walk
 
-pub one-fits : (w : List ℕ) (rev : Bool) (a : ℕ) (t : List ℕ) → Room w rev a t → 0 + 12 ≤ length t
+pub one-fits : (w : List ℕ) (rev : Bool) (a : ℕ) (t : List ℕ) → Room w rev a t → 0 + POINT ≤ length t
 one-fits w rev a t r =
     let m : length (pathRound (view w) rev a) ≡ suc (length (afterPoint (view w) a (othersOf (linkOf (view w) rev) a))) = ap length (path-is (view w) rev a) in
     omega (arith, r .room)
 
 -- the first point is written at once
 pub laying-begins : (w : List ℕ) (rev : Bool) (a : ℕ) (t t₀ : List ℕ) (q : ℕ) → Room w rev a t → t₀ ≡ putPoint (view w) a 0 t → q ≡ linkOf (view w) rev a
-    → Going w rev a q (Laying w a 12 t₀ t₀ (pathRound (view w) rev a))
+    → Going w rev a q (Laying w a POINT t₀ t₀ (pathRound (view w) rev a))
 laying-begins w rev a t t₀ q r e f =
     let s = view w in
     let h = round-here w rev a (r .round) in
@@ -91,7 +91,7 @@ laying-begins w rev a t t₀ q r e f =
     let g : over (pathBytes (pointAt s a ∷ [])) (over (pathBytes (pointAt s a ∷ [])) t) ≡ over (pathBytes (pointAt s a ∷ [])) t =
     subst (λ (l : List ℕ). over l (over (pathBytes (pointAt s a ∷ [])) t) ≡ over l t) (append-nil (pathBytes (pointAt s a ∷ []))) (over-again (pathBytes (pointAt s a ∷ [])) [] t)
     in
-    going-begins w rev a q (Laying w a 12 t₀ t₀ (pathRound s rev a)) (r .round) f
+    going-begins w rev a q (Laying w a POINT t₀ t₀ (pathRound s rev a)) (r .round) f
     (record {
       before = h .here;
       done = pointAt s a ∷ [];
@@ -102,19 +102,19 @@ laying-begins w rev a t t₀ q r e f =
     })
 
 -- one point more
-laid-on : (s : Store) (b q at : ℕ) (t₀ t : List ℕ) (done : List Point) → PointIn s q → t ≡ over (pathBytes done) t₀ → at ≡ 12 * length done → 12 * length (done ++ adds s b q) ≤ length t₀
-    → putMore s b q at t ≡ laid (12 * length (done ++ adds s b q)) (over (pathBytes (done ++ adds s b q)) t₀)
+laid-on : (s : Store) (b q at : ℕ) (t₀ t : List ℕ) (done : List Point) → PointIn s q → t ≡ over (pathBytes done) t₀ → at ≡ POINT * length done → POINT * length (done ++ adds s b q) ≤ length t₀
+    → putMore s b q at t ≡ laid (POINT * length (done ++ adds s b q)) (over (pathBytes (done ++ adds s b q)) t₀)
 unfolding putMore
 laid-on s b q at t₀ t done i e f = go (samePoint (pointAt s q) (pointAt s b))
   where
-    go : (r : Bool) → 12 * length (done ++ cond r [] (pointAt s q ∷ [])) ≤ length t₀
-        → cond r (laid at t) (laid (at + 12) (putPoint s q at t)) ≡ laid (12 * length (done ++ cond r [] (pointAt s q ∷ []))) (over (pathBytes (done ++ cond r [] (pointAt s q ∷ []))) t₀)
+    go : (r : Bool) → POINT * length (done ++ cond r [] (pointAt s q ∷ [])) ≤ length t₀
+        → cond r (laid at t) (laid (at + POINT) (putPoint s q at t)) ≡ laid (POINT * length (done ++ cond r [] (pointAt s q ∷ []))) (over (pathBytes (done ++ cond r [] (pointAt s q ∷ []))) t₀)
     go true h = rw (append-nil done, e, f)
     go false h =
         let k = length-pathBytes done in
         let n : length (done ++ (pointAt s q ∷ [])) ≡ length done + 1 = length-append done (pointAt s q ∷ []) in
         let a : at ≡ length (pathBytes done) = omega arith in
-        let z : at + 12 ≡ 12 * length (done ++ (pointAt s q ∷ [])) = omega arith in
+        let z : at + POINT ≡ POINT * length (done ++ (pointAt s q ∷ [])) = omega arith in
         let u : putPoint s q at t ≡ over (pathBytes (done ++ (pointAt s q ∷ []))) t₀ =
         rw (e, a) (point-over s q (pathBytes done) t₀ i (omega arith))
         ∙ ap (λ (l : List ℕ). over (pathBytes done ++ l) t₀) (sym (append-nil (pointBytes (pointAt s q))))
@@ -130,8 +130,8 @@ module _ (w : List ℕ) (rev : Bool) (a b at : ℕ) (t₀ t : List ℕ) (q : ℕ
       let s = view w in
       let i : PointIn s q = going-here w rev a q (Laying w b at t₀ t (pathRound s rev a)) g d in
       let all : (y .done ++ adds s b q) ++ afterPoint s q l ≡ pathRound s rev a = append-assoc (y .done) (adds s b q) (afterPoint s q l) ∙ ap (λ (z : List Point). y .done ++ z) (sym (after-more s b q l)) ∙ y .all in
-      let small : 12 * length (y .done ++ adds s b q) ≤ length t₀ = omega (arith, ap length all, length-append (y .done ++ adds s b q) (afterPoint s q l), y .room) in
-      let c : laid at′ t′ ≡ laid (12 * length (y .done ++ adds s b q)) (over (pathBytes (y .done ++ adds s b q)) t₀) = e ∙ laid-on s b q at t₀ t (y .done) i (y .bytes) (y .here) small in
+      let small : POINT * length (y .done ++ adds s b q) ≤ length t₀ = omega (arith, ap length all, length-append (y .done ++ adds s b q) (afterPoint s q l), y .room) in
+      let c : laid at′ t′ ≡ laid (POINT * length (y .done ++ adds s b q)) (over (pathBytes (y .done ++ adds s b q)) t₀) = e ∙ laid-on s b q at t₀ t (y .done) i (y .bytes) (y .here) small in
       record { before = i; done = y .done ++ adds s b q; bytes = ap (λ (z : Laid). z .tray) c; here = ap (λ (z : Laid). z .at) c; all = all; room = y .room })
 
   pub laying-here : Round w rev a → q ≢ a → Readable w b × Readable w q
@@ -149,7 +149,7 @@ module _ (w : List ℕ) (rev : Bool) (a b at : ℕ) (t₀ t : List ℕ) (q : ℕ
       (omega (arith, length-pathBytes (y .done), ap length (y .all), length-append (y .done) (afterPoint (view w) b (g .todo)), y .room))
 
   -- there is room for the point, if it is written
-  pub laying-room : q ≢ a → at + 12 * more (view w) b q ≤ length t
+  pub laying-room : q ≢ a → at + POINT * more (view w) b q ≤ length t
   laying-room d =
       let s = view w in
       let n = laying-on (putMore s b q at t .at) (putMore s b q at t .tray) (linkOf s rev q) d refl refl in

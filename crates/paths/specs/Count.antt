@@ -10,7 +10,7 @@ use Rattle.store.specs.Words.{Store, view}
 use Rattle.store.specs.Sound.{recs}
 use Rattle.paths.specs.declared.Need.{Need}
 use Rattle.paths.specs.Path.{pathsBelow}
-use Rattle.paths.specs.Tray.{tagOf, fields}
+use Rattle.paths.specs.Tray.{POINT, tagOf, fields}
 
 -- how many paths: none where there are 0 points, or a field of 0 bytes
 abbrev pub pathCount : ℕ → ℕ
@@ -18,7 +18,7 @@ pathCount k = cond (eqb k 0) 0 1
 
 -- the bytes of the field of a path of k points, 0 for no path
 abbrev pub fieldSize : ℕ → ℕ
-fieldSize k = cond (eqb k 0) 0 (3 + 12 * k)
+fieldSize k = cond (eqb k 0) 0 (3 + POINT * k)
 
 unfoldable pub needOf : Store → Bool → Need
 needOf s o = record { paths = length (pathsBelow (recs s) o s); bytes = length (fields (tagOf o) (pathsBelow (recs s) o s)) }
@@ -27,7 +27,7 @@ needOf s o = record { paths = length (pathsBelow (recs s) o s); bytes = length (
 pub record Tally (w : List ℕ) (o : Bool) (i bytes : ℕ) : Type 0 where
   pub within : i ≤ recs (view w)
   pub bytes-are : bytes ≡ length (fields (tagOf o) (pathsBelow i o (view w)))
-  pub few-bytes : bytes ≤ i * (3 + 12 * POINTS)
+  pub few-bytes : bytes ≤ i * (3 + POINT * POINTS)
 
 -- the paths of the records below i are counted
 pub record PathsSoFar (w : List ℕ) (o : Bool) (i paths : ℕ) : Type 0 where

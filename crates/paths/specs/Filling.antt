@@ -11,7 +11,7 @@ use Rattle.store.specs.Words.{Store, view}
 use Rattle.store.specs.Sound.{recs, ringless}
 use Rattle.store.specs.Value.{preserveCollinear}
 use Rattle.paths.specs.Path.{pointsAt, pathIf, listed, pathsBelow}
-use Rattle.paths.specs.Tray.{tagOf, fields, fieldsOf, over}
+use Rattle.paths.specs.Tray.{POINT, tagOf, fields, fieldsOf, over}
 use Rattle.paths.specs.Walking.{Known, Directed, Asked, Laid, laid}
 
 -- the points of record i's path, if it has one
@@ -33,7 +33,7 @@ layOver bytes t = laid (length bytes) (over bytes t)
 pub record PointsFit (w : List ℕ) (rev : Bool) (i : ℕ) (t : List ℕ) : Type 0 where
   pub of : Known w i
   pub ringed : ringless (view w) i ≡ false
-  pub room : 12 * length (pathPoints (view w) rev i) ≤ length t
+  pub room : POINT * length (pathPoints (view w) rev i) ≤ length t
 
 pub record FieldFits (w : List ℕ) (rev o : Bool) (i : ℕ) (t : List ℕ) : Type 0 where
   pub asked : Asked w rev i

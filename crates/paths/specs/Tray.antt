@@ -20,6 +20,10 @@ lowBytes (suc n) v = lowBytes n v ++ (v / 256 ^ n % 256 ∷ [])
 abbrev pub i32Bytes : ℤ → List ℕ
 i32Bytes z = lowBytes 4 (ofZ w32 z)
 
+-- "12 bytes a point"
+abbrev pub POINT : ℕ
+POINT = 12
+
 -- x, y and z; z is its word already
 unfoldable pub pointBytes : Point → List ℕ
 pointBytes p = i32Bytes (p .x) ++ i32Bytes (p .y) ++ lowBytes 4 (p .z)
@@ -30,7 +34,7 @@ pathBytes (p ∷ ps) = pointBytes p ++ pathBytes ps
 
 -- a field: tag one byte, length two bytes, value
 unfoldable pub pathField : ℕ → List Point → List ℕ
-pathField tag path = (tag ∷ []) ++ lowBytes 2 (12 * length path) ++ pathBytes path
+pathField tag path = (tag ∷ []) ++ lowBytes 2 (POINT * length path) ++ pathBytes path
 
 -- "tag 6 closed, then tag 7 open"
 abbrev pub tagOf : Bool → ℕ
@@ -45,9 +49,9 @@ fields tag (p ∷ ps) = pathField tag p ++ fields tag ps
 unfoldable pub fieldsOf : Store → List ℕ
 fieldsOf s = fields (tagOf false) (closedPaths s) ++ fields (tagOf true) (openPaths s)
 
--- "26,112 bytes always suffice": three for each record's field, twelve for each point
+-- "26,112 tray bytes always suffice for paths": three for each record's field, and each point's
 abbrev pub TRAY : ℕ
-TRAY = 3 * RECORDS + 12 * POINTS
+TRAY = 3 * RECORDS + POINT * POINTS
 
 -- a tray of n bytes that begins with these; past them it is zero
 abbrev pub padded : ℕ → List ℕ → List ℕ

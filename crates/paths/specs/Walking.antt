@@ -23,7 +23,7 @@ use Rattle.geometry.specs.Plane.{samePoint}
 use Rattle.lone.specs.Path.{dropEquals, withoutEquals}
 use Rattle.lone.specs.Plane.{plane}
 use Rattle.paths.specs.Path.{pointAt}
-use Rattle.paths.specs.Tray.{pathBytes, over}
+use Rattle.paths.specs.Tray.{POINT, pathBytes, over}
 
 -- prev in a reversed path, next in a forward one
 abbrev pub linkOf : Store → Bool → ℕ → ℕ
@@ -130,18 +130,18 @@ laid at t = record { at = at; tray = t }
 
 -- point q after b: nothing if the two are equal
 unfoldable pub putMore : Store → ℕ → ℕ → ℕ → List ℕ → Laid
-putMore s b q at t = cond (samePoint (pointAt s q) (pointAt s b)) (laid at t) (laid (at + 12) (putPoint s q at t))
+putMore s b q at t = cond (samePoint (pointAt s q) (pointAt s b)) (laid at t) (laid (at + POINT) (putPoint s q at t))
 
 -- `done` is written, b the last point visited
 pub record Laying (w : List ℕ) (b at : ℕ) (t₀ t : List ℕ) (total : List Point) (l : List ℕ) : Type 0 where
   pub before : PointIn (view w) b
   pub done : List Point
   pub bytes : t ≡ over (pathBytes done) t₀
-  pub here : at ≡ 12 * length done
+  pub here : at ≡ POINT * length done
   pub all : done ++ afterPoint (view w) b l ≡ total
-  pub room : 12 * length total ≤ length t₀
+  pub room : POINT * length total ≤ length t₀
 
 -- a writer's room for the path
 pub record Room (w : List ℕ) (rev : Bool) (a : ℕ) (t : List ℕ) : Type 0 where
   pub round : Round w rev a
-  pub room : 12 * length (pathRound (view w) rev a) ≤ length t
+  pub room : POINT * length (pathRound (view w) rev a) ≤ length t

@@ -1,4 +1,5 @@
 // The field of one record's path, laid over the beginning of a part of the tray.
+use crate::POINT;
 use crate::is_open;
 use crate::round::has_four;
 use crate::round::write_round;
@@ -18,16 +19,17 @@ ghost use Rattle.job.specs.Limits as limit;
 ghost use Rattle.store.specs.Words.{view};
 ghost use Rattle.paths.specs.Path.{pathIf, sizeOf};
 ghost use Rattle.paths.specs.Tray.{pathBytes};
+ghost use Rattle.paths.specs.Tray as trays;
 ghost use Rattle.paths.specs.Filling.{pathPoints, fieldAt, layOver, PointsFit, FieldFits};
 ghost use Rattle.paths.specs.Walking.{Asked, laid};
 
 // The tag and the length of a field for k points.
 fn put_header(t: &mut [u8], tag: u8, k: usize)
     requires { ⌜ (3 ≤ length (now t)) × (k ≤ limit.POINTS) ⌝ }
-    ensures { λ _. ⌜ now (t .exit) ≡ putLe 2 1 (12 * k) (set (now (t .entry)) 0 tag) ⌝ }
+    ensures { λ _. ⌜ now (t .exit) ≡ putLe 2 1 (trays.POINT * k) (set (now (t .entry)) 0 tag) ⌝ }
 {
     t[0] = tag;
-    numbers::write_u16(t, 1, (12 * k) as u32);
+    numbers::write_u16(t, 1, (POINT * k) as u32);
 }
 
 // The points of record i's path, laid over the beginning of t; answers how many bytes.
@@ -65,7 +67,7 @@ fn write_long(w: &[u32], rev: bool, opened: bool, i: usize, t: &mut [u8]) -> usi
 {
     let n = write_points(w, rev, i, &mut t[3..]);
     let tag = tag_of(opened);
-    put_header(t, tag, n / 12);
+    put_header(t, tag, n / POINT);
     3 + n
 }
 
@@ -81,7 +83,7 @@ fn write_counted(w: &[u32], rev: bool, opened: bool, i: usize, t: &mut [u8]) -> 
     let tag = tag_of(opened);
     put_header(t, tag, k);
     write_points(w, rev, i, &mut t[3..]);
-    3 + 12 * k
+    3 + POINT * k
 }
 
 // The same, and counted only where the first points do not show that there is a path.

@@ -32,12 +32,15 @@ ghost use Rattle.paths.specs.declared.Written.the-variants.{Paths};
 ghost use Rattle.paths.specs.Wrote.{wrote, buildPaths64};
 ghost use Rattle.paths.specs.Walking.{startFrom, roundFrom, Known, Directed, Asked, ThreeOrMore, Sized, Round, laid};
 
-// A tray of so many bytes is never too small.
-pub const TRAY: usize = 3 * Job::RECORDS + 12 * Job::POINTS;
+// The bytes of a path's point: x, y and z.
+pub const POINT: usize = 12;
 
-// The number that definitions cite is the code's.
+// A tray of so many bytes is never too small.
+pub const TRAY: usize = 3 * Job::RECORDS + POINT * Job::POINTS;
+
+// The numbers that definitions cite are the code's.
 fn tray_agrees()
-    ensures { λ _. do ⌜ (← ⟦TRAY⟧ .entry) ≡ trays.TRAY ⌝ }
+    ensures { λ _. do ⌜ ((← ⟦POINT⟧ .entry) ≡ trays.POINT) × ((← ⟦TRAY⟧ .entry) ≡ trays.TRAY) ⌝ }
 {}
 
 // What writing out answers: how many closed and open paths the tray holds, or a refusal.
@@ -231,7 +234,7 @@ fn field_size(k: usize) -> usize
     if k == 0 {
         return 0;
     }
-    3 + 12 * k
+    3 + POINT * k
 }
 
 // How many bytes the fields of the open, or the closed, paths have.

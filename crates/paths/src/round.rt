@@ -1,4 +1,5 @@
 // A ring walked round in a path's direction: its points counted, and laid into a tray, neighbouring equals dropped.
+use crate::POINT;
 use geometry::Point;
 use job::Job;
 use store::Col;
@@ -12,6 +13,7 @@ ghost use Rattle.store.specs.Field.{BLOCK};
 ghost use Rattle.store.specs.Words.{view};
 ghost use Rattle.paths.specs.Path.{pointAt};
 ghost use Rattle.paths.specs.Tray.{pathBytes};
+ghost use Rattle.paths.specs.Tray as trays;
 ghost use Rattle.paths.specs.Filling.{layOver};
 ghost use Rattle.paths.specs.Walking.{linkOf, Readable, Round, Room, pathRound, more, putPoint, laid, putMore};
 
@@ -67,7 +69,7 @@ pub fn round_size(w: &[u32], rev: bool, a: usize) -> usize
 
 // The bytes of point q, from `at` on: the only place where a point's bytes are written.
 fn put_point(w: &[u32], q: usize, t: &mut [u8], at: usize)
-    requires { ⌜ Readable (now w) q × (at + 12 ≤ length (now t)) ⌝ }
+    requires { ⌜ Readable (now w) q × (at + trays.POINT ≤ length (now t)) ⌝ }
     ensures { λ _. ⌜ now (t .exit) ≡ putPoint (view (now (w .entry))) q at (now (t .entry)) ⌝ }
 {
     let x = store::get(w, Col::X, q);
@@ -80,7 +82,7 @@ fn put_point(w: &[u32], q: usize, t: &mut [u8], at: usize)
 
 // The same, unless q and b are equal; answers how far the tray is filled.
 fn put_more(w: &[u32], b: usize, q: usize, t: &mut [u8], at: usize) -> usize
-    requires { ⌜ Readable (now w) b × Readable (now w) q × (at + 12 * more (view (now w)) b q ≤ length (now t)) ⌝ }
+    requires { ⌜ Readable (now w) b × Readable (now w) q × (at + trays.POINT * more (view (now w)) b q ≤ length (now t)) ⌝ }
     ensures { λ r. ⌜ laid r (now (t .exit)) ≡ putMore (view (now (w .entry))) b q at (now (t .entry)) ⌝ }
 {
     let d = adds(w, b, q);
@@ -88,7 +90,7 @@ fn put_more(w: &[u32], b: usize, q: usize, t: &mut [u8], at: usize) -> usize
         return at;
     }
     put_point(w, q, t, at);
-    at + 12
+    at + POINT
 }
 
 // Whether the path that goes round from a has four points or more.
@@ -117,7 +119,7 @@ pub fn write_round(w: &[u32], rev: bool, a: usize, t: &mut [u8]) -> usize
     ensures { λ r. ⌜ laid r (now (t .exit)) ≡ layOver (pathBytes (pathRound (view (now (w .entry))) rev a)) (now (t .entry)) ⌝ }
 {
     put_point(w, a, t, 0);
-    let mut at: usize = 12;
+    let mut at: usize = POINT;
     let mut b = a;
     let mut q = link(w, rev, a);
     while q != a {

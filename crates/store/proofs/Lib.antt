@@ -4,3 +4,4 @@ pub mod Soundness
 pub mod Keeping
 pub mod Taking
 pub mod Coordinates
+pub mod Examples
