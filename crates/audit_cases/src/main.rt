@@ -83,7 +83,7 @@ fn altered(w: &mut [u32], c: Col, i: usize, v: usize)
     say(r);
 }
 
-// Numbers, coordinates, a depth, which nothing binds, and counts.
+// Numbers, coordinates and counts.
 fn alter_numbers(w: &mut [u32])
     requires { ⌜ BLOCK ≤ length (now w) ⌝ }
 {
@@ -91,11 +91,17 @@ fn alter_numbers(w: &mut [u32])
     altered(w, Col::Records, 0, Job::RECORDS + 1);
     altered(w, Col::X, 2, 2 * AT);
     altered(w, Col::X, 2, 2 * AT + 1);
-    altered(w, Col::Z, 2, 2 * AT + 1);
     altered(w, Col::Next, 1, 8);
     altered(w, Col::Prev, 5, 8);
     altered(w, Col::Rec, 0, 2);
     altered(w, Col::Owner, 0, 2);
+}
+
+// A depth that no coordinate may have: nothing binds it.
+fn alter_depth(w: &mut [u32])
+    requires { ⌜ BLOCK ≤ length (now w) ⌝ }
+{
+    altered(w, Col::Z, 2, 2 * AT + 1);
 }
 
 // Links, rings and progress.
@@ -143,6 +149,7 @@ fn main() {
     let r = tests_of(&w);
     say(r);
     alter_numbers(&mut w);
+    alter_depth(&mut w);
     alter_rings(&mut w);
     alter_reasons(&mut w);
 }
