@@ -1,4 +1,7 @@
 // The jobs that are timed.
+use oracle::core::Point64;
+use oracle::drawn::cut::{self, Cut};
+use oracle::drawn::Drawing;
 use oracle::job::{Job, Point, Record, NONE};
 
 type At = (i32, i32);
@@ -49,11 +52,12 @@ fn crossings() -> Job {
     of_rings(&[ring])
 }
 
-/// 128 blocks with both level edges given: 256 segments, which make 128 joins.
+/// 128 blocks in a row as a sweep leaves them before the last scanline's level segments are made into joins: their level edges at one height.
 fn level_segments() -> Job {
-    let mut job = of_rings(&(0..128).map(|k| square(40 * k, 0, 20)).collect::<Vec<_>>());
-    job.segments = (0..128).flat_map(|k| [4 * k, 4 * k + 2]).collect();
-    job
+    let blocks =
+        (0..128).map(|k| square(40 * k, 0, 20).into_iter().map(|(x, y)| Point64::new(x.into(), y.into())).collect());
+    let drawing = Drawing { subject: blocks.collect(), ..Drawing::default() };
+    cut::job(&drawing, Cut::Segments).expect("the sweep does not give up")
 }
 
 pub fn table() -> Vec<(&'static str, Job)> {
@@ -62,6 +66,6 @@ pub fn table() -> Vec<(&'static str, Job)> {
         ("500 small rings", small_rings()),
         ("one smooth ring of 2,000 points", smooth(2000)),
         ("one ring, 250 crossings", crossings()),
-        ("128 blocks, 256 level segments", level_segments()),
+        ("128 blocks, level segments of one height", level_segments()),
     ]
 }

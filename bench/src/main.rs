@@ -1,4 +1,5 @@
 // Times outline_finish and the real Rust on the same jobs, side by side in one run, and steps by outline_step.
+mod drawings;
 mod jobs;
 
 use oracle::answer::Answer;
@@ -99,9 +100,11 @@ fn main() {
     for (name, job) in jobs::table() {
         row(name, &job.bytes());
     }
+    drawings::stages();
     for n in [64, 128, 256, 512, 1024, 2048] {
         row(&format!("one smooth ring of {n} points"), &jobs::smooth(n).bytes());
     }
+    drawings::whole_way();
     println!("\n| job, stepped | steps | steps a second |");
     println!("|---|---|---|");
     for (name, job) in jobs::table() {

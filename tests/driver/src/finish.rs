@@ -68,10 +68,15 @@ pub fn tray_length(rng: &mut Rng, need: usize) -> usize {
 /// The room's job finished in one call; one in four is listed, and one in four turned round.
 pub fn case(room: &mut Room, rng: &mut Rng) -> Same {
     let expected = expected(room);
-    one_call(room, rng, &expected)?;
+    against(room, rng, &expected)
+}
+
+/// The same, where what is expected is known.
+pub fn against(room: &mut Room, rng: &mut Rng, expected: &Expected) -> Same {
+    one_call(room, rng, expected)?;
     match rng.below(4) {
-        0 => listed::case(room, rng, &expected),
-        1 => turned::case(room, rng, &expected),
+        0 => listed::case(room, rng, expected),
+        1 => turned::case(room, rng, expected),
         _ => Ok(()),
     }
 }

@@ -6,6 +6,7 @@ mod calls;
 mod canon;
 mod damage;
 mod depths;
+mod drawn;
 mod finish;
 mod kept;
 mod large;
@@ -30,7 +31,7 @@ use oracle::text::number;
 use runs::{Kind, Run, KINDS};
 
 const USAGE: &str =
-    "usage: driver finish|large|steps|bytes|altered|canon|reasons|kept SEED COUNT THREADS [FROM], driver faults SEED COUNT, \
+    "usage: driver finish|large|steps|bytes|altered|canon|reasons|kept|drawn SEED COUNT THREADS [FROM], driver faults SEED COUNT, \
                      driver fault NAME KIND SEED COUNT, or driver audit_cases";
 
 fn run_of(kind: &str, seed: &str, count: &str, threads: &str, from: u64) -> Result<Run, String> {
@@ -46,6 +47,8 @@ fn run_of(kind: &str, seed: &str, count: &str, threads: &str, from: u64) -> Resu
 fn is_tried(fault: Fault, kind: Kind) -> bool {
     let name = format!("{fault:?}");
     match () {
+        // The same calls as kind `finish`, and slower: one fault shows that it sees.
+        _ if kind == Kind::Drawn => fault == Fault::TrayByte,
         _ if kind == Kind::Kept => is_of_names(fault),
         _ if ["Keep", "Back", "Drop"].iter().any(|call| name.starts_with(call)) => false,
         _ if name.starts_with("Reason") => kind == Kind::Reasons,

@@ -3,7 +3,7 @@
 use crate::calls::Fault;
 use crate::room::{Room, Same};
 use crate::tally::Tally;
-use crate::{altered, canon, damage, finish, kept, large, open, reasons, steps, turned};
+use crate::{altered, canon, damage, drawn, finish, kept, large, open, reasons, steps, turned};
 use oracle::gen;
 use oracle::rng::Rng;
 use std::panic::{catch_unwind, AssertUnwindSafe};
@@ -23,6 +23,7 @@ pub enum Kind {
     Canon,
     Reasons,
     Kept,
+    Drawn,
 }
 
 pub const KINDS: &[(&str, Kind)] = &[
@@ -34,6 +35,7 @@ pub const KINDS: &[(&str, Kind)] = &[
     ("canon", Kind::Canon),
     ("reasons", Kind::Reasons),
     ("kept", Kind::Kept),
+    ("drawn", Kind::Drawn),
 ];
 
 impl Kind {
@@ -82,6 +84,7 @@ impl Kind {
                 room.start(&gen::job(seed, index), at);
                 kept::case(room, seed, index, &mut rng)
             }
+            Kind::Drawn => drawn::case(room, &mut rng),
         }
     }
 
@@ -102,6 +105,7 @@ impl Kind {
             Kind::Canon => vec![("rewrite", (0..=8).chain(10..=11).collect()), ("finish", vec![0, 9, 10, 11])],
             Kind::Reasons => vec![("reason", vec![0, 3, 4, 5, 6, 7, 10, 12])],
             Kind::Kept => kept::must_see(),
+            Kind::Drawn => vec![("finish", vec![0, 3, 10, 11])],
         }
     }
 
@@ -194,6 +198,9 @@ impl Run {
         }
         if self.kind == Kind::Kept {
             lacking.extend(tally.lacking_events(&kept::EVENTS));
+        }
+        if self.kind == Kind::Drawn {
+            lacking.extend(tally.lacking_events(&drawn::SEEN));
         }
         lacking.extend(self.kind.must_test().iter().flat_map(|call| tally.lacking_kept(call)));
         if count >= 10_000 && !lacking.is_empty() {

@@ -10,6 +10,7 @@ pub mod charge;
 pub mod check;
 pub mod compare;
 pub mod copies;
+pub mod drawn;
 pub mod fraction;
 pub mod gen;
 pub mod guard;
