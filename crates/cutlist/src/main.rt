@@ -12,7 +12,7 @@ use rates::Rate;
 use rates::rate_of;
 use store::LENGTH;
 ghost use mathlib.Core.Path.{_≡_};
-ghost use Prim.Native.Nat.{_-_, _≤_};
+ghost use Prim.Native.Nat.{_≤_};
 ghost use lib.ListN.{length};
 ghost use Rattle.io.specs.Counts.{Counts};
 ghost use Rattle.listing.specs.Needs.{Whole};
@@ -44,25 +44,15 @@ fn say(text: &[u8], a: Listed)
     }
 }
 
-// How many arguments there are, the program's name left out.
-fn given(count: usize) -> usize
-    ensures { λ r. ⌜ r ≡ count - 1 ⌝ }
-{
-    if count == 0 {
-        return 0;
-    }
-    count - 1
-}
-
 // No argument that the system passes is as long; one that did not fit would be bad.
 const ARGUMENT: usize = 131072;
 
 // The rate that the arguments say.
 fn rate_given() -> Rate {
     let mut arg = [0u8; ARGUMENT];
-    let count = os::arg_count();
+    let words = os::arg_count();
     let n = os::arg(1, &mut arg);
-    rate_of(given(count), &arg[..n])
+    rate_of(words, &arg[..n])
 }
 
 // Reads the job, unless the rate is bad: then no byte is taken, and the buffer stays as it was.

@@ -92,19 +92,22 @@ cents-low n e = go (decLt LARGEST n)
 
 -- ---- the arguments
 
-pub none-given : (n : ℕ) (a : List ℕ) → n ≡ 0 → NoRate ≡ rateOf (arguments n a)
-none-given n a e = rw e
+pub none-given : (n : ℕ) (a : List ℕ) → n < 2 → NoRate ≡ rateOf (arguments n a)
+none-given zero a h = refl
+none-given (suc zero) a h = refl
+none-given (suc (suc n)) a h = absurd (omega arith)
 
-pub one-given : (n : ℕ) (a : List ℕ) (q : Rate) → n ≡ 1 → q ≡ rateIn a → q ≡ rateOf (arguments n a)
+pub one-given : (n : ℕ) (a : List ℕ) (q : Rate) → n ≡ 2 → q ≡ rateIn a → q ≡ rateOf (arguments n a)
 one-given n a q e f = rw e f
 
-pub more-given : (n : ℕ) (a : List ℕ) → n ≢ 0 → n ≢ 1 → Bad ≡ rateOf (arguments n a)
-more-given zero a h k = absurd (h refl)
-more-given (suc zero) a h k = absurd (k refl)
-more-given (suc (suc n)) a h k = refl
+pub more-given : (n : ℕ) (a : List ℕ) → 2 ≤ n → n ≢ 2 → Bad ≡ rateOf (arguments n a)
+more-given zero a h k = absurd (omega arith)
+more-given (suc zero) a h k = absurd (omega arith)
+more-given (suc (suc zero)) a h k = absurd (k refl)
+more-given (suc (suc (suc n))) a h k = refl
 
 -- whatever the others are
-pub rate-of-all : (a : List ℕ) (more : List (List ℕ)) → rateOf (a ∷ more) ≡ rateOf (arguments (suc (length more)) a)
+pub rate-of-all : (a : List ℕ) (more : List (List ℕ)) → rateOf (a ∷ more) ≡ rateOf (arguments (suc (suc (length more))) a)
 rate-of-all a [] = refl
 rate-of-all a (b ∷ more) = refl
 

@@ -1,10 +1,11 @@
--- What some arguments say, by computing; and that zeros may lead, however many.
-use Prim.Native.Nat.{ℕ, zero, suc}
+-- What some arguments say, and the charge of a square decimetre, by computing; and that zeros may lead, however many.
+use Prim.Native.Nat.{ℕ, zero, suc, _*_}
 use mathlib.Core.Path.{_≡_, refl, sym, _∙_}
 use mathlib.Core.List.{List, [], _∷_, _++_}
 use lib.ListN.{replicate}
 use Rattle.rates.specs.declared.Rate.the-variants.{NoRate, Cents, Bad}
 use Rattle.rates.specs.Rate.{rateIn, rateOf}
+use Rattle.rates.specs.Charge.{chargeOf}
 use Rattle.rates.proofs.Digits.{by-digits}
 
 none : rateOf [] ≡ NoRate
@@ -55,6 +56,11 @@ pointed = refl
 
 twice : rateOf ((53 ∷ []) ∷ (53 ∷ []) ∷ []) ≡ Bad
 twice = refl
+
+-- a square of 100,000 micrometres a side at 250 cents: charge 250 0
+decimetre : chargeOf (2 * (100000 * 100000)) 250 ≡ record { quotient = 250; remainder = 0 }
+unfolding chargeOf
+decimetre = refl
 
 pub leading-zeros : (n b : ℕ) (s : List ℕ) → rateIn (replicate n 48 ++ (b ∷ s)) ≡ rateIn (b ∷ s)
 leading-zeros zero b s = refl

@@ -44,7 +44,8 @@ rateOf [] = NoRate
 rateOf (a ∷ []) = rateIn a
 rateOf (a ∷ b ∷ more) = Bad
 
--- so many arguments, the first of which is a; what the others are does not matter (`rate-of-all`)
+-- the arguments of a program that was started with so many words, its own name first and then a; what the others are does not matter (`rate-of-all`)
 abbrev pub arguments : ℕ → List ℕ → List (List ℕ)
 arguments zero a = []
-arguments (suc n) a = a ∷ replicate n []
+arguments (suc zero) a = []
+arguments (suc (suc n)) a = a ∷ replicate n []

@@ -95,14 +95,14 @@ pub fn asked(rate: Rate) -> Rate
     }
 }
 
-// What so many arguments say, the first of which is this one.
-pub fn rate_of(count: usize, first: &[u8]) -> Rate
-    ensures { λ r. ⌜ r ≡ rateOf (arguments count (now (first .entry))) ⌝ }
+// What the arguments of a program say that was started with so many words, its own name first and then this one.
+pub fn rate_of(words: usize, first: &[u8]) -> Rate
+    ensures { λ r. ⌜ r ≡ rateOf (arguments words (now (first .entry))) ⌝ }
 {
-    if count == 0 {
+    if words < 2 {
         return Rate::NoRate;
     }
-    if count == 1 {
+    if words == 2 {
         return rate_in(first);
     }
     Rate::Bad
