@@ -4,8 +4,9 @@ use mathlib.Core.Bool.{true, false}
 use mathlib.Core.List.{[], _∷_}
 use Prim.Native.Nat.{ℕ}
 use lib.IntN.{pos, negsuc}
-use lib.Ieee.{round, units, odd, climb, span, size, add, sum, mul, ofInt, toSigned}
+use lib.Ieee.{binary64, ofBits, round, units, odd, climb, span, size, add, sum, mul, ofInt, toSigned}
 use Rattle.geometry.specs.declared.Point.{Point}
+use Rattle.geometry.specs.declared.Crossing.the-variants.{Inside}
 use Rattle.geometry.specs.Plane.{samePoint, isCollinear, dotProductThreePoints, areaTriangle, areaOutpt, ptsReallyClose, isVerySmallTriangle, removable, strictlyWithin, segmentsIntersect}
 use Rattle.geometry.specs.Crossing.{fractionOf, crossing, coordinateAt, getSegmentIntersectPt, crossingPoint}
 
@@ -23,6 +24,16 @@ at-listing = refl
 at-twenty : crossingPoint (pt 0 0) (pt 10 10) (pt 10 0) (pt 0 20) ≡ pt 6 6
 unfolding getSegmentIntersectPt crossing fractionOf coordinateAt round units odd climb span size add sum mul ofInt toSigned
 at-twenty = refl
+
+-- both fractions, each rounded once: 6/11 of the first edge, 5/11 of the second
+fractions-listing : crossing (pt 0 0) (pt 10 10) (pt 10 0) (pt 0 12) ≡ Inside (ofBits binary64 0x3fe1_745d_1745_d174) (ofBits binary64 0x3fdd_1745_d174_5d17)
+unfolding crossing fractionOf round units odd climb span size ofBits
+fractions-listing = refl
+
+-- a half of the first edge, a quarter of the second
+fractions-exact : crossing (pt 0 1) (pt 4 1) (pt 2 0) (pt 2 4) ≡ Inside (ofBits binary64 0x3fe0_0000_0000_0000) (ofBits binary64 0x3fd0_0000_0000_0000)
+unfolding crossing fractionOf round units odd climb span size ofBits
+fractions-exact = refl
 
 -- ---- depths
 

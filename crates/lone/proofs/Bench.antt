@@ -10,13 +10,13 @@ use Rattle.lone.specs.Path.{buildPath64FromOutpt, outline}
 use Rattle.lone.specs.Forest.{answer, stepForest}
 use Rattle.lone.specs.Finish.{stepsOn, finishForest}
 use Rattle.lone.specs.Order.{machine}
-use Rattle.lone.specs.Bench.{result, expected, after, bench, edges, rules, depths, PathRow, pathResult, lines, loneResult, loneRows}
+use Rattle.lone.specs.Bench.{result, expected, after, bench, edges, rules, depths, PathRow, pathResult, lines, loneResult, loneRows, openAfter, openResult, openExpected, opens}
 use Rattle.lone.specs.Bench.{doubledAtFirst, startKept, startCutAway, crossingAfter, crossingBefore, leastOffcut, sameSign, startAfterDrop, startMovesOn, firstGoesBack, areaUnderTwo, towardZero, spikeGoes, equalsGo}
 use Rattle.lone.specs.Bench.{deepCrossing, ontoAnEnd, deepDoubling, equalsDeep}
 
 -- the definitions that a row computes with: `unfolding computing` opens them all
 unfoldable computing : Unit {0}
-unfolding result after pathResult loneResult samePoint isCollinear dotProductThreePoints areaTriangle areaOutpt ptsReallyClose isVerySmallTriangle removable strictlyWithin segmentsIntersect fractionOf crossing coordinateAt getSegmentIntersectPt removalTurn doSplitOp splitTurn decide actOf stepRing offcutRing takesRing buildPath64FromOutpt outline answer stepForest stepsOn finishForest machine toSigned add ofInt mul
+unfolding result after pathResult loneResult openAfter openResult samePoint isCollinear dotProductThreePoints areaTriangle areaOutpt ptsReallyClose isVerySmallTriangle removable strictlyWithin segmentsIntersect fractionOf crossing coordinateAt getSegmentIntersectPt removalTurn doSplitOp splitTurn decide actOf stepRing offcutRing takesRing buildPath64FromOutpt outline answer stepForest stepsOn finishForest machine toSigned add ofInt mul
 computing = tt
 
 pub bench-holds : map result bench ≡ map expected bench
@@ -124,3 +124,9 @@ lines-hold = refl
 pub lone-rows-hold : map loneResult loneRows ≡ loneRows
 unfolding computing loneRows
 lone-rows-hold = refl
+
+-- ---- open rings
+
+pub opens-hold : map openResult opens ≡ map openExpected opens
+unfolding computing opens
+opens-hold = refl

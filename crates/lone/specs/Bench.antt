@@ -1,19 +1,19 @@
 -- Rings as rows of tables: the settings, one closed ring, and the paths that it and its offcuts end in. Document 01's bench rings, rings at the rules' edges, a ring
--- for each rule that a table of simple rings would not see, rings with depths, and rules that only the ring itself shows.
+-- for each rule that a table of simple rings would not see, rings with depths, rules that only the ring itself shows, and open rings.
 use mathlib.Core.Bool.{Bool, true, false}
 use mathlib.Core.List.{List, [], _∷_}
 use mathlib.Core.Option.{Option, none, some}
-use Prim.Native.Nat.{ℕ, zero, suc}
+use Prim.Native.Nat.{ℕ, zero, suc, _+_}
 use lib.IntN.{ℤ, pos, negℤ}
 use lib.ListN.{length}
 use Rattle.job.specs.Limits as limit
 use Rattle.geometry.specs.declared.Point.{Point}
 use Rattle.rings.specs.Progress.{Discard, atValidity, whileRemoving, atSplit, Ring, atStart}
 use Rattle.lone.specs.Lone.{fromFirst}
-use Rattle.lone.specs.Forest.{Entry, leftClosed, opening}
+use Rattle.lone.specs.Forest.{Entry, leftOpen, leftClosed, opening}
 use Rattle.lone.specs.Plane.{plane, loneRing}
 use Rattle.lone.specs.Finish.{finishForest}
-use Rattle.lone.specs.Writing.{isAllDone, closedPaths}
+use Rattle.lone.specs.Writing.{isAllDone, closedPaths, openPaths}
 use Rattle.lone.specs.Path.{buildPath64FromOutpt}
 
 abbrev pub point : ℤ → ℤ → Point
@@ -271,3 +271,38 @@ splitDiscards = loneRow (pt 0 0 ∷ pt 2 1 ∷ pt 1 0 ∷ pt 0 4 ∷ []) 8 [] (s
 
 unfoldable pub loneRows : List LoneRow
 loneRows = threeClose ∷ twoPoints ∷ threePoints ∷ cutToThree ∷ cutToTwo ∷ dropDiscards ∷ splitDiscards ∷ []
+
+-- ---- open rings: whether paths are reversed, the ring, and its path, if it has one
+
+pub record OpenRow : Type 0 where
+  pub reversed : Bool
+  pub ring : List Point
+  pub paths : List (List Point)
+
+abbrev pub openRow : Bool → List Point → List (List Point) → OpenRow
+openRow reversed ring paths = record { reversed = reversed; ring = ring; paths = paths }
+
+-- the open ring and then the listing's closed one, finished in one call
+unfoldable pub openAfter : OpenRow → List (Entry (Ring Point) (List Point))
+openAfter r =
+    finishForest (loneRing false) limit.POINTS limit.RECORDS
+    (opening (leftOpen (r .ring) ∷ leftClosed (atStart (pt 0 0 ∷ pt 10 10 ∷ pt 10 0 ∷ pt 0 12 ∷ [])) ∷ []) (length (r .ring) + 4)) .entries
+
+unfoldable pub openResult : OpenRow → Outcome
+openResult r = record { finished = isAllDone (loneRing false) (openAfter r); paths = openPaths (plane false) (r .reversed) (openAfter r) }
+
+abbrev pub openExpected : OpenRow → Outcome
+openExpected r = record { finished = true; paths = r .paths }
+
+-- one point has no path; two have one, in either direction, unless they are equal; three have, even where a closed ring would be too small; a point in line stays; neighbouring equals are dropped
+unfoldable pub opens : List OpenRow
+opens =
+    openRow false (pt 3 4 ∷ []) []
+    ∷ openRow false (pt 0 0 ∷ pt 5 1 ∷ []) ((pt 5 1 ∷ pt 0 0 ∷ []) ∷ [])
+    ∷ openRow true (pt 0 0 ∷ pt 5 1 ∷ []) ((pt 0 0 ∷ pt 5 1 ∷ []) ∷ [])
+    ∷ openRow false (pt 2 2 ∷ pt 2 2 ∷ []) []
+    ∷ openRow false (pt 0 0 ∷ pt 1 1 ∷ pt 50 0 ∷ []) ((pt 1 1 ∷ pt 50 0 ∷ pt 0 0 ∷ []) ∷ [])
+    ∷ openRow true (pt 0 0 ∷ pt 1 1 ∷ pt 50 0 ∷ []) ((pt 0 0 ∷ pt 50 0 ∷ pt 1 1 ∷ []) ∷ [])
+    ∷ openRow false (pt 0 0 ∷ pt 5 0 ∷ pt 10 0 ∷ []) ((pt 5 0 ∷ pt 10 0 ∷ pt 0 0 ∷ []) ∷ [])
+    ∷ openRow false (pt 0 0 ∷ pt 7 7 ∷ pt 7 7 ∷ []) ((pt 7 7 ∷ pt 0 0 ∷ []) ∷ [])
+    ∷ []
