@@ -13,8 +13,8 @@ pub enum RingsEnd {
     Full,
 }
 
-pub mod apply;
-pub mod coming;
+mod apply;
+mod coming;
 pub mod finish;
-pub mod glide;
+mod glide;
 pub mod step;
