@@ -4,3 +4,4 @@ pub mod Pooling
 pub mod Laying
 pub mod Calls
 pub mod Deciding
+pub mod Examples
