@@ -15,7 +15,7 @@ use Rattle.store.specs.Field.{rc, FLAGS, FIRST, REASON, TAKER, NONE}
 use Rattle.store.specs.Words.{Store, view}
 use Rattle.store.specs.Reason.{JOINED, discardOf}
 use Rattle.store.specs.Sound.{recs, ringless, isOpen}
-use Rattle.store.specs.Value.{pointAt, ringPoints, preserveCollinear, reverseSolution}
+use Rattle.store.specs.Value.{ringPoints, preserveCollinear, reverseSolution}
 use Rattle.paths.specs.Path as paths
 use Rattle.paths.specs.Path.{pathAt, smallBy}
 use Rattle.telling.specs.declared.Reason.{Reason}
@@ -25,7 +25,7 @@ use Rattle.finishing.specs.Run.{runOf}
 use Rattle.finishing.specs.Start.{Start}
 use Rattle.order.specs.Demand3.{Lone, lones, Same, none-left, same, whyAt, HasRing, Has}
 use Rattle.order.proofs.Theorem.{follows, lones-are, after-list}
-use Rattle.ended.proofs.Joining.{no-ring, points-none}
+use Rattle.ended.proofs.Alike.{bare-too, ringed-too, path-too, small-too}
 use Rattle.ended.proofs.Stepping.{bare-stays}
 use Rattle.ended.proofs.Discarding.{lone-of, rule-kept}
 use Rattle.ended.proofs.Telling.{tells-rule, tells-short, tells-small, tells-written}
@@ -42,40 +42,28 @@ rule-raised m (some atSplit) = refl
 -- ---- two stores with the same settings; a record of each, open or closed alike, with the same points
 
 module _ (m : ℕ) (s t : Store) (g : preserveCollinear s ≡ preserveCollinear t) (e : reverseSolution s ≡ reverseSolution t) (a b : ℕ) (o : isOpen s a ≡ isOpen t b) (p : ringPoints s a ≡ ringPoints t b) where
-  bare-too : ringless s a ≡ true → ringless t b ≡ true
-  bare-too r = points-none t b (sym p ∙ ap (map (pointAt s)) (no-ring s a r))
-
-  ringed-too : ringless s a ≡ false → ringless t b ≡ false
-  ringed-too r = go (ringless t b) refl
-    where
-      go : (c : Bool) → ringless t b ≡ c → ringless t b ≡ false
-      go false h = h
-      go true h = absurd (true≢false (sym (points-none s a (p ∙ ap (map (pointAt t)) (no-ring t b h))) ∙ r))
-
-  points-too : paths.pointsAt s a ≡ paths.pointsAt t b
-  unfolding paths.pointAt
-  points-too = p
-
-  path-too : pathAt s a ≡ pathAt t b
-  unfolding pathAt
-  path-too = rw (g, e, o, points-too)
-
-  small-too : smallBy s (reverseSolution s) (isOpen s a) a ≡ smallBy t (reverseSolution t) (isOpen t b) b
-  small-too = rw (g, e, o, points-too)
-
   -- with rings
   pub own-ringed : ringless s a ≡ false → raisedReason 0 (reasonAt s a) ≡ raisedReason m (reasonAt t b)
   own-ringed r = go (pathAt s a) refl (smallBy s (reverseSolution s) (isOpen s a) a) refl
     where
+      ringed : ringless t b ≡ false
+      ringed = ringed-too s t g e a b o p r
+
+      path : pathAt s a ≡ pathAt t b
+      path = path-too s t g e a b o p
+
+      small : smallBy s (reverseSolution s) (isOpen s a) a ≡ smallBy t (reverseSolution t) (isOpen t b) b
+      small = small-too s t g e a b o p
+
       go : (x : Option (List Point)) → pathAt s a ≡ x → (c : Bool) → smallBy s (reverseSolution s) (isOpen s a) a ≡ c → raisedReason 0 (reasonAt s a) ≡ raisedReason m (reasonAt t b)
-      go none h true c = rw (tells-small s a r h c, tells-small t b (ringed-too r) (sym path-too ∙ h) (sym small-too ∙ c))
-      go none h false c = rw (tells-short s a r h c, tells-short t b (ringed-too r) (sym path-too ∙ h) (sym small-too ∙ c))
-      go (some l) h c d = rw (tells-written s a r l h, tells-written t b (ringed-too r) l (sym path-too ∙ h), o)
+      go none h true c = rw (tells-small s a r h c, tells-small t b ringed (sym path ∙ h) (sym small ∙ c))
+      go none h false c = rw (tells-short s a r h c, tells-short t b ringed (sym path ∙ h) (sym small ∙ c))
+      go (some l) h c d = rw (tells-written s a r l h, tells-written t b ringed l (sym path ∙ h), o)
 
   -- discarded, by the same rule
   own-gone : (y : Discard) → ringless s a ≡ true → discardOf (s (rc REASON) a) ≡ some y → whyAt s a ≡ whyAt t b → raisedReason 0 (reasonAt s a) ≡ raisedReason m (reasonAt t b)
   own-gone y r h k =
-      let r′ : ringless t b ≡ true = bare-too r in
+      let r′ : ringless t b ≡ true = bare-too s t g e a b o p r in
       let h′ : discardOf (t (rc REASON) b) ≡ some y = sym (ap (λ (c : Bool). cond c (discardOf (t (rc REASON) b)) none) r′) ∙ sym k ∙ ap (λ (c : Bool). cond c (discardOf (s (rc REASON) a)) none) r ∙ h in
       ap (raisedReason 0) (tells-rule s a r y h) ∙ rule-raised 0 (some y) ∙ sym (ap (raisedReason m) (tells-rule t b r′ y h′) ∙ rule-raised m (some y))
 
