@@ -1,7 +1,7 @@
 // Kind `laid`: two work spaces, each with a job opened in it and perhaps kept or stepped; laid together, in short parts too, the pair again, and a third; then calls of every kind on the pair.
 // Each answer and every word of both work spaces with a plain reading of document 02, Ask 11 (pair.rs); where only calls wrote, also with the oracle's tables, on which each drawing lies as if alone.
 // Words of either are altered in between. Where all rings end, the paths are those that the real Rust gives for each drawing's own job.
-use crate::alter::{self, alter, made_up, names_beside, progress};
+use crate::alter::{self, before_laying, names_beside};
 use crate::finish::read_tray;
 use crate::kept::{self, as_live, List};
 use crate::lent::Lent;
@@ -41,6 +41,8 @@ const FOR_SECOND: &str = "lay, refused for the second";
 /// Pairs of more points than this are stepped to the end only now and then, and longer lists of steps are cut off.
 const MANY: usize = 300;
 const LONG: usize = 800;
+/// Of more records than this only some are asked for.
+const FEW: usize = 24;
 
 pub fn must_see() -> Vec<(&'static str, Vec<u32>)> {
     let steps = [("step", vec![0, 10, 12]), ("write", vec![0, 11, 12]), ("reason", vec![0, 12])];
@@ -309,7 +311,7 @@ fn altered(room: &mut Room, rng: &mut Rng, first: &mut List, second: &mut Sheet)
 fn spoil(room: &mut Room, rng: &mut Rng, list: &mut List) {
     let times = rng.pick(&[1, 1, 1, 2, 3, 4]);
     list.alter(room, 0..KEPT, |w| {
-        let mut said: Vec<String> = (0..times).map(|_| spoil_once(w, rng)).collect();
+        let mut said: Vec<String> = (0..times).map(|_| before_laying(w, rng)).collect();
         if times > 1 {
             said.push(alter::kept(w, rng));
             said.push(if rng.one_in(2) { alter::kept(w, rng) } else { names_beside(w, rng) });
@@ -320,57 +322,7 @@ fn spoil(room: &mut Room, rng: &mut Rng, list: &mut List) {
     (0..STATES).for_each(|place| list.trails.write_word(place, list.shadow[NAMES + place]));
 }
 
-/// An alteration of any kind; settings, progress, and what laying asks of records more often than others.
-fn spoil_once(w: &mut [u32], rng: &mut Rng) -> String {
-    match rng.below(16) {
-        0 | 1 => {
-            let any = rng.bits() as u32;
-            let held = w[SETTINGS];
-            w[SETTINGS] = rng.pick(&[held ^ 256, held ^ 4, held ^ 1, held ^ 2, held ^ 128, held | !255, any]);
-            format!("the settings word is {}", w[SETTINGS])
-        }
-        2 | 3 => progress(w, rng),
-        4 => alter::kept(w, rng),
-        5 | 6 => names_beside(w, rng),
-        7 => {
-            let said = made_up(&mut w[..BLOCK], rng);
-            // As a job leaves them: laying is carried out on such words too.
-            (0..records(w)).filter(|_| rng.one_in(2)).for_each(|r| (w[MARK + r], w[PRESENT + r]) = (0, w[FIRST + r]));
-            said
-        }
-        8..=11 => asked(w, rng),
-        _ => alter(w, rng),
-    }
-}
-
-/// What laying asks of a record, or what it must carry over, altered so that the tests pass: the record it was cut from, a reason, a present place, a start, a taker, an owner.
-fn asked(w: &mut [u32], rng: &mut Rng) -> String {
-    let held = records(w).min(MOST_RECORDS);
-    if held == 0 {
-        return "nothing".into();
-    }
-    let r = rng.below(held);
-    let any = rng.pick(&[0, held as u32 - 1, held as u32, NONE, 1 << 20]);
-    match rng.below(7) {
-        0 => w[CUT + r] = any,
-        1 => (w[FIRST + r], w[REASON + r]) = (NONE, 1 + rng.below(5) as u32),
-        2 => w[TAKER + r] = any,
-        3 | 4 => w[PRESENT + r] = w[NEXT + (w[FIRST + r] as usize).min(MOST_POINTS - 1)],
-        5 => w[START + r] = rng.pick(&[0, w[POINTS].wrapping_sub(1), w[POINTS], NONE, u32::MAX]),
-        _ => w[OWNER + r] = rng.pick(&[NONE, (r + 1) as u32 % held as u32]),
-    }
-    format!(
-        "record {r}: cut {}, reason {}, present {}, start {}, taker {}, owner {}",
-        w[CUT + r],
-        w[REASON + r],
-        w[PRESENT + r],
-        w[START + r],
-        w[TAKER + r],
-        w[OWNER + r]
-    )
-}
-
-/// Every ring to its end in some order, as far as there is room; then what came of each drawing, against the real Rust on its own job.
+/// Every ring to its end in some order, as far as there is room.
 fn to_the_end(room: &mut Room, rng: &mut Rng, list: &mut List) -> Same {
     let Some(table) = list.trails.table().filter(|_| list.trails.tested().is_ok()) else { return Ok(()) };
     let drawings = table.drawings();
@@ -396,20 +348,27 @@ fn to_the_end(room: &mut Room, rng: &mut Rng, list: &mut List) -> Same {
         busy.extend(held..records(room.front()));
     }
     list.settle(room)?;
-    let Some(history) = list.trails.live().filter(|history| history.done()) else { return Ok(()) };
+    if (0..records(room.front())).any(|r| is_live(room.front(), r)) {
+        return Ok(());
+    }
+    each_its_own(room, rng, list)?;
+    event(room, drawings > 1, "each drawing ends as the Rust ends it alone");
+    Ok(())
+}
+
+/// Where every ring is done: paths and reasons by the model, and each drawing's own by the real Rust.
+fn each_its_own(room: &mut Room, rng: &mut Rng, list: &List) -> Same {
+    let (Some(history), Some(table)) = (list.trails.live(), list.trails.table()) else { return Ok(()) };
     write_out(room, rng, &history.forest, WORDS, TRAY)?;
     let reasons = history.reasons()?;
-    for record in (0..reasons.len()).filter(|_| reasons.len() <= 24 || rng.below(reasons.len()) < 24) {
+    for record in (0..reasons.len()).filter(|_| reasons.len() <= FEW || rng.below(reasons.len()) < FEW) {
         ask(room, record as u32, Ok(reasons[record]))?;
     }
-    let Some(table) = list.trails.table() else { return Ok(()) };
     let (mut closed, mut open) = table.as_alone(&mut Oracle::default())?;
     let settings = room.front()[SETTINGS] as u8;
     let Some(Answer::Paths { closed: mut ours, open: mut lines, .. }) = read_tray(room.tray.get(), settings) else {
         return Err("the tray of a pair cannot be read back".into());
     };
     [&mut closed, &mut open, &mut ours, &mut lines].into_iter().for_each(|paths| paths.sort());
-    expect((ours, lines) == (closed, open), || "the paths are not those that the Rust gives for each drawing".into())?;
-    event(room, drawings > 1, "each drawing ends as the Rust ends it alone");
-    Ok(())
+    expect((ours, lines) == (closed, open), || "the paths are not those that the Rust gives for each drawing".into())
 }
