@@ -148,12 +148,13 @@ uint32_t outline_open(const uint8_t *job, size_t job_bytes, uint32_t *work, size
  * found. Steps may be taken in any order; an offcut is a new record, with the next number. */
 uint32_t outline_step(uint32_t *work, size_t work_words, uint32_t record);
 
-/* Lays two drawings on one table, each opened and not yet stepped: the second's points and records stand after the first's in the first's work space, in their order, with numbers raised
- * to fit, so record r of the second is then record r + (records of the first). No joins are made across. Both are stepped and written out from there as one job, and give each drawing's own
- * outlines and offcuts; the limits now bind the pair, and a pair may be laid together with a third. The second is only read, and the two work spaces must not overlap. The states that the first keeps remain, and going
- * back to one leaves the pair; those of the second are not brought.
- * Refusals in this order: 10 for the first's length, then the second's; 3 to 7 as a step, of the first, then of the second; 16: the settings bytes, the low bytes of the two settings words, are unequal; 12: in either a
- * record is an offcut or was discarded by a step, or a closed ring isn't at its start; 10: the points or the records of the pair are more than there may be. A refused call leaves every word of both as found. */
+/* Lays two drawings on one table, each opened and not yet stepped: the second's points and records stand after the first's, in the first's work space and in their order, with numbers
+ * raised to fit; where the first has n records, record r of the second is record n + r of the pair. No joins are made across. The pair is stepped and written out as one job, and gives each
+ * drawing's own outlines and offcuts; the limits bind the pair. A pair that is not yet stepped may be laid together with a third. The states that the first keeps remain, and going back to
+ * one leaves the pair; the second's are not brought. The second's work space is only read; the two must not overlap.
+ * Refusals in this order: 10 for the first's length, then for the second's; 3 to 7 as a step, of the first, then of the second; 16: the settings bytes, the low bytes of the two settings
+ * words, are unequal; 12: in either a record is an offcut or was discarded by a step, or a closed ring isn't at its start; 10: the pair has more points or records than there may be. A
+ * refused call leaves every word of both as found. */
 uint32_t outline_lay_together(uint32_t *first, size_t first_words, const uint32_t *second, size_t second_words);
 
 /* States to come back to: the next three calls. A name is one byte, any of the 256, 0 and 255 too. Refusals in this order: 10 for the length; 3 to 7 as a step, the last of them 7 for a name that
