@@ -1,5 +1,5 @@
 /* limits: every constant of outline.h against the library's calls. What is at a limit passes, what is one past it is refused; each refusal
- * is given by name, on a smallest job of docs/JOB.md; each reason, on the job with one of each; and states are kept of it. */
+ * is given by name, on a smallest job of docs/JOB.md; each reason, on the job with one of each; states are kept of it, and two of it laid together. */
 #include "outline.h"
 #include <stdio.h>
 #include <string.h>
@@ -9,7 +9,7 @@
 #define MARKS (16 + 6 * OUTLINE_POINTS + 3 * OUTLINE_RECORDS)
 
 static uint8_t job[2 * OUTLINE_JOB_BYTES], tray[OUTLINE_TRAY_BYTES], text[OUTLINE_TEXT_BYTES], written[OUTLINE_REWRITTEN_BYTES];
-static uint32_t work[OUTLINE_WORK_WORDS];
+static uint32_t work[OUTLINE_WORK_WORDS], second[OUTLINE_WORK_WORDS];
 static size_t length;
 static int faults;
 
@@ -279,12 +279,52 @@ static void states(void) {
     is("its reason", (uint32_t)told(0), 0);
 }
 
+/* ---- two drawings on one table */
+
+static uint32_t open_in(uint32_t *words) { return outline_open(job, length, words, OUTLINE_WORK_WORDS); }
+static uint32_t lay(void) { return outline_lay_together(work, OUTLINE_WORK_WORDS, second, OUTLINE_WORK_WORDS); }
+
+static void pairs(void) {
+    one_of_each();
+    is("one of each, the first", open_in(work), 0);
+    is("one of each, the second", open_in(second), 0);
+    is("a word of the first less", outline_lay_together(work, OUTLINE_WORK_WORDS - 1, second, OUTLINE_WORK_WORDS), OUTLINE_FULL);
+    is("a word of the second less", outline_lay_together(work, OUTLINE_WORK_WORDS, second, OUTLINE_WORK_WORDS - 1), OUTLINE_FULL);
+    is("together", lay(), 0);
+    is("their records", work[2], 2 * RINGS);
+    for (uint32_t r = 0; r < 2 * RINGS + 4; r++)
+        while (outline_step(work, OUTLINE_WORK_WORDS, r) == 0) continue;
+    is("their records, and two offcuts of each", work[2], 2 * RINGS + 4);
+    for (uint32_t r = 0; r < RINGS; r++) {
+        is("a reason of the first", told(r) >> 32 & 255, rings[r].reason);
+        is("a reason of the second", told(RINGS + r) >> 32 & 255, rings[r].reason);
+    }
+    is("the second's joined ring", told(RINGS + 1), answer(OUTLINE_JOINED, 0, RINGS));
+    is("what was stepped, laid again", lay(), OUTLINE_OUT_OF_TURN);
+    work[0] = 1;
+    is("and under other settings", lay(), OUTLINE_SETTINGS_DIFFER);
+    work[1] = OUTLINE_POINTS + 1;
+    is("and with too many points", lay(), OUTLINE_CROWDED);
+    /* As many points and records as there may be, and one of either more. */
+    largest(1);
+    is("the largest job, the first", open_in(work), 0);
+    settings();
+    is("nothing, the second", open_in(second), 0);
+    is("nothing beside the largest", lay(), 0);
+    second[1] = 1;
+    is("a point beside the largest", lay(), OUTLINE_FULL);
+    settings(), record(0, NONE, NONE);
+    is("a record, the second", open_in(second), 0);
+    is("a record beside the largest", lay(), OUTLINE_FULL);
+}
+
 int main(void) {
     lengths();
     listings();
     rewriting();
     reasons();
     states();
+    pairs();
     counts();
     coordinates();
     depths();

@@ -3,7 +3,8 @@
  *
  * Slices are a pointer and a count of elements, words of 32 bits and bytes. Any count will do, and so will any content: nothing outside a
  * slice is read or written, and every call ends. A pointer must point to as many elements as its count says, and be aligned for
- * them; with a count of 0 it may point anywhere but must not be null. The job, the work space, the tray and the text must not overlap.
+ * them; with a count of 0 it may point anywhere but must not be null. The slices of one call, job, work space, tray and text, or two work spaces, must
+ * not overlap.
  *
  * Nothing is kept between calls but the words of the work space, so two threads may use two work spaces at once. */
 #ifndef OUTLINE_H
@@ -83,21 +84,22 @@ extern "C" {
 /* ---- the answers: 0, or the refusal's number, the first that applies */
 
 enum outline_refusal {
-    OUTLINE_TORN = 1,          /* a field is cut off, or its length is not its tag's */
-    OUTLINE_STRANGE = 2,       /* the job is empty, or has a tag or a bit that does not belong there */
-    OUTLINE_CROWDED = 3,       /* more points, records, segments or joins than a job may have */
-    OUTLINE_OFF_THE_TABLE = 4, /* a coordinate is beyond 1,048,576 micrometres either way */
-    OUTLINE_NO_SUCH = 5,       /* a number names no point or no record of the job */
-    OUTLINE_LOOSE = 6,         /* a point's next and prev do not lead back to it */
-    OUTLINE_MUDDLED = 7,       /* owners go in a circle, or a point is not on the ring of the record that it names */
-    OUTLINE_OPEN_EDGE = 8,     /* a segment or a join names a point of an open ring */
-    OUTLINE_KNOT = 9,          /* a join's second point is already the next of its first */
-    OUTLINE_FULL = 10,         /* finishing needs more than 2,048 points or 512 records, or the work space is too short */
-    OUTLINE_SMALL_TRAY = 11,   /* the paths, or the job that is written, need more bytes than the tray has */
-    OUTLINE_OUT_OF_TURN = 12,  /* a step on a record that has none to take, the reason of an unknown record, or writing out or asking for a reason before every closed ring is done */
-    OUTLINE_BAD_RATE = 13,     /* more than one rate is given, or one that is not a whole number from 1 to 1,000 */
-    OUTLINE_UNKNOWN_NAME = 14, /* going back to, or dropping, a name that is not kept */
-    OUTLINE_NO_PLACE = 15      /* keeping a fifth name */
+    OUTLINE_TORN = 1,            /* a field is cut off, or its length is not its tag's */
+    OUTLINE_STRANGE = 2,         /* the job is empty, or has a tag or a bit that does not belong there */
+    OUTLINE_CROWDED = 3,         /* more points, records, segments or joins than a job may have */
+    OUTLINE_OFF_THE_TABLE = 4,   /* a coordinate is beyond 1,048,576 micrometres either way */
+    OUTLINE_NO_SUCH = 5,         /* a number names no point or no record of the job */
+    OUTLINE_LOOSE = 6,           /* a point's next and prev do not lead back to it */
+    OUTLINE_MUDDLED = 7,         /* owners go in a circle, or a point is not on the ring of the record that it names */
+    OUTLINE_OPEN_EDGE = 8,       /* a segment or a join names a point of an open ring */
+    OUTLINE_KNOT = 9,            /* a join's second point is already the next of its first */
+    OUTLINE_FULL = 10,           /* finishing, or laying together, needs more than 2,048 points or 512 records, or a work space is too short */
+    OUTLINE_SMALL_TRAY = 11,     /* the paths, or the job that is written, need more bytes than the tray has */
+    OUTLINE_OUT_OF_TURN = 12,    /* a step on a record that has none to take, the reason of an unknown record, writing out or asking for a reason before every closed ring is done, or laying together what was stepped */
+    OUTLINE_BAD_RATE = 13,       /* more than one rate is given, or one that is not a whole number from 1 to 1,000 */
+    OUTLINE_UNKNOWN_NAME = 14,   /* going back to, or dropping, a name that is not kept */
+    OUTLINE_NO_PLACE = 15,       /* keeping a fifth name */
+    OUTLINE_SETTINGS_DIFFER = 16 /* laying together two drawings whose settings bytes are unequal */
 };
 
 /* ---- where a record's ring went */
@@ -145,6 +147,15 @@ uint32_t outline_open(const uint8_t *job, size_t job_bytes, uint32_t *work, size
  * points or records than there are; with 3 to 7: the work space is not one that these calls left. A refused step leaves every word as
  * found. Steps may be taken in any order; an offcut is a new record, with the next number. */
 uint32_t outline_step(uint32_t *work, size_t work_words, uint32_t record);
+
+/* Lays two drawings on one table, each opened and not yet stepped: the second's points and records stand after the first's, in the first's work space and in their order, with numbers
+ * raised to fit; where the first has n records, record r of the second is record n + r of the pair. No joins are made across. The pair is stepped and written out as one job, and gives each
+ * drawing's own outlines and offcuts; the limits bind the pair. A pair that is not yet stepped may be laid together with a third. The states that the first keeps remain, and going back to
+ * one leaves the pair; the second's are not brought. The second's work space is only read; the two must not overlap.
+ * Refusals in this order: 10 for the first's length, then for the second's; 3 to 7 as a step, of the first, then of the second; 16: the settings bytes, the low bytes of the two settings
+ * words, are unequal; 12: in either a record is an offcut or was discarded by a step, or a closed ring isn't at its start; 10: the pair has more points or records than there may be. A
+ * refused call leaves every word of both as found. */
+uint32_t outline_lay_together(uint32_t *first, size_t first_words, const uint32_t *second, size_t second_words);
 
 /* States to come back to: the next three calls. A name is one byte, any of the 256, 0 and 255 too. Refusals in this order: 10 for the length; 3 to 7 as a step, the last of them 7 for a name that
  * is kept twice, which every call on an opened work space tests; then 14 or 15. A refused call leaves every word as found.

@@ -3,7 +3,7 @@ use mathlib.Core.Path.{_≡_, refl, sym, ap, _∙_, subst}
 use mathlib.Core.Bool.{Bool, true, false, cond, true≢false}
 use mathlib.Core.List.{List, [], _∷_, map}
 use mathlib.Core.Option.{Option, none, some}
-use Prim.Native.Nat.{ℕ, _%_, _≤_, _<_}
+use Prim.Native.Nat.{ℕ, _%_, _/_, _≤_, _<_}
 use native.Mathlib.Omega.{arith}
 use lib.Dec.{eqb}
 use Rattle.rings.specs.Progress.{Discard, Ring, atStart}
@@ -13,7 +13,7 @@ use Rattle.store.specs.Field.{rc, ct, FLAGS, FIRST, REASON, TAKER, SETTINGS, NO
 use Rattle.store.specs.Words.{Store, view}
 use Rattle.store.specs.Reason.{discardOf}
 use Rattle.store.specs.Sound.{recs, ringless, isOpen}
-use Rattle.store.specs.Value.{pointAt, ringPoints, reverseSolution}
+use Rattle.store.specs.Value.{pointAt, ringPoints, preserveCollinear, reverseSolution}
 use Rattle.paths.specs.Path as paths
 use Rattle.paths.specs.Path.{pathAt, smallBy}
 use Rattle.telling.specs.Telling.{keptReason, pathReason, reasonAt}
@@ -30,11 +30,11 @@ use Rattle.ended.proofs.Told.{lone-first, lone-later}
 
 -- ---- two stores with the same settings; a record of each, open or closed alike, with the same points
 
-module _ (s t : Store) (e : s (ct SETTINGS) 0 ≡ t (ct SETTINGS) 0) (a b : ℕ) (o : isOpen s a ≡ isOpen t b) (p : ringPoints s a ≡ ringPoints t b) where
+module _ (s t : Store) (g : preserveCollinear s ≡ preserveCollinear t) (e : reverseSolution s ≡ reverseSolution t) (a b : ℕ) (o : isOpen s a ≡ isOpen t b) (p : ringPoints s a ≡ ringPoints t b) where
   pub bare-too : ringless s a ≡ true → ringless t b ≡ true
   bare-too r = points-none t b (sym p ∙ ap (map (pointAt s)) (no-ring s a r))
 
-  ringed-too : ringless s a ≡ false → ringless t b ≡ false
+  pub ringed-too : ringless s a ≡ false → ringless t b ≡ false
   ringed-too r = go (ringless t b) refl
     where
       go : (c : Bool) → ringless t b ≡ c → ringless t b ≡ false
@@ -45,15 +45,15 @@ module _ (s t : Store) (e : s (ct SETTINGS) 0 ≡ t (ct SETTINGS) 0) (a b : ℕ)
   unfolding paths.pointAt
   points-too = p
 
-  path-too : pathAt s a ≡ pathAt t b
+  pub path-too : pathAt s a ≡ pathAt t b
   unfolding pathAt
-  path-too = rw (e, o, points-too)
+  path-too = rw (g, e, o, points-too)
 
-  small-too : smallBy s (reverseSolution s) (isOpen s a) a ≡ smallBy t (reverseSolution t) (isOpen t b) b
-  small-too = rw (e, o, points-too)
+  pub small-too : smallBy s (reverseSolution s) (isOpen s a) a ≡ smallBy t (reverseSolution t) (isOpen t b) b
+  small-too = rw (g, e, o, points-too)
 
   -- with rings
-  pub alike-ringed : ringless s a ≡ false → kindOf (reasonAt s a) ≡ kindOf (reasonAt t b)
+  alike-ringed : ringless s a ≡ false → kindOf (reasonAt s a) ≡ kindOf (reasonAt t b)
   alike-ringed r = go (pathAt s a) refl (smallBy s (reverseSolution s) (isOpen s a) a) refl
     where
       go : (x : Option (List Point)) → pathAt s a ≡ x → (c : Bool) → smallBy s (reverseSolution s) (isOpen s a) a ≡ c → kindOf (reasonAt s a) ≡ kindOf (reasonAt t b)
@@ -62,7 +62,7 @@ module _ (s t : Store) (e : s (ct SETTINGS) 0 ≡ t (ct SETTINGS) 0) (a b : ℕ)
       go (some l) h c d = rw (tells-written s a r l h, tells-written t b (ringed-too r) l (sym path-too ∙ h), o)
 
   -- discarded, by the same rule
-  pub alike-gone : (y : Discard) → ringless s a ≡ true → discardOf (s (rc REASON) a) ≡ some y → whyAt s a ≡ whyAt t b → kindOf (reasonAt s a) ≡ kindOf (reasonAt t b)
+  alike-gone : (y : Discard) → ringless s a ≡ true → discardOf (s (rc REASON) a) ≡ some y → whyAt s a ≡ whyAt t b → kindOf (reasonAt s a) ≡ kindOf (reasonAt t b)
   alike-gone y r h k =
       let r′ : ringless t b ≡ true = bare-too r in
       let h′ : discardOf (t (rc REASON) b) ≡ some y = sym (ap (λ (c : Bool). cond c (discardOf (t (rc REASON) b)) none) r′) ∙ sym k ∙ ap (λ (c : Bool). cond c (discardOf (s (rc REASON) a)) none) r ∙ h in
@@ -80,6 +80,12 @@ module _ (w : List ℕ) (o : Start w) (is js : List ℕ) where
   settings : s (ct SETTINGS) 0 ≡ t (ct SETTINGS) 0
   settings = follows w o is .settings ∙ sym (follows w o js .settings)
 
+  keeping : preserveCollinear s ≡ preserveCollinear t
+  keeping = ap (λ (n : ℕ). eqb (n % 2) 1) settings
+
+  direction : reverseSolution s ≡ reverseSolution t
+  direction = ap (λ (n : ℕ). eqb (n / 2 % 2) 1) settings
+
   -- lone rings with the same points and rule
   alike-lone : (a b : ℕ) (q q′ : Option ℕ) (L L′ : State (Ring Point)) → at (lones w is) a ≡ closedRing q L → at (lones w js) b ≡ closedRing q′ L′ → a < recs s → b < recs t
       → ringPoints s a ≡ ringPoints t b → whyAt s a ≡ whyAt t b → kindOf (reasonAt s a) ≡ kindOf (reasonAt t b)
@@ -92,11 +98,11 @@ module _ (w : List ℕ) (o : Start w) (is js : List ℕ) where
       h′ = subst (Has t b) e′ (after-list w o js .rings b l′)
 
       go : (c : Bool) → ringless s a ≡ c → kindOf (reasonAt s a) ≡ kindOf (reasonAt t b)
-      go false r = alike-ringed s t settings a b (h .closed ∙ sym (h′ .closed)) p r
+      go false r = alike-ringed s t keeping direction a b (h .closed ∙ sym (h′ .closed)) p r
       go true r =
           let f = ap (λ (es : List Lone). at es a) (lones-are w o is) ∙ e in
           let k = rule-kept w o is a q L (lone-of w o is a q L f) f r in
-          alike-gone s t settings a b (h .closed ∙ sym (h′ .closed)) p (k .rule) r (k .kept) y
+          alike-gone s t keeping direction a b (h .closed ∙ sym (h′ .closed)) p (k .rule) r (k .kept) y
 
   heads : (xs ys : List ℕ) → Same s t xs ys → (a b : ℕ) (cs ds : List ℕ) → xs ≡ a ∷ cs → ys ≡ b ∷ ds → (ringPoints s a ≡ ringPoints t b) × (whyAt s a ≡ whyAt t b)
   heads xs ys none-left a b cs ds e f = let z : _≡_ {A = ℕ} 0 1 = cc in absurd (omega arith)
@@ -127,7 +133,7 @@ module _ (w : List ℕ) (o : Start w) (is js : List ℕ) where
         go false r true c =
             let x = after-list w o is .open-rings j l c in
             let y = after-list w o js .open-rings j l c in
-            alike-ringed s t settings j j (ap (λ (n : ℕ). eqb (n % 2) 1) (x .words FLAGS ∙ sym (y .words FLAGS))) (x .points ∙ sym (y .points)) (ap (λ (n : ℕ). eqb n NONE) (x .words FIRST) ∙ r)
+            alike-ringed s t keeping direction j j (ap (λ (n : ℕ). eqb (n % 2) 1) (x .words FLAGS ∙ sym (y .words FLAGS))) (x .points ∙ sym (y .points)) (ap (λ (n : ℕ). eqb n NONE) (x .words FIRST) ∙ r)
         go false r false c =
             let f : fed w j ≡ leftClosed (atStart (ringPoints (view w) j)) = rw (r, c) in
             let h = heads (j ∷ []) (j ∷ []) (ends .rings j (atStart (ringPoints (view w) j)) l f) j j [] [] refl refl in

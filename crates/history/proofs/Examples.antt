@@ -4,10 +4,12 @@ use mathlib.Core.Path.{_≡_, refl}
 use mathlib.Core.List.{List, [], _∷_}
 use mathlib.Core.Option.{Option, none, some}
 use native.Mathlib.Omega.{arith}
+use Rattle.job.specs.declared.refusal.Refusal.{Refusal}
 use Rattle.job.specs.declared.refusal.Refusal.the-variants.{UnknownName, NoPlace}
 use Rattle.audit.specs.declared.Reply.the-variants.{Done, Refused}
+use Rattle.laying.specs.Lay.{layOf}
 use Rattle.states.specs.Places.{firstFrom}
-use Rattle.order.specs.Calls.{Name, Call, stepOn, writeTo, askOf, keepAs, backTo, dropName}
+use Rattle.order.specs.Calls.{Name, Call, stepOn, writeTo, askOf, keepAs, backTo, dropName, layWith}
 use Rattle.history.specs.Histories.{KeptState, Histories, historiesBy, historiesAfter, keepingNone, begun, led, keepAnswer, knownAnswer}
 
 abbrev n0 : Name
@@ -100,3 +102,39 @@ module _ (s : List ℕ) where
   but-again : keepAnswer (after full) 3 ≡ Done
   unfolding historiesBy firstFrom
   but-again = refl
+
+  -- ---- laying together: "with laying together in opening's place"
+
+  -- accepted, on a start: p are the pooled words
+  module _ (v : List ℕ) (e : layOf s v .answer ≡ Done) where
+    abbrev p : List ℕ
+    p = layOf s v .words
+
+    -- the live history begins anew at the pair
+    begins-anew : after (keepAs n0 ∷ layWith v ∷ stepOn 5 ∷ []) .live ≡ record { start = p; steps = 5 ∷ [] }
+    unfolding historiesBy firstFrom
+    begins-anew = rw e
+
+    -- "the first's kept states remain", each with its own history; a later one has the pair's
+    before-the-pair : after (keepAs n0 ∷ layWith v ∷ stepOn 5 ∷ keepAs n1 ∷ []) .places 0 ≡ keptAs 0 []
+    unfolding historiesBy firstFrom
+    before-the-pair = rw e
+
+    of-the-pair : after (keepAs n0 ∷ layWith v ∷ stepOn 5 ∷ keepAs n1 ∷ []) .places 1 ≡ some (record { name = 1; history = record { start = p; steps = 5 ∷ [] } })
+    unfolding historiesBy firstFrom
+    of-the-pair = rw e
+
+    -- going back to a state kept before leaves the pair
+    leaves-the-pair : after (keepAs n0 ∷ layWith v ∷ stepOn 5 ∷ backTo n0 ∷ stepOn 6 ∷ []) .live ≡ record { start = s; steps = 6 ∷ [] }
+    unfolding historiesBy firstFrom
+    leaves-the-pair = rw e
+
+    -- and to one kept since comes to it again
+    to-the-pair : after (keepAs n0 ∷ layWith v ∷ keepAs n1 ∷ backTo n0 ∷ backTo n1 ∷ stepOn 7 ∷ []) .live ≡ record { start = p; steps = 7 ∷ [] }
+    unfolding historiesBy firstFrom
+    to-the-pair = rw e
+
+  -- refused: nothing changes
+  lays-nothing : (v : List ℕ) (r : Refusal) → layOf s v .answer ≡ Refused r → after (keepAs n0 ∷ layWith v ∷ stepOn 5 ∷ []) .live ≡ record { start = s; steps = 5 ∷ [] }
+  unfolding historiesBy firstFrom
+  lays-nothing v r e = rw e

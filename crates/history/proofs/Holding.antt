@@ -31,10 +31,14 @@ use Rattle.states.specs.Places.{keepPlace}
 use Rattle.audit.specs.Left.{Left, left}
 use Rattle.states.specs.Calls.{stored, restored, freed, keepAt, backAt, dropAt, keepBy, backBy, dropBy, keepOf, goBackOf, dropOf}
 use Rattle.states.proofs.Lowest.{first-hits}
-use Rattle.order.specs.Calls.{Name, Call, stepOn, writeTo, askOf, keepAs, backTo, dropName, wordsBy}
-use Rattle.history.specs.Histories.{History, stateOf, KeptState, Histories, hasName, placeIn, keepIn, withPlace, withLive, historiesBy, keepAnswer, knownAnswer}
+use Rattle.order.specs.Calls.{Name, Call, stepOn, writeTo, askOf, keepAs, backTo, dropName, layWith, wordsBy}
+use Rattle.history.specs.Histories.{History, stateOf, KeptState, Histories, hasName, placeIn, keepIn, withPlace, withLive, withLaid, historiesBy, keepAnswer, knownAnswer}
 use Rattle.history.specs.AfterCalls.{FromStart, HoldsKept, HoldsAt, HasHistories}
 use Rattle.states.proofs.Words.{stored-length, stored-live, stored-name, stored-other, stored-copy, stored-others, restored-live, restored-behind, restored-length, freed-length, freed-live, freed-name, freed-other, freed-copies, behind-copies}
+use Rattle.laying.specs.Lay.{layOf}
+use Rattle.laying.proofs.Deciding.{refused-leaves, same-laying, same-laid}
+use Rattle.laid.specs.Two.{OfTwo}
+use Rattle.laid.proofs.Two.{two-drawings}
 use Rattle.history.proofs.Exactly.{fourteen, fifteen}
 use Rattle.history.proofs.Names.{place-agrees, keep-agrees, apart-but, kept-once}
 
@@ -94,6 +98,9 @@ module _ (b : Histories) (w : List ℕ) (H : Stands b w) where
       ∙ ap (λ (s : Store). cond (not (ltb i (recs s)) || anyLive s) (told.Refused OutOfTurn) (told.Because (reasonAt s i))) same-store
       ∙ sym (ap (λ (v : Verdict). reasonBy v (stateOf (b .live)) i) (usable-handed (stateOf (b .live)) (state-usable (b .live) (H .came))))
 
+  same-lays : (v : List ℕ) → layOf w v .answer ≡ layOf (stateOf (b .live)) v .answer
+  same-lays v = same-laying w (stateOf (b .live)) v (H .usable) (state-usable (b .live) (H .came)) (H .live) same-store
+
   keep-answer : (n : Name) → keepOf w (n .number) .answer ≡ keepAnswer b (n .number)
   keep-answer n = ap (λ (x : Left). x .answer) (keep-is n) ∙ by-place (ltb (keepIn b (n .number)) STATES) (stored w (keepIn b (n .number)) (n .number)) (Refused NoPlace)
 
@@ -114,6 +121,7 @@ module _ (b : Histories) (w : List ℕ) (H : Stands b w) where
         steps = same-answer w (stateOf (b .live)) (H .usable) (state-usable (b .live) (H .came)) (H .live);
         writings = same-write w (stateOf (b .live)) (H .usable) (state-usable (b .live) (H .came)) (H .live);
         reasons = same-reason;
+        layings = same-lays;
         keeping = keep-answer;
         going-back = back-answer;
         dropping = drop-answer;
@@ -241,6 +249,24 @@ module _ (b : Histories) (w : List ℕ) (H : Stands b w) where
       go true e = dropped (placeIn b (n .number)) (ltb-true (placeIn b (n .number)) STATES e)
       go false e = H
 
+  -- ---- laying together
+
+  lays : (v : List ℕ) → Stands (historiesBy b (layWith v)) (layOf w v .words)
+  unfolding historiesBy
+  lays v = go (layOf (stateOf (b .live)) v .answer) refl
+    where
+      go : (r : Reply) → layOf (stateOf (b .live)) v .answer ≡ r → Stands (withLaid b r (layOf (stateOf (b .live)) v .words)) (layOf w v .words)
+      go (Refused x) e = subst (Stands b) (sym (refused-leaves w v x (same-lays v ∙ e))) H
+      go Done e =
+          let s : OfTwo (stateOf (b .live)) v (layOf (stateOf (b .live)) v .words) = two-drawings (stateOf (b .live)) v .together e in
+          let t : OfTwo w v (layOf w v .words) = two-drawings w v .together (same-lays v ∙ e) in
+          record {
+            usable = record { long = t .both .long; sound = t .both .sound; apart = t .both .apart };
+            live = same-laid w (stateOf (b .live)) v (H .usable) (state-usable (b .live) (H .came)) (H .live) same-store;
+            came = record { from = s .both; demand-3 = s .holds };
+            places = λ p l. holds-behind w (layOf w v .words) (t .behind) p (b .places p) (H .places p l);
+          }
+
   -- ---- every call
 
   pub holds-by : (c : Call) → Stands (historiesBy b c) (wordsBy w c)
@@ -251,6 +277,7 @@ module _ (b : Histories) (w : List ℕ) (H : Stands b w) where
   holds-by (keepAs n) = keeps n
   holds-by (backTo n) = backs n
   holds-by (dropName n) = drops n
+  holds-by (layWith v) = lays v
 
 -- a work space that has its histories stands so
 pub stands : (b : Histories) (w : List ℕ) → HasHistories b w → Stands b w

@@ -39,7 +39,7 @@ use Rattle.ended.specs.Stages.{Stages}
 use Rattle.ended.proofs.Alike.{same-reasons}
 use Rattle.ended.proofs.Opened.{stages}
 use Rattle.ended.proofs.Told.{tells}
-use Rattle.history.specs.Histories.{History, Histories, historiesBy, historiesAfter, keepingNone, led, begun}
+use Rattle.history.specs.Histories.{History, Histories, historiesBy, historiesAfter, keepingNone, led, startAfter, begun}
 use Rattle.history.specs.AfterCalls.{AfterCalls}
 use Rattle.history.specs.Jobs.{SameShapes, storeAfter, ToldAfter, CallsFit, CallsNeverEnd, JobAfterCalls, JobThen, FinishedThen}
 use Rattle.history.proofs.Theorem.{after-calls}
@@ -58,6 +58,14 @@ after-both (c ∷ cs) ds b = after-both cs ds (historiesBy b c)
 led-both : (h : History) (cs : List Call) (is : List ℕ) → led h (cs ++ map stepOn is) ≡ led h cs ++ is
 led-both h cs is = ap (λ (b : Histories). b .live .steps) (after-both cs (map stepOn is) (keepingNone h)) ∙ steps-on is (historiesAfter (keepingNone h) cs)
 
+start-on : (is : List ℕ) (b : Histories) → historiesAfter b (map stepOn is) .live .start ≡ b .live .start
+unfolding historiesBy
+start-on [] b = refl
+start-on (i ∷ is) b = start-on is (historiesBy b (stepOn i))
+
+start-both : (h : History) (cs : List Call) (is : List ℕ) → startAfter h (cs ++ map stepOn is) ≡ startAfter h cs
+start-both h cs is = ap (λ (b : Histories). b .live .start) (after-both cs (map stepOn is) (keepingNone h)) ∙ start-on is (historiesAfter (keepingNone h) cs)
+
 -- ---- of a history of an accepted job, from what opening left
 
 module _ (bytes lent w : List ℕ) (f : openOf bytes lent ≡ end Accepted w) (is : List ℕ) (u : List ℕ) (a : AfterCalls (record { start = w; steps = is }) u) where
@@ -70,53 +78,61 @@ module _ (bytes lent w : List ℕ) (f : openOf bytes lent ≡ end Accepted w) (i
   abbrev t : Stages bytes lent w
   t = stages bytes lent w f
 
-  -- the words show the store that the steps leave, from this opening
-  shows : (cs : List Call) → storeAfter h u cs ≡ view (runOf w (led h cs))
-  shows cs = a .after-every-list cs .store ∙ ap (λ (s : List ℕ). view (runOf s (led h cs))) (a .one-start cs)
+  -- the words show the store that the steps leave, from the start that they lead from
+  shows : (cs : List Call) → storeAfter h u cs ≡ view (runOf (startAfter h cs) (led h cs))
+  shows cs = a .after-every-list cs .store
 
-  told : (cs : List Call) (j : ℕ) → j < recs (storeAfter h u cs) → anyLive (storeAfter h u cs) ≡ false → ToldAfter h u bytes lent t cs j
-  told cs j l d =
-      let r : ToldRight bytes lent w t (led h cs) j = tells bytes lent w f (led h cs) j (subst (λ (s : Store). j < recs s) (shows cs) l) (subst (λ (s : Store). anyLive s ≡ false) (shows cs) d) in
+  shows-from : (s : List ℕ) (cs : List Call) → startAfter h cs ≡ s → storeAfter h u cs ≡ view (runOf s (led h cs))
+  shows-from s cs p = shows cs ∙ ap (λ (x : List ℕ). view (runOf x (led h cs))) p
+
+  came : (cs : List Call) → Start (startAfter h cs)
+  came cs = a .after-every-list cs .came .from
+
+  told : (cs : List Call) → startAfter h cs ≡ w → (j : ℕ) → j < recs (storeAfter h u cs) → anyLive (storeAfter h u cs) ≡ false → ToldAfter h u bytes lent t cs j
+  told cs p j l d =
+      let z : storeAfter h u cs ≡ view (runOf w (led h cs)) = shows-from w cs p in
+      let r : ToldRight bytes lent w t (led h cs) j = tells bytes lent w f (led h cs) j (subst (λ (s : Store). j < recs s) z l) (subst (λ (s : Store). anyLive s ≡ false) z d) in
       record {
-        call = a .after-every-list cs .reasons j ∙ ap (λ (s : List ℕ). reasonOf (runOf s (led h cs)) j) (a .one-start cs) ∙ r .call ∙ ap (λ (s : Store). Because (reasonAt s j)) (sym (shows cs));
-        told = subst (λ (s : Store). Ended bytes lent w t (led h cs) j (reasonAt s j)) (sym (shows cs)) (r .told);
-        only = λ x y. r .only x y ∙ ap (λ (s : Store). reasonAt s j) (sym (shows cs));
-        opened = λ x. subst (λ (s : Store). OfOpen (reasonAt s j)) (sym (shows cs)) (r .opened (subst (λ (s : Store). isOpen s j ≡ true) (shows cs) x));
+        call = a .after-every-list cs .reasons j ∙ ap (λ (s : List ℕ). reasonOf (runOf s (led h cs)) j) p ∙ r .call ∙ ap (λ (s : Store). Because (reasonAt s j)) (sym z);
+        told = subst (λ (s : Store). Ended bytes lent w t (led h cs) j (reasonAt s j)) (sym z) (r .told);
+        only = λ x y. r .only x y ∙ ap (λ (s : Store). reasonAt s j) (sym z);
+        opened = λ x. subst (λ (s : Store). OfOpen (reasonAt s j)) (sym z) (r .opened (subst (λ (s : Store). isOpen s j ≡ true) z x));
       }
 
-  tidy : (cs : List Call) (j : ℕ) → Closed (storeAfter h u cs) j → dueAt (storeAfter h u cs) j ≡ triangle → PassBehind w (led h cs) j
-  tidy cs j c d = nothing-left w o (led h cs) j (subst (λ (s : Store). Closed s j) (shows cs) c) (subst (λ (s : Store). dueAt s j ≡ triangle) (shows cs) d)
+  tidy : (cs : List Call) (j : ℕ) → Closed (storeAfter h u cs) j → dueAt (storeAfter h u cs) j ≡ triangle → PassBehind (startAfter h cs) (led h cs) j
+  tidy cs j c d = nothing-left (startAfter h cs) (came cs) (led h cs) j (subst (λ (s : Store). Closed s j) (shows cs) c) (subst (λ (s : Store). dueAt s j ≡ triangle) (shows cs) d)
 
-  over : (cs : List Call) → anyLive (storeAfter h u cs) ≡ false → AllDoneAfter w (led h cs)
-  over cs d = demand-3 w o .after-every-list (led h cs) .all-done .0 (subst (λ (s : Store). anyLive s ≡ false) (shows cs) d)
+  over : (s : List ℕ) (cs : List Call) → startAfter h cs ≡ s → anyLive (storeAfter h u cs) ≡ false → AllDoneAfter s (led h cs)
+  over s cs p d = subst (λ (x : List ℕ). AllDoneAfter x (led h cs)) p (a .after-every-list cs .came .demand-3 .after-every-list (led h cs) .all-done .0 (subst (λ (x : Store). anyLive x ≡ false) (shows cs) d))
 
-  same : (cs ds : List Call) → anyLive (storeAfter h u cs) ≡ false → anyLive (storeAfter h u ds) ≡ false → SameShapes w (storeAfter h u cs) (storeAfter h u ds)
-  same cs ds c d =
-      let x : SameEnd w (led h cs) (led h ds) = demand-3 w o .whatever-order (led h cs) (led h ds) (over cs c) (over ds d) in
-      let y : SameReasons w (led h cs) (led h ds) = same-reasons w o (led h cs) (led h ds) (over cs c) (over ds d) in
-      subst (λ (s : Store). SameShapes w s (storeAfter h u ds)) (sym (shows cs))
-      (subst (SameShapes w (view (runOf w (led h cs)))) (sym (shows ds))
+  same : (cs ds : List Call) → startAfter h cs ≡ startAfter h ds → anyLive (storeAfter h u cs) ≡ false → anyLive (storeAfter h u ds) ≡ false → SameShapes (startAfter h cs) (storeAfter h u cs) (storeAfter h u ds)
+  same cs ds p c d =
+      let s : List ℕ = startAfter h cs in
+      let x : SameEnd s (led h cs) (led h ds) = a .after-every-list cs .came .demand-3 .whatever-order (led h cs) (led h ds) (over s cs refl c) (over s ds (sym p) d) in
+      let y : SameReasons s (led h cs) (led h ds) = same-reasons s (came cs) (led h cs) (led h ds) (over s cs refl c) (over s ds (sym p) d) in
+      subst (λ (z : Store). SameShapes s z (storeAfter h u ds)) (sym (shows cs))
+      (subst (SameShapes s (view (runOf s (led h cs)))) (sym (shows-from s ds (sym p)))
       (record { points-used = x .points-used; records-used = x .records-used; rings = x .rings; open-rings = x .open-rings; reasons = y .records; offcut-reasons = y .offcuts }))
 
-  ended : (cs : List Call) (js : List ℕ) → AllDoneAfter w (led h cs ++ js) → anyLive (storeAfter h u (cs ++ map stepOn js)) ≡ false
+  ended : (cs : List Call) (js : List ℕ) → AllDoneAfter (startAfter h cs) (led h cs ++ js) → anyLive (storeAfter h u (cs ++ map stepOn js)) ≡ false
   ended cs js d =
-      ap anyLive (shows (cs ++ map stepOn js))
-      ∙ ap (λ (l : List ℕ). anyLive (view (runOf w l))) (led-both h cs js)
-      ∙ demand-3 w o .after-every-list (led h cs ++ js) .all-done .1 d
+      ap anyLive (shows-from (startAfter h cs) (cs ++ map stepOn js) (start-both h cs js))
+      ∙ ap (λ (l : List ℕ). anyLive (view (runOf (startAfter h cs) l))) (led-both h cs js)
+      ∙ a .after-every-list cs .came .demand-3 .after-every-list (led h cs ++ js) .all-done .1 d
 
-  fits : RingsFit w → CallsFit h u
-  fits r =
+  fits : (s : List ℕ) → RingsFit s → CallsFit h u s
+  fits s r =
       record {
-        never-full = λ cs i e. r .never-full (led h cs) i (ap (λ (s : List ℕ). stepOf (runOf s (led h cs)) i .answer) (sym (a .one-start cs)) ∙ sym (a .after-every-list cs .steps i) ∙ e);
-        goes-on = λ cs. (r .goes-on (led h cs) .0, ended cs (r .goes-on (led h cs) .0) (r .goes-on (led h cs) .1));
+        never-full = λ cs p i e. r .never-full (led h cs) i (ap (λ (x : List ℕ). stepOf (runOf x (led h cs)) i .answer) (sym p) ∙ sym (a .after-every-list cs .steps i) ∙ e);
+        goes-on = λ cs p. (r .goes-on (led h cs) .0, ended cs (r .goes-on (led h cs) .0) (subst (λ (x : List ℕ). AllDoneAfter x (led h cs ++ r .goes-on (led h cs) .0)) (sym p) (r .goes-on (led h cs) .1)));
       }
 
-  two-ways : CallsFit h u ⊎ CallsNeverEnd h u
-  two-ways = go (demand-3 w o .either)
+  two-ways : (cs : List Call) → CallsFit h u (startAfter h cs) ⊎ CallsNeverEnd h u (startAfter h cs)
+  two-ways cs = go (startAfter h cs) (a .after-every-list cs .came .demand-3 .either)
     where
-      go : RingsFit w ⊎ RingsNeverEnd w → CallsFit h u ⊎ CallsNeverEnd h u
-      go (inl r) = inl (fits r)
-      go (inr n) = inr (λ cs d. n (led h cs) (over cs d))
+      go : (s : List ℕ) → RingsFit s ⊎ RingsNeverEnd s → CallsFit h u s ⊎ CallsNeverEnd h u s
+      go s (inl r) = inl (fits s r)
+      go s (inr n) = inr (λ ds p d. n (led h ds) (over s ds p d))
 
   pub job-after : JobAfterCalls h u bytes lent t
   job-after = record { after-calls = a; told = told; tidy = tidy; whatever-order = same; either = two-ways }

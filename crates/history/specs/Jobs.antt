@@ -1,4 +1,4 @@
--- Of a job, after any list of calls: what requests 5 and 6 and demand 3 say of lists of steps. And finishing in one call, with calls after it.
+-- Of a job, after any list of calls, laying together among them: what requests 5 and 6 and demand 3 say of lists of steps. And finishing in one call, with calls after it.
 use Prim.Native.Nat.{ℕ, _≤_, _<_}
 use mathlib.Core.Path.{_≡_}
 use mathlib.Core.Logic.{_⊎_}
@@ -25,10 +25,10 @@ use Rattle.tidied.specs.Tidied.{PassBehind}
 use Rattle.ended.specs.Alike.{kindOf}
 use Rattle.ended.specs.Ended.{OfOpen, Ended}
 use Rattle.ended.specs.Stages.{Stages}
-use Rattle.history.specs.Histories.{History, stateOf, led}
+use Rattle.history.specs.Histories.{History, stateOf, led, startAfter}
 use Rattle.history.specs.AfterCalls.{AfterCalls}
 
--- two stores that lists of calls left, every closed ring done, w being what opening left: the same counts, rings and reasons, and open rings word for word. Numbers of offcuts may differ
+-- two stores that lists of calls left, every closed ring done, w being the start of both: the same counts, rings and reasons, and open rings word for word. Numbers of offcuts may differ
 pub record SameShapes (w : List ℕ) (s t : Store) : Type 0 where
   pub points-used : pts s ≡ pts t
   pub records-used : recs s ≡ recs t
@@ -50,25 +50,25 @@ module _ (h : History) (u : List ℕ) where
     pub only : (r : Reason) → Ended bytes lent (h .start) t (led h cs) j r → r ≡ reasonAt (storeAfter cs) j
     pub opened : isOpen (storeAfter cs) j ≡ true → OfOpen (reasonAt (storeAfter cs) j)
 
-  -- "no such list has a step refused as full and each can be carried on until all are done": by further steps
-  pub record CallsFit : Type 0 where
-    pub never-full : (cs : List Call) (i : ℕ) → ¬ (stepOf (wordsAfter u cs) i .answer ≡ Refused Full)
-    pub goes-on : (cs : List Call) → (is : List ℕ) × (anyLive (storeAfter (cs ++ map stepOn is)) ≡ false)
+  -- of the lists whose steps lead from the start s: "no such list has a step refused as full and each can be carried on until all are done": by further steps
+  pub record CallsFit (s : List ℕ) : Type 0 where
+    pub never-full : (cs : List Call) → startAfter h cs ≡ s → (i : ℕ) → ¬ (stepOf (wordsAfter u cs) i .answer ≡ Refused Full)
+    pub goes-on : (cs : List Call) → startAfter h cs ≡ s → (is : List ℕ) × (anyLive (storeAfter (cs ++ map stepOn is)) ≡ false)
 
   -- "or none can be carried on so far"
-  abbrev pub CallsNeverEnd : Type 0
-  CallsNeverEnd = (cs : List Call) → ¬ (anyLive (storeAfter cs) ≡ false)
+  abbrev pub CallsNeverEnd : List ℕ → Type 0
+  CallsNeverEnd s = (cs : List Call) → startAfter h cs ≡ s → ¬ (anyLive (storeAfter cs) ≡ false)
 
   pub record JobAfterCalls (bytes lent : List ℕ) (t : Stages bytes lent (h .start)) : Type 0 where
     pub after-calls : AfterCalls h u
-    -- request 5
-    pub told : (cs : List Call) (j : ℕ) → j < recs (storeAfter cs) → anyLive (storeAfter cs) ≡ false → ToldAfter bytes lent t cs j
+    -- request 5, where the steps lead from this opening: no laying together was accepted (`one-start`), or a state kept before it was gone back to. (Of a laid drawing: `laid`, `OwnOf .reasons`)
+    pub told : (cs : List Call) → startAfter h cs ≡ h .start → (j : ℕ) → j < recs (storeAfter cs) → anyLive (storeAfter cs) ≡ false → ToldAfter bytes lent t cs j
     -- request 6: wherever the triangle test is due, a whole removal pass is behind the ring, in the steps that led here
-    pub tidy : (cs : List Call) (j : ℕ) → Closed (storeAfter cs) j → dueAt (storeAfter cs) j ≡ triangle → PassBehind (h .start) (led h cs) j
-    -- demand 3's `whatever-order`, and request 5's "Any order of steps gives a ring the same reason"
-    pub whatever-order : (cs ds : List Call) → anyLive (storeAfter cs) ≡ false → anyLive (storeAfter ds) ≡ false → SameShapes (h .start) (storeAfter cs) (storeAfter ds)
-    -- and its two ways
-    pub either : CallsFit ⊎ CallsNeverEnd
+    pub tidy : (cs : List Call) (j : ℕ) → Closed (storeAfter cs) j → dueAt (storeAfter cs) j ≡ triangle → PassBehind (startAfter h cs) (led h cs) j
+    -- demand 3's `whatever-order`, and request 5's "Any order of steps gives a ring the same reason", of two lists whose steps lead from one start
+    pub whatever-order : (cs ds : List Call) → startAfter h cs ≡ startAfter h ds → anyLive (storeAfter cs) ≡ false → anyLive (storeAfter ds) ≡ false → SameShapes (startAfter h cs) (storeAfter cs) (storeAfter ds)
+    -- and its two ways, from every start that a list comes to: this opening (the empty list, and every other with no laying accepted), or a pair
+    pub either : (cs : List Call) → CallsFit (startAfter h cs) ⊎ CallsNeverEnd (startAfter h cs)
 
 -- of the job's bytes in a lent work space: opening accepts it, the steps of the history h led from there to u, and calls may follow
 pub record JobThen (bytes lent : List ℕ) (h : History) (u : List ℕ) : Type 0 where

@@ -1,7 +1,7 @@
--- The table of refusals: document 01's twelve, and document 02's 13 "bad rate", 14 "unknown name", 15 "no place".
+-- The table of refusals: document 01's twelve, and document 02's 13 "bad rate", 14 "unknown name", 15 "no place", 16 "settings differ".
 use Prim.Native.Nat.{ℕ}
 use Rattle.job.specs.declared.refusal.Refusal.{Refusal}
-use Rattle.job.specs.declared.refusal.Refusal.the-variants.{Torn, Strange, Crowded, OffTheTable, NoSuch, Loose, Muddled, OpenEdge, Knot, Full, SmallTray, OutOfTurn, BadRate, UnknownName, NoPlace}
+use Rattle.job.specs.declared.refusal.Refusal.the-variants.{Torn, Strange, Crowded, OffTheTable, NoSuch, Loose, Muddled, OpenEdge, Knot, Full, SmallTray, OutOfTurn, BadRate, UnknownName, NoPlace, SettingsDiffer}
 
 abbrev pub numberOf : Refusal → ℕ
 numberOf Torn = 1
@@ -19,3 +19,4 @@ numberOf OutOfTurn = 12
 numberOf BadRate = 13
 numberOf UnknownName = 14
 numberOf NoPlace = 15
+numberOf SettingsDiffer = 16

@@ -1,4 +1,4 @@
-// The refusals of document 01's table, and 13 to 15 of document 02.
+// The refusals of document 01's table, and 13 to 16 of document 02.
 ghost use mathlib.Core.Path.{_≡_};
 ghost use Rattle.job.specs.Refusal.{numberOf};
 
@@ -18,6 +18,7 @@ pub enum Refusal {
     BadRate,
     UnknownName,
     NoPlace,
+    SettingsDiffer,
 }
 
 impl Refusal {
@@ -41,6 +42,7 @@ impl Refusal {
             Refusal::BadRate => 13,
             Refusal::UnknownName => 14,
             Refusal::NoPlace => 15,
+            Refusal::SettingsDiffer => 16,
         }
     }
 }

@@ -21,6 +21,8 @@ use Rattle.audit.specs.declared.Verdict.the-variants as verdict
 use Rattle.audit.specs.Tests.{isIn, anyBelow, reach, reachedBy, namesNothing, testsOf}
 use Rattle.audit.specs.Handed.{keptTwice, namesTested, testedOf, handedOf}
 use Rattle.audit.proofs.Handing.{handed-sound}
+use Rattle.laying.specs.Lay.{layOf}
+use Rattle.laying.proofs.Deciding.{lay-more, lay-second, lay-behind}
 use Rattle.acts.proofs.Beyond.{view-more, step-more}
 use Rattle.acts.specs.Step.{answerS, stepW}
 use Rattle.paths.specs.declared.Written.the-variants as written
@@ -109,11 +111,13 @@ module _ (v m : List ℕ) (n : length v ≡ LENGTH) where
   names-same (verdict.Refused r) = refl
   names-same verdict.Passed = ap (λ (b : Bool). cond b (verdict.Refused Muddled) verdict.Passed) same-twice
 
+  same-tested : testedOf (v ++ m) ≡ testedOf v
+  unfolding testedOf
+  same-tested = names-same (testsOf (v ++ m)) ∙ ap (namesTested v) (tests-same (v ++ m) v (view-more m v block-long))
+
   same-handed : handedOf (v ++ m) ≡ handedOf v
-  unfolding handedOf testedOf
-  same-handed =
-      rw (le-ltb (length (v ++ m)) LENGTH longer, le-ltb (length v) LENGTH long)
-      (names-same (testsOf (v ++ m)) ∙ ap (namesTested v) (tests-same (v ++ m) v (view-more m v block-long)))
+  unfolding handedOf
+  same-handed = rw (le-ltb (length (v ++ m)) LENGTH longer, le-ltb (length v) LENGTH long) same-tested
 
   steps : (i : ℕ) → stepOf (v ++ m) i ≡ left (stepOf v i .answer) (stepOf v i .words ++ m)
   steps i =
@@ -208,6 +212,14 @@ module _ (v m : List ℕ) (n : length v ≡ LENGTH) where
       by (verdict.Refused r) = refl
       by verdict.Passed = ap (dropAt (v ++ m)) (same-place k) ∙ at-place (placeOf v k) (λ u. freed u (placeOf v k)) (Refused UnknownName) (freed-more (placeOf v k)) (ltb (placeOf v k) STATES) refl
 
+  -- ---- laying together
+
+  layings : (x : List ℕ) → layOf (v ++ m) x ≡ left (layOf v x .answer) (layOf v x .words ++ m)
+  layings x = lay-more v x m long longer (view-more m v block-long) same-tested
+
+  second-ones : (w : List ℕ) → layOf w (v ++ m) ≡ layOf w v
+  second-ones w = lay-second w (v ++ m) v longer long (view-more m v block-long) same-tested
+
 pub behind : Behind
 behind =
     record {
@@ -215,10 +227,13 @@ behind =
       keepings = keepings;
       returns = returns;
       droppings = droppings;
+      layings = layings;
       writings = writings;
       reasons = reasons;
+      second-ones = second-ones;
       by-steps = call-behind;
       by-returns = back-behind;
+      by-layings = lay-behind;
       openings = open-rest;
       finishings = finish-rest;
     }

@@ -2,6 +2,7 @@
 use Prim.Native.Nat.{ℕ, _<_}
 use mathlib.Core.List.{List, [], _∷_}
 use Rattle.store.specs.States.{BYTES}
+use Rattle.laying.specs.Lay.{layOf}
 use Rattle.finishing.specs.Step.{stepOf}
 use Rattle.states.specs.Calls.{keepOf, goBackOf, dropOf}
 
@@ -10,7 +11,7 @@ pub record Name : Type 0 where
   pub number : ℕ
   pub low : number < BYTES
 
--- a step on a record number, writing out to a tray, asking for a record's reason, keeping, going back, dropping
+-- a step on a record number, writing out to a tray, asking for a record's reason, keeping, going back, dropping, laying another work space's drawing beside this one
 pub data Call : Type 0 where
   stepOn : ℕ → Call
   writeTo : List ℕ → Call
@@ -18,6 +19,7 @@ pub data Call : Type 0 where
   keepAs : Name → Call
   backTo : Name → Call
   dropName : Name → Call
+  layWith : List ℕ → Call
 
 -- the words after a call; writing out and asking only read them
 abbrev pub wordsBy : List ℕ → Call → List ℕ
@@ -27,6 +29,7 @@ wordsBy w (askOf i) = w
 wordsBy w (keepAs n) = keepOf w (n .number) .words
 wordsBy w (backTo n) = goBackOf w (n .number) .words
 wordsBy w (dropName n) = dropOf w (n .number) .words
+wordsBy w (layWith v) = layOf w v .words
 
 abbrev pub wordsAfter : List ℕ → List Call → List ℕ
 wordsAfter w [] = w
@@ -43,6 +46,7 @@ StepsOrReads (askOf i ∷ cs) = StepsOrReads cs
 StepsOrReads (keepAs n ∷ cs) = ⊥
 StepsOrReads (backTo n ∷ cs) = ⊥
 StepsOrReads (dropName n ∷ cs) = ⊥
+StepsOrReads (layWith v ∷ cs) = ⊥
 
 -- the steps among them
 abbrev pub stepsIn : List Call → List ℕ
@@ -53,3 +57,4 @@ stepsIn (askOf i ∷ cs) = stepsIn cs
 stepsIn (keepAs n ∷ cs) = stepsIn cs
 stepsIn (backTo n ∷ cs) = stepsIn cs
 stepsIn (dropName n ∷ cs) = stepsIn cs
+stepsIn (layWith v ∷ cs) = stepsIn cs

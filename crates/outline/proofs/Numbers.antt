@@ -37,7 +37,8 @@ use Rattle.telling.specs.Telling.{reasonOf}
 use Rattle.telling.specs.Within.{NumberWithin, ToldWithin}
 use Rattle.telling.proofs.Within.{told-within}
 use Rattle.states.specs.Calls.{keepOf, goBackOf, dropOf}
-use Rattle.outline.specs.Calls.{openedNumber, replyNumber, writtenNumber, listedBytes, rewrittenNumber, reasonWord, toldNumber, rateFrom, textShort, worked, wrote, finished, listing, asOpened, asReplied, asWritten, asFinished, asListed, asRewritten, openC, stepC, keepC, backC, dropC, writeC, finishC, listC, rewriteC, reasonC}
+use Rattle.laying.specs.Lay.{layOf}
+use Rattle.outline.specs.Calls.{openedNumber, replyNumber, writtenNumber, listedBytes, rewrittenNumber, reasonWord, toldNumber, rateFrom, textShort, worked, wrote, finished, listing, asOpened, asReplied, asWritten, asFinished, asListed, asRewritten, openC, stepC, keepC, backC, dropC, layC, writeC, finishC, listC, rewriteC, reasonC}
 
 pub as-opened : (bytes lent : List ℕ) (k : ℕ) (a : Opened) (w : List ℕ) → end a w ≡ openOf bytes lent → k ≡ openedNumber a → worked k w ≡ openC bytes lent
 unfolding openC
@@ -59,6 +60,10 @@ module _ (v : List ℕ) (n k : ℕ) (a : Reply) (w : List ℕ) (h : k ≡ replyN
   pub as-dropped : left a w ≡ dropOf v n → worked k w ≡ dropC v n
   unfolding dropC
   as-dropped e = ap (λ (z : ℕ). worked z w) h ∙ ap asReplied e
+
+pub as-laid : (w v : List ℕ) (k : ℕ) (a : Reply) (u : List ℕ) → left a u ≡ layOf w v → k ≡ replyNumber a → worked k u ≡ layC w v
+unfolding layC
+as-laid w v k a u e h = ap (λ (z : ℕ). worked z u) h ∙ ap asReplied e
 
 pub as-written : (w u : List ℕ) (k : ℕ) (a : Written) (t : List ℕ) → paths.wrote a t ≡ writeOf w u → k ≡ writtenNumber a → wrote k t ≡ writeC w u
 unfolding writeC

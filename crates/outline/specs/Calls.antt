@@ -23,6 +23,7 @@ use Rattle.finishing.specs.Write.{writeOf}
 use Rattle.finishing.specs.InOneCall as call
 use Rattle.finishing.specs.InOneCall.{finishOf}
 use Rattle.states.specs.Calls.{keepOf, goBackOf, dropOf}
+use Rattle.laying.specs.Lay.{layOf}
 use Rattle.listing.specs.declared.Listed.{Listed}
 use Rattle.listing.specs.declared.Listed.the-variants.{Bytes, NoRoom}
 use Rattle.listing.specs.Room.{TEXT}
@@ -157,6 +158,10 @@ backC w n = asReplied (goBackOf w n)
 
 unfoldable pub dropC : List ℕ → ℕ → Worked
 dropC w n = asReplied (dropOf w n)
+
+-- `outline_lay_together`
+unfoldable pub layC : List ℕ → List ℕ → Worked
+layC w v = asReplied (layOf w v)
 
 -- `outline_write`
 unfoldable pub writeC : List ℕ → List ℕ → Wrote

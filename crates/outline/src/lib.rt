@@ -1,10 +1,11 @@
-// The entry points for C and Rust: the same calls, answering 0 or the refusal's number; the listing; rewriting; and telling a record's reason.
+// The entry points for C and Rust: the same calls, answering 0 or the refusal's number; the listing; rewriting; laying two drawings together; and telling a record's reason.
 use audit::Reply;
 use finishing::finish::finish;
 use finishing::open;
 use finishing::step;
 use finishing::write_out;
 use job_listing::list_job;
+use laying::lay_together;
 use listing::Listed;
 use listing::TEXT;
 use opening::open::Opened;
@@ -29,7 +30,7 @@ ghost use Rattle.prefix.specs.Decides.{LONGEST};
 ghost use Rattle.rewriting.specs.Answers.{BytesWithin};
 ghost use Rattle.paths.specs.Tray.{tagOf};
 ghost use Rattle.telling.specs.Within.{NumberWithin, ToldWithin};
-ghost use Rattle.outline.specs.Calls.{openedNumber, replyNumber, writtenNumber, listedBytes, rewrittenNumber, reasonWord, toldNumber, rateFrom, textShort, worked, wrote, finished, listing, openC, stepC, keepC, backC, dropC, writeC, finishC, listC, rewriteC, reasonC};
+ghost use Rattle.outline.specs.Calls.{openedNumber, replyNumber, writtenNumber, listedBytes, rewrittenNumber, reasonWord, toldNumber, rateFrom, textShort, worked, wrote, finished, listing, openC, stepC, keepC, backC, dropC, layC, writeC, finishC, listC, rewriteC, reasonC};
 
 // ---- the numbers of answers
 
@@ -198,6 +199,15 @@ pub extern "C" fn outline_drop(work: &mut [u32], name: u8) -> u32
     ensures { λ r. ⌜ worked r (now (work .exit)) ≡ dropC (now (work .entry)) name ⌝ }
 {
     let a = drop(work, name);
+    reply_number(a)
+}
+
+// Lays the second's drawing beside the first's, in the first's work space. The second's is only read.
+#[no_mangle]
+pub extern "C" fn outline_lay_together(first: &mut [u32], second: &[u32]) -> u32
+    ensures { λ r. ⌜ worked r (now (first .exit)) ≡ layC (now (first .entry)) (now (second .entry)) ⌝ }
+{
+    let a = lay_together(first, second);
     reply_number(a)
 }
 

@@ -18,18 +18,20 @@
 //! [`Job`] makes those bytes from rings, and shares rings that are too many for one job out over several.
 //!
 //! Or by steps, in any order: [`open`], [`step`] on each record until it is refused as [`Refused::OUT_OF_TURN`], [`write()`]. On the way a state may be kept under a name, and gone back to:
-//! [`keep`], [`go_back`], [`drop_name`].
+//! [`keep`], [`go_back`], [`drop_name`]. Two opened jobs may be laid on one table, and stepped as one: [`lay_together`].
 //!
 //! A work space is lent by the caller and nothing else is kept between calls, so two threads may use two work spaces at once.
 #![deny(missing_docs)]
 
 mod job;
+mod laying;
 mod reason;
 mod refused;
 mod states;
 mod tray;
 
 pub use job::{Job, Ring};
+pub use laying::lay_together;
 pub use reason::Reason;
 pub use refused::Refused;
 pub use states::{drop_name, go_back, keep};

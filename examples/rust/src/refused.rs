@@ -4,7 +4,7 @@ use std::fmt;
 /// A number, a word and what it means in each line, with a tab between them.
 const TABLE: &str = include_str!("../refusals");
 
-/// The number of a refusal, 1 to 15.
+/// The number of a refusal, 1 to 16.
 ///
 /// ```
 /// use outline::Refused;
@@ -34,11 +34,11 @@ impl Refused {
     pub const OPEN_EDGE: Refused = Refused(8);
     /// A join's second point is already the next of its first.
     pub const KNOT: Refused = Refused(9);
-    /// Finishing needs more points or records than there may be, or the work space is too short.
+    /// Finishing, or laying together, needs more points or records than there may be, or a work space is too short.
     pub const FULL: Refused = Refused(10);
     /// The paths, or the job that is written, need more bytes than the tray has.
     pub const SMALL_TRAY: Refused = Refused(11);
-    /// A step on a record that has none to take, the reason of an unknown record, or writing out or asking for a reason before every closed ring is done.
+    /// A step on a record that has none to take, the reason of an unknown record, writing out or asking for a reason before every closed ring is done, or laying together what was stepped.
     pub const OUT_OF_TURN: Refused = Refused(12);
     /// More than one rate is given, or one that is not a whole number from 1 to [`RATE`](crate::RATE).
     pub const BAD_RATE: Refused = Refused(13);
@@ -46,6 +46,8 @@ impl Refused {
     pub const UNKNOWN_NAME: Refused = Refused(14);
     /// Keeping a fifth name.
     pub const NO_PLACE: Refused = Refused(15);
+    /// Laying together two drawings whose settings bytes are unequal.
+    pub const SETTINGS_DIFFER: Refused = Refused(16);
 
     /// The word and the meaning; none of a number that is no refusal's.
     fn said(self) -> Option<(&'static str, &'static str)> {

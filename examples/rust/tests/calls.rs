@@ -135,3 +135,67 @@ fn kept_after_finishing_in_one_call() {
     assert_eq!(work, kept);
     assert_eq!(reason(&work, 1), Ok(Reason::Written { open: false, place: 1 }));
 }
+
+/// Opened in a work space of its own.
+fn opened(job: &[u8]) -> Vec<u32> {
+    let mut work = vec![7; WORK_WORDS];
+    assert_eq!(open(job, &mut work), Ok(()));
+    work
+}
+
+/// Two drawings, and a third beside the pair: three times the triangles, each drawing's own; then back to the first alone, which was kept.
+#[test]
+fn laid_together() {
+    let (mut work, second, mut tray) = (opened(JOB), opened(JOB), vec![7; TRAY_BYTES]);
+    assert_eq!(keep(&mut work, 7), Ok(()));
+    let alone = work.clone();
+    for count in 2..=3 {
+        assert_eq!(lay_together(&mut work, &second), Ok(()));
+        assert_eq!(work[1..3], [4 * count, count]);
+        assert_eq!(work[16 + 6 * POINTS + 9 * RECORDS..], alone[16 + 6 * POINTS + 9 * RECORDS..]);
+    }
+    assert_eq!(second, opened(JOB));
+    for record in (0..6).rev().chain(3..6) {
+        while step(&mut work, record).is_ok() {}
+    }
+    assert_eq!(write(&work, &mut tray), Ok(()));
+    let [piece, hole] = &triangles()[..] else { panic!("two triangles") };
+    assert_eq!(paths(&tray).iter().collect::<Vec<_>>(), [piece, piece, piece, hole, hole, hole]);
+    assert_eq!(go_back(&mut work, 7), Ok(()));
+    assert_eq!(work[..16 + 6 * POINTS + 9 * RECORDS], alone[..16 + 6 * POINTS + 9 * RECORDS]);
+}
+
+/// Each refusal in its turn, and both work spaces as found.
+#[test]
+fn refused_laying_leaves_both() {
+    let other = [&JOB[..3], &[JOB[3] ^ 2], &JOB[4..]].concat();
+    let refuses = |mut first: Vec<u32>, second: Vec<u32>, refused: Refused| {
+        let before = first.clone();
+        assert_eq!(lay_together(&mut first, &second), Err(refused));
+        assert_eq!(first, before);
+    };
+    let (good, differs) = (opened(JOB), opened(&other));
+    let short = good[..WORK_WORDS - 1].to_vec();
+    let altered = |work: &[u32], at: usize, word: u32| {
+        let mut work = work.to_vec();
+        work[at] = word;
+        work
+    };
+    let crowded = altered(&good, 1, POINTS as u32 + 1);
+    let mut stepped = differs.clone();
+    assert_eq!(step(&mut stepped, 0), Ok(()));
+    refuses(short.clone(), crowded.clone(), Refused::FULL);
+    refuses(crowded.clone(), short, Refused::FULL);
+    refuses(crowded.clone(), altered(&good, 16, u32::MAX), Refused::CROWDED);
+    refuses(altered(&good, 16, u32::MAX), crowded, Refused::OFF_THE_TABLE);
+    refuses(stepped.clone(), good.clone(), Refused::SETTINGS_DIFFER);
+    refuses(good.clone(), stepped.clone(), Refused::SETTINGS_DIFFER);
+    refuses(stepped.clone(), differs.clone(), Refused::OUT_OF_TURN);
+    refuses(differs, stepped, Refused::OUT_OF_TURN);
+    // As many points as there may be, of which most are on no ring.
+    refuses(altered(&good, 1, POINTS as u32 - 3), good.clone(), Refused::FULL);
+    assert_eq!(lay_together(&mut altered(&good, 1, POINTS as u32 - 4), &good), Ok(()));
+    // Bytes are compared: what is above them in the word is not.
+    assert_eq!(lay_together(&mut altered(&good, 0, 256), &good), Ok(()));
+    refuses(altered(&good, 0, 4), good, Refused::SETTINGS_DIFFER);
+}

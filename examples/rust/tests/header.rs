@@ -47,6 +47,7 @@ fn constants() {
         ("BAD_RATE", Refused::BAD_RATE),
         ("UNKNOWN_NAME", Refused::UNKNOWN_NAME),
         ("NO_PLACE", Refused::NO_PLACE),
+        ("SETTINGS_DIFFER", Refused::SETTINGS_DIFFER),
     ];
     for (name, refused) in refusals {
         assert_eq!(refused.word().replace(' ', "_").to_uppercase(), name);

@@ -1,4 +1,4 @@
-// The refusals' words; and 11, 12, 14 and 15, which only the library gives, on the examples of docs/JOB.md. 1 to 10 are run by tests/cutlist.
+// The refusals' words; and 11, 12, 14, 15 and 16, which only the library gives, on the examples of docs/JOB.md. 1 to 10 are run by tests/cutlist.
 use outline::*;
 
 /// `ring 1 - 0,0 5,5` under `settings 0`: an open line of two points, a path of 27 bytes.
@@ -35,10 +35,18 @@ fn unknown_name_and_no_place() {
 }
 
 #[test]
+fn settings_differ() {
+    let (mut first, mut second) = (vec![7; WORK_WORDS], vec![7; WORK_WORDS]);
+    assert_eq!(open(&[1, 1, 0, 0], &mut first), Ok(()));
+    assert_eq!(open(&[1, 1, 0, 1], &mut second), Ok(()));
+    assert_eq!(lay_together(&mut first, &second), Err(Refused(16)));
+}
+
+#[test]
 fn every_refusal_has_its_word() {
-    assert!((1..=15).all(|number| !Refused(number).word().is_empty() && !Refused(number).meaning().is_empty()));
+    assert!((1..=16).all(|number| !Refused(number).word().is_empty() && !Refused(number).meaning().is_empty()));
     assert_eq!(Refused(7).word(), "muddled");
     assert_eq!(Refused(12).to_string(), format!("refused 12, out of turn: {}", Refused::OUT_OF_TURN.meaning()));
-    assert_eq!((Refused(0).word(), Refused(16).meaning()), ("", ""));
+    assert_eq!((Refused(0).word(), Refused(99).meaning()), ("", ""));
     assert_eq!(Refused(99).to_string(), "refused 99");
 }

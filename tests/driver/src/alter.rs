@@ -1,5 +1,5 @@
 // Alterations of a work space, by kind: counts, links, records, first points, progress marks, present places, reasons and takers, coordinates, depths, names, any word;
-// and some that keep it sound but leave it in a state that our own calls never make.
+// and some that keep it sound but leave it in a state that our own calls never make. For laying together, what it asks.
 use crate::words::*;
 use oracle::gen;
 use oracle::rng::Rng;
@@ -262,6 +262,56 @@ pub fn progress(w: &mut [u32], rng: &mut Rng) -> String {
         w[START + r] = ring_point(rng, w).unwrap_or(0) as u32;
     }
     format!("record {r} has mark {}, present place {at}, start {}", w[MARK + r], w[START + r])
+}
+
+/// An alteration of any kind; settings, progress, and what laying asks of records more often than others.
+pub fn before_laying(w: &mut [u32], rng: &mut Rng) -> String {
+    match rng.below(16) {
+        0 | 1 => {
+            let any = rng.bits() as u32;
+            let held = w[SETTINGS];
+            w[SETTINGS] = rng.pick(&[held ^ 256, held ^ 4, held ^ 1, held ^ 2, held ^ 128, held | !255, any]);
+            format!("the settings word is {}", w[SETTINGS])
+        }
+        2 | 3 => progress(w, rng),
+        4 => kept(w, rng),
+        5 | 6 => names_beside(w, rng),
+        7 => {
+            let said = made_up(&mut w[..BLOCK], rng);
+            // As a job leaves them: laying is carried out on such words too.
+            (0..records(w)).filter(|_| rng.one_in(2)).for_each(|r| (w[MARK + r], w[PRESENT + r]) = (0, w[FIRST + r]));
+            said
+        }
+        8..=11 => asked(w, rng),
+        _ => alter(w, rng),
+    }
+}
+
+/// What laying asks of a record, or what it must carry over, altered so that the tests pass: the record it was cut from, a reason, a present place, a start, a taker, an owner.
+fn asked(w: &mut [u32], rng: &mut Rng) -> String {
+    let held = records(w).min(MOST_RECORDS);
+    if held == 0 {
+        return "nothing".into();
+    }
+    let r = rng.below(held);
+    let any = rng.pick(&[0, held as u32 - 1, held as u32, NONE, 1 << 20]);
+    match rng.below(7) {
+        0 => w[CUT + r] = any,
+        1 => (w[FIRST + r], w[REASON + r]) = (NONE, 1 + rng.below(5) as u32),
+        2 => w[TAKER + r] = any,
+        3 | 4 => w[PRESENT + r] = w[NEXT + (w[FIRST + r] as usize).min(MOST_POINTS - 1)],
+        5 => w[START + r] = rng.pick(&[0, w[POINTS].wrapping_sub(1), w[POINTS], NONE, u32::MAX]),
+        _ => w[OWNER + r] = rng.pick(&[NONE, (r + 1) as u32 % held as u32]),
+    }
+    format!(
+        "record {r}: cut {}, reason {}, present {}, start {}, taker {}, owner {}",
+        w[CUT + r],
+        w[REASON + r],
+        w[PRESENT + r],
+        w[START + r],
+        w[TAKER + r],
+        w[OWNER + r]
+    )
 }
 
 /// A work space that no job made: a few points in circles, a few records, numbers that mostly name something.

@@ -166,6 +166,32 @@ pub enum Fault {
     TurnedOrder,
     /// A job turned round has the z of its first path's ends exchanged.
     TurnedDepth,
+    /// The second's takers are not raised.
+    LayTaker,
+    /// An owner of none is raised.
+    LayOwner,
+    /// The second's kept states are brought.
+    LayStates,
+    /// The first's names are freed.
+    LayKept,
+    /// What was stepped is said before settings that differ.
+    LayStepped,
+    /// A crowd is said before settings that differ, and before what was stepped.
+    LayCrowd,
+    /// The second's length is tested after the first's own tests.
+    LayLength,
+    /// The second's tests come before the first's.
+    LayOrder,
+    /// Settings are compared by the word.
+    LayWord,
+    /// Settings are compared by the two bits that have a meaning.
+    LayBits,
+    /// A present place is not asked.
+    LayPresent,
+    /// A record that a step discarded is not asked.
+    LayDiscarded,
+    /// The second's work space is emptied.
+    LaySecond,
     /// A copy misses a column: the loop's starts stay what they were.
     KeepColumn,
     /// A name that is kept, with three others, is refused with 15.
@@ -261,6 +287,19 @@ pub const FAULTS: &[Fault] = &[
     Fault::ReasonHalf,
     Fault::TurnedOrder,
     Fault::TurnedDepth,
+    Fault::LayTaker,
+    Fault::LayOwner,
+    Fault::LayStates,
+    Fault::LayKept,
+    Fault::LayStepped,
+    Fault::LayCrowd,
+    Fault::LayLength,
+    Fault::LayOrder,
+    Fault::LayWord,
+    Fault::LayBits,
+    Fault::LayPresent,
+    Fault::LayDiscarded,
+    Fault::LaySecond,
     Fault::KeepColumn,
     Fault::KeepAgain,
     Fault::KeepFifth,

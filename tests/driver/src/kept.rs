@@ -61,9 +61,9 @@ pub fn must_see() -> Vec<(&'static str, Vec<u32>)> {
 }
 
 /// What the work space should hold, and how it came about.
-struct List {
-    shadow: Vec<u32>,
-    trails: Trails,
+pub struct List {
+    pub shadow: Vec<u32>,
+    pub trails: Trails,
     /// The names that this list uses.
     pool: Vec<u8>,
     /// The last call finished a job.
@@ -71,7 +71,8 @@ struct List {
     seed: u64,
 }
 
-pub fn case(room: &mut Room, seed: u64, index: u64, rng: &mut Rng) -> Same {
+/// A work space that held anything.
+pub fn lend(room: &mut Room, seed: u64, rng: &mut Rng) -> List {
     let words = WORDS + rng.below(2) * rng.below(40);
     let w = room.work.lend(words, rng.bits() as u32);
     for place in 0..STATES {
@@ -83,8 +84,11 @@ pub fn case(room: &mut Room, seed: u64, index: u64, rng: &mut Rng) -> Same {
     }
     let mut pool = vec![0, 255, 1, 254, 7, rng.below(256) as u8];
     pool.remove(rng.below(6));
-    let mut list =
-        List { shadow: room.work.get().to_vec(), trails: Trails::default(), pool, finished: false, seed: seed ^ index };
+    List { shadow: room.work.get().to_vec(), trails: Trails::default(), pool, finished: false, seed }
+}
+
+pub fn case(room: &mut Room, seed: u64, index: u64, rng: &mut Rng) -> Same {
+    let mut list = lend(room, seed ^ index, rng);
     begin(room, rng, &mut list)?;
     for _ in 0..8 + rng.below(36) {
         one(room, rng, &mut list)?;
@@ -96,8 +100,8 @@ pub fn case(room: &mut Room, seed: u64, index: u64, rng: &mut Rng) -> Same {
 }
 
 /// The next call, or an alteration.
-fn one(room: &mut Room, rng: &mut Rng, list: &mut List) -> Same {
-    let known = list.trails.live().is_some();
+pub fn one(room: &mut Room, rng: &mut Rng, list: &mut List) -> Same {
+    let known = list.trails.is_known();
     if records(room.front()) == 0 && rng.one_in(3) {
         return again(room, rng, list);
     }
@@ -120,7 +124,7 @@ fn one(room: &mut Room, rng: &mut Rng, list: &mut List) -> Same {
 }
 
 /// As it is meant: a state is kept, some steps are taken, and gone back from.
-fn tried(room: &mut Room, rng: &mut Rng, list: &mut List) -> Same {
+pub fn tried(room: &mut Room, rng: &mut Rng, list: &mut List) -> Same {
     let name = list.name(rng);
     call(room, list, Named::Keep, name)?;
     for _ in 0..1 + rng.below(4) {
@@ -144,24 +148,24 @@ impl List {
         }
     }
 
-    fn keeps_some(&self) -> bool {
+    pub fn keeps_some(&self) -> bool {
         (0..STATES).any(|place| name_at(&self.shadow, place).is_some())
     }
 
     /// The live block was looked at; every word behind it is as it should be.
-    fn settle(&mut self, room: &Room) -> Same {
+    pub fn settle(&mut self, room: &Room) -> Same {
         let w = room.work.get();
         self.shadow[..BLOCK].copy_from_slice(&w[..BLOCK]);
         self.same(w)
     }
 
-    fn same(&self, w: &[u32]) -> Same {
+    pub fn same(&self, w: &[u32]) -> Same {
         let other = || (0..w.len()).find(|&at| w[at] != self.shadow[at]).unwrap_or(0);
         expect(w == self.shadow, || format!("word {} is {}, not {}", other(), w[other()], self.shadow[other()]))
     }
 
     /// Somebody else writes the same into the work space and into the shadow.
-    fn alter(&mut self, room: &mut Room, at: std::ops::Range<usize>, change: impl FnOnce(&mut [u32]) -> String) {
+    pub fn alter(&mut self, room: &mut Room, at: std::ops::Range<usize>, change: impl FnOnce(&mut [u32]) -> String) {
         let said = change(&mut room.work.get_mut()[at.clone()]);
         self.shadow[at.clone()].copy_from_slice(&room.work.get()[at.clone()]);
         room.trace.push(format!("from word {} on: {said}", at.start));
@@ -169,24 +173,30 @@ impl List {
 }
 
 /// The live block and a history's state: rings, progress, counts, and what ended each record without a ring.
-fn same_state(block: &[u32], history: &History) -> Same {
+pub fn same_state(block: &[u32], history: &History) -> Same {
     same_forest(block, &history.forest)?;
     same_kept(block, history)
 }
 
+/// The live block and its trail's state, as far as it is known.
+pub fn as_live(room: &Room, list: &List) -> Same {
+    list.trails.live().map_or(Ok(()), |history| same_state(room.work.get(), &history))
+}
+
 /// At the end each copy is what replaying its own trail gives, whether a name keeps it or not; and so is the live block.
-fn copies(room: &Room, list: &List) -> Same {
+pub fn copies(room: &Room, list: &List) -> Same {
     let w = room.work.get();
     for place in 0..STATES {
-        if let Some(history) = list.trails.copy(place) {
-            same_state(&w[copy_of(place)], &history).map_err(|what| format!("the copy of place {place}: {what}"))?;
+        if let Some(table) = list.trails.copy(place) {
+            same_state(&w[copy_of(place)], &table.as_one())
+                .map_err(|what| format!("the copy of place {place}: {what}"))?;
         }
     }
-    list.trails.live_replayed().map_or(Ok(()), |history| same_state(w, &history))
+    list.trails.live_replayed().map_or(Ok(()), |table| same_state(w, &table.as_one()))
 }
 
 /// A job is opened, or finished or listed in one call, over whatever is there.
-fn begin(room: &mut Room, rng: &mut Rng, list: &mut List) -> Same {
+pub fn begin(room: &mut Room, rng: &mut Rng, list: &mut List) -> Same {
     list.finished = false;
     match rng.below(4) {
         0 => finish(room, rng, list),
@@ -198,10 +208,7 @@ fn begin(room: &mut Room, rng: &mut Rng, list: &mut List) -> Same {
 fn again(room: &mut Room, rng: &mut Rng, list: &mut List) -> Same {
     if rng.one_in(2) {
         let job = gen::job(list.seed, rng.below(1000) as u64);
-        let trace = std::mem::take(&mut room.trace);
-        room.start(&job, rng.below(8));
-        room.trace = trace;
-        room.trace.push("another job".into());
+        room.change(&job, rng.below(8));
     }
     match rng.below(8) {
         0 => rewrite(room, rng, list),
@@ -232,10 +239,10 @@ fn opened_over(room: &mut Room, list: &mut List, start: Option<History>, accepte
     list.settle(room)
 }
 
-fn open_over(room: &mut Room, list: &mut List) -> Same {
+pub fn open_over(room: &mut Room, list: &mut List) -> Same {
     let start = open_lent(room)?.map(|opened| History::opened(&opened));
     opened_over(room, list, start, "opened over kept names")?;
-    list.trails.live().map_or(Ok(()), |history| same_state(room.work.get(), history))
+    as_live(room, list)
 }
 
 /// A slice that is too short: 10, and its words are 0; the others stay.
@@ -268,7 +275,7 @@ fn finish(room: &mut Room, rng: &mut Rng, list: &mut List) -> Same {
         let (closed, open) = history.forest.paths();
         Answer::Paths { closed, open, reversed: history.forest.reverse }.tray()
     };
-    let bytes = if model.is_ok() { trails.live().map_or(Vec::new(), paths) } else { Vec::new() };
+    let bytes = if model.is_ok() { trails.live().map_or(Vec::new(), |history| paths(&history)) } else { Vec::new() };
     let length = tray_length(rng, bytes.len());
     room.tray.lend(length, 1 + rng.below(255) as u8);
     let number = match model {
@@ -288,7 +295,7 @@ fn finish(room: &mut Room, rng: &mut Rng, list: &mut List) -> Same {
         list.finished = true;
         list.trails.finish().map_err(|number| format!("the model refuses a step with {number}"))?;
     }
-    list.trails.live().map_or(Ok(()), |history| same_state(room.work.get(), history))
+    as_live(room, list)
 }
 
 fn finished(room: &mut Room) -> u32 {
@@ -332,7 +339,7 @@ fn rewrite(room: &mut Room, rng: &mut Rng, list: &mut List) -> Same {
 }
 
 /// Some steps on one record, mostly one with a ring that isn't done, until one is refused.
-fn steps(room: &mut Room, rng: &mut Rng, list: &mut List) -> Same {
+pub fn steps(room: &mut Room, rng: &mut Rng, list: &mut List) -> Same {
     let w = room.front();
     let held = records(w).min(MOST_RECORDS);
     let live: Vec<usize> = (0..held).filter(|&r| is_live(w, r)).collect();
@@ -352,8 +359,8 @@ fn steps(room: &mut Room, rng: &mut Rng, list: &mut List) -> Same {
 }
 
 /// One step; the answer.
-fn step(room: &mut Room, list: &mut List, number: u32) -> Result<u32, String> {
-    if list.trails.live().is_none() {
+pub fn step(room: &mut Room, list: &mut List, number: u32) -> Result<u32, String> {
+    if !list.trails.is_known() {
         let before = plain::tested(room.front());
         altered::step(room, number)?;
         return Ok(before.is_err() as u32);
@@ -375,12 +382,12 @@ fn step(room: &mut Room, list: &mut List, number: u32) -> Result<u32, String> {
     if let Some(at) = stray(&before, w, number as usize) {
         return Err(format!("a step on record {number} writes word {at}"));
     }
-    list.trails.live().map_or(Ok(()), |history| same_state(w, history))?;
+    as_live(room, list)?;
     Ok(answer)
 }
 
 /// Keeping, going back or dropping under some name.
-fn named(room: &mut Room, rng: &mut Rng, list: &mut List, which: Named) -> Same {
+pub fn named(room: &mut Room, rng: &mut Rng, list: &mut List, which: Named) -> Same {
     let name = list.name_for(rng, which);
     call(room, list, which, name)
 }
@@ -403,7 +410,7 @@ fn call(room: &mut Room, list: &mut List, call: Named, name: u8) -> Same {
 
 /// The same by the trails, as far as they know the live state.
 fn told_by_trails(room: &Room, list: &mut List, call: Named, name: u8, place: Result<usize, u8>) -> Same {
-    let known = list.trails.live().is_some();
+    let known = list.trails.is_known();
     // A live block that somebody spoilt is no matter of trails.
     if !known && place.is_err() {
         return Ok(());
@@ -414,7 +421,7 @@ fn told_by_trails(room: &Room, list: &mut List, call: Named, name: u8, place: Re
         Named::Drop => list.trails.drop_name(name),
     };
     expect(place == theirs, || format!("{} {name} comes to {place:?}, by its trails {theirs:?}", call.word()))?;
-    list.trails.live().map_or(Ok(()), |history| same_state(room.work.get(), history))
+    as_live(room, list)
 }
 
 /// For the tally, before the shadow follows.
@@ -452,7 +459,7 @@ fn events(room: &mut Room, list: &mut List, call: Named, name: u8, place: Result
     list.finished &= call == Named::Keep;
 }
 
-fn write(room: &mut Room, rng: &mut Rng, list: &mut List) -> Same {
+pub fn write(room: &mut Room, rng: &mut Rng, list: &mut List) -> Same {
     match list.trails.live() {
         Some(history) if list.trails.tested().is_ok() => {
             let words = if rng.one_in(6) { rng.below(WORDS) } else { room.work.get().len() };
@@ -465,7 +472,7 @@ fn write(room: &mut Room, rng: &mut Rng, list: &mut List) -> Same {
     list.same(room.work.get())
 }
 
-fn reason(room: &mut Room, rng: &mut Rng, list: &mut List) -> Same {
+pub fn reason(room: &mut Room, rng: &mut Rng, list: &mut List) -> Same {
     let held = records(room.front()).min(MOST_RECORDS);
     let record = if rng.one_in(6) { held } else { rng.below(held.max(1)) };
     let told: Result<Reason, u32> = match list.trails.live() {
@@ -481,7 +488,7 @@ fn reason(room: &mut Room, rng: &mut Rng, list: &mut List) -> Same {
 }
 
 /// Every call in a part of the words: 10 before every test, and every word as found.
-fn short(room: &mut Room, rng: &mut Rng, list: &mut List) -> Same {
+pub fn short(room: &mut Room, rng: &mut Rng, list: &mut List) -> Same {
     let words = rng.pick(&[0, 1, 3, BLOCK - 1, BLOCK, NAMES + 1, KEPT, KEPT + BLOCK, WORDS - 1]);
     let name = list.name(rng);
     room.tray.lend(64, 7);

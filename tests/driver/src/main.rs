@@ -9,12 +9,15 @@ mod depths;
 mod drawn;
 mod finish;
 mod kept;
+mod laid;
 mod large;
+mod laying;
 mod lent;
 mod listed;
 mod model;
 mod names;
 mod open;
+mod pair;
 mod plain;
 mod reasons;
 mod room;
@@ -31,7 +34,7 @@ use oracle::text::number;
 use runs::{Kind, Run, KINDS};
 
 const USAGE: &str =
-    "usage: driver finish|large|steps|bytes|altered|canon|reasons|kept|drawn SEED COUNT THREADS [FROM], driver faults SEED COUNT, \
+    "usage: driver finish|large|steps|bytes|altered|canon|reasons|kept|laid|drawn SEED COUNT THREADS [FROM], driver faults SEED COUNT, \
                      driver fault NAME KIND SEED COUNT, or driver audit_cases";
 
 fn run_of(kind: &str, seed: &str, count: &str, threads: &str, from: u64) -> Result<Run, String> {
@@ -43,12 +46,13 @@ fn run_of(kind: &str, seed: &str, count: &str, threads: &str, from: u64) -> Resu
     Ok(Run { kind, seed, from, to: from + count, threads, fault: Fault::None })
 }
 
-/// Whether a kind is tried with a fault: the kind of its own that a call has; kind `kept` with the faults of names and copies alone, all of which it must find; every other with the rest.
+/// Whether a kind is tried with a fault: the kind of its own that a call has; kind `kept` with the faults of names and copies alone, all of which it must find; kind `laid` with those of laying; every other with the rest.
 fn is_tried(fault: Fault, kind: Kind) -> bool {
     let name = format!("{fault:?}");
     match () {
         // The same calls as kind `finish`, and slower: one fault shows that it sees.
         _ if kind == Kind::Drawn => fault == Fault::TrayByte,
+        _ if kind == Kind::Laid || name.starts_with("Lay") => kind == Kind::Laid && name.starts_with("Lay"),
         _ if kind == Kind::Kept => is_of_names(fault),
         _ if ["Keep", "Back", "Drop"].iter().any(|call| name.starts_with(call)) => false,
         _ if name.starts_with("Reason") => kind == Kind::Reasons,

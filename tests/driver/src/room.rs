@@ -64,6 +64,14 @@ impl Room {
         self.trace.clear();
     }
 
+    /// Takes another job in, in the course of a case.
+    pub fn change(&mut self, job: &[u8], at: usize) {
+        let trace = std::mem::take(&mut self.trace);
+        self.start(job, at);
+        self.trace = trace;
+        self.trace.push("another job".into());
+    }
+
     pub fn job(&self) -> &[u8] {
         &self.paper[self.at..]
     }

@@ -3,7 +3,7 @@
 use crate::calls::Fault;
 use crate::room::{Room, Same};
 use crate::tally::Tally;
-use crate::{altered, canon, damage, drawn, finish, kept, large, open, reasons, steps, turned};
+use crate::{altered, canon, damage, drawn, finish, kept, laid, large, open, pair, reasons, steps, turned};
 use oracle::gen;
 use oracle::rng::Rng;
 use std::panic::{catch_unwind, AssertUnwindSafe};
@@ -23,6 +23,7 @@ pub enum Kind {
     Canon,
     Reasons,
     Kept,
+    Laid,
     Drawn,
 }
 
@@ -35,6 +36,7 @@ pub const KINDS: &[(&str, Kind)] = &[
     ("canon", Kind::Canon),
     ("reasons", Kind::Reasons),
     ("kept", Kind::Kept),
+    ("laid", Kind::Laid),
     ("drawn", Kind::Drawn),
 ];
 
@@ -84,6 +86,10 @@ impl Kind {
                 room.start(&gen::job(seed, index), at);
                 kept::case(room, seed, index, &mut rng)
             }
+            Kind::Laid => {
+                room.start(&gen::job(seed, index), at);
+                laid::case(room, seed, index, &mut rng)
+            }
             Kind::Drawn => drawn::case(room, &mut rng),
         }
     }
@@ -105,6 +111,7 @@ impl Kind {
             Kind::Canon => vec![("rewrite", (0..=8).chain(10..=11).collect()), ("finish", vec![0, 9, 10, 11])],
             Kind::Reasons => vec![("reason", vec![0, 3, 4, 5, 6, 7, 10, 12])],
             Kind::Kept => kept::must_see(),
+            Kind::Laid => laid::must_see(),
             Kind::Drawn => vec![("finish", vec![0, 3, 10, 11])],
         }
     }
@@ -115,6 +122,7 @@ impl Kind {
             Kind::Altered => &["step", "write"],
             Kind::Reasons => &["reason"],
             Kind::Kept => &kept::TESTED,
+            Kind::Laid => &laid::TESTED,
             _ => &[],
         }
     }
@@ -198,6 +206,10 @@ impl Run {
         }
         if self.kind == Kind::Kept {
             lacking.extend(tally.lacking_events(&kept::EVENTS));
+        }
+        if self.kind == Kind::Laid {
+            lacking.extend(tally.lacking_events(&pair::MET));
+            lacking.extend(tally.lacking_events(&laid::EVENTS));
         }
         if self.kind == Kind::Drawn {
             lacking.extend(tally.lacking_events(&drawn::SEEN));

@@ -194,7 +194,7 @@ pub fn families(forest: &Forest) -> Vec<Vec<usize>> {
 }
 
 /// The rings of each family.
-fn family(forest: &Forest) -> Vec<Vec<Vec<real::Pt>>> {
+pub fn family(forest: &Forest) -> Vec<Vec<Vec<real::Pt>>> {
     let rings = |family: Vec<usize>| family.into_iter().map(|record| forest.ring(record)).collect();
     families(forest).into_iter().map(rings).collect()
 }

@@ -29,6 +29,7 @@ pub mod show;
 pub mod stats;
 pub mod stepped;
 pub mod stored;
+pub mod table;
 pub mod text;
 pub mod trails;
 pub mod vectors;

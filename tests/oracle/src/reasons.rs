@@ -2,12 +2,13 @@
 // the turn of the joins that emptied it, the step that discarded its ring and what was due, the path that was built or the test that ended it.
 use crate::engine::{ClipperBase, NONE as UNLINKED};
 use crate::engine_fns::{is_valid_closed_path, is_very_small_triangle};
-use crate::job::NONE;
+use crate::job::{Job, NONE};
 use crate::model::forest::{Entry, Forest};
 use crate::model::lone::{Act, Due};
 use crate::model::path::{build, Built};
 use crate::oracle::{forest, open, Opened, Oracle};
 use crate::real::{self, Pt, FULL};
+use std::rc::Rc;
 
 /// The eight reasons in the paper's order.
 #[derive(Clone, Copy, Debug, PartialEq)]
@@ -81,15 +82,18 @@ pub enum Event {
 /// All rings of an opened job, and what has ended each record so far.
 #[derive(Clone)]
 pub struct History {
+    /// The job that was opened.
+    pub job: Rc<Job>,
     pub forest: Forest,
-    events: Vec<Vec<Event>>,
-    steps: usize,
+    pub events: Vec<Vec<Event>>,
+    /// How many steps were carried out.
+    pub steps: usize,
 }
 
 impl History {
     /// No ring and no record, as a work space of zeros has it.
     pub fn nothing() -> History {
-        History { forest: Forest::new(0, 0, Vec::new()), events: Vec::new(), steps: 0 }
+        History { job: Rc::default(), forest: Forest::new(0, 0, Vec::new()), events: Vec::new(), steps: 0 }
     }
 
     /// What reading and the joins did.
@@ -104,7 +108,7 @@ impl History {
         for (turn, emptied) in opened.joined.merged.iter().enumerate() {
             events[emptied.record].push(Event::Emptied { turn, taker: emptied.taker });
         }
-        History { forest, events, steps: 0 }
+        History { job: Rc::new(opened.job.clone()), forest, events, steps: 0 }
     }
 
     /// One step; a discard is an event of its record.
@@ -131,6 +135,11 @@ impl History {
         Ok(())
     }
 
+    /// Whether a step was carried out.
+    pub fn is_stepped(&self) -> bool {
+        self.steps > 0
+    }
+
     pub fn done(&self) -> bool {
         (0..self.forest.records.len()).all(|record| self.forest.due(record) == Due::Done)
     }
@@ -144,7 +153,7 @@ impl History {
     }
 
     /// What ended a record, and if it has a ring its path.
-    fn events(&self, record: usize) -> Vec<Event> {
+    fn ends(&self, record: usize) -> Vec<Event> {
         let mut events = self.events[record].clone();
         let open = matches!(self.forest.records[record], Entry::Open(_));
         let ring = self.forest.ring(record);
@@ -160,7 +169,7 @@ impl History {
             return Err("a closed ring isn't done".into());
         }
         let mut written = [0, 0];
-        let mut reason = |record: usize| match &self.events(record)[..] {
+        let mut reason = |record: usize| match &self.ends(record)[..] {
             [event] => told(event, &mut written),
             events => Err(format!("record {record} ended in {} ways: {events:?}", events.len())),
         };

@@ -46,7 +46,7 @@ fn stepped(opened: &Opened, words: &str) -> Result<History, String> {
 
 /// The reasons of another order of steps: its own lists have the paths where it says, and each ring has the reason that it has in one call, apart from
 /// the numbers of offcuts and of places. Whether these numbers are others.
-fn same_reasons(one: &History, other: &History) -> Result<bool, String> {
+pub fn same_reasons(one: &History, other: &History) -> Result<bool, String> {
     let (ours, theirs) = (one.reasons()?, other.reasons()?);
     let forest = &other.forest;
     let is_open = |r: usize| matches!(theirs[r], Reason::Written { open: true, .. });

@@ -1,10 +1,12 @@
-// Document 02, Ask 8, over lists of calls. No state is kept here: a trail is a start and the steps since, each kept name has one, and a state is what
-// replaying its trail leaves in the stepping model.
+// Document 02, Asks 8 and 11, over lists of calls. No state is kept here: a trail is a start and the steps since, each kept name has one, and a state is what
+// replaying its trail leaves in the stepping model. A start is a job that was opened, or drawings that were laid together.
 use crate::model::lone::Act;
 use crate::oracle::open;
 use crate::output;
 use crate::reasons::History;
+use crate::table::Table;
 use crate::text::number;
+use std::borrow::Cow;
 use std::rc::Rc;
 
 /// So many states may be kept.
@@ -16,18 +18,18 @@ pub const NO_PLACE: u8 = 15;
 /// A start, and the record numbers stepped since, refused steps too.
 #[derive(Clone)]
 pub struct Trail {
-    start: Rc<History>,
+    start: Rc<Table>,
     steps: Vec<usize>,
 }
 
 impl Trail {
-    fn begun(start: History) -> Trail {
+    fn begun(start: Table) -> Trail {
         Trail { start: Rc::new(start), steps: Vec::new() }
     }
 
     /// The state that it leads to.
-    pub fn replayed(&self) -> History {
-        let mut state = History::clone(&self.start);
+    pub fn replayed(&self) -> Table {
+        let mut state = Table::clone(&self.start);
         for &record in &self.steps {
             // A refused step changes nothing.
             let _ = state.step(record);
@@ -37,10 +39,11 @@ impl Trail {
 }
 
 /// The trail of the live state and of each place's copy; none where somebody else wrote the words.
+#[derive(Clone)]
 pub struct Trails {
     live: Option<Trail>,
     /// The live state: what replaying its trail gives, step by step.
-    now: History,
+    now: Table,
     /// Each place's word: a name and 1; 0 and every other number is free.
     names: [u32; STATES],
     places: [Option<Trail>; STATES],
@@ -49,22 +52,34 @@ pub struct Trails {
 impl Default for Trails {
     /// A work space of any words.
     fn default() -> Trails {
-        Trails { live: None, now: History::nothing(), names: [0; STATES], places: Default::default() }
+        Trails { live: None, now: Table::of(History::nothing()), names: [0; STATES], places: Default::default() }
     }
 }
 
 impl Trails {
     /// A job was opened: its start is the live state, and no name is kept. Copies are as found.
     pub fn open(&mut self, start: History) {
+        self.begin(Table::of(start));
+        self.names = [0; STATES];
+    }
+
+    fn begin(&mut self, start: Table) {
         self.now = start.clone();
         self.live = Some(Trail::begun(start));
-        self.names = [0; STATES];
+    }
+
+    /// The second's drawings are laid after this one's: a start. Names and copies stay, and none of the second's is brought. Both live states must be known.
+    pub fn lay(&mut self, second: &Trails) -> Result<(), u8> {
+        self.tested()?;
+        second.tested()?;
+        self.begin(self.now.beside(&second.now)?);
+        Ok(())
     }
 
     /// A job was refused: every word is 0, those of copies too, and zeros are a state without a record.
     pub fn refused(&mut self) {
         self.open(History::nothing());
-        self.places = std::array::from_fn(|_| Some(Trail::begun(History::nothing())));
+        self.places = std::array::from_fn(|_| Some(Trail::begun(Table::of(History::nothing()))));
     }
 
     /// Somebody wrote into the live block.
@@ -82,13 +97,22 @@ impl Trails {
         self.places[place] = None;
     }
 
-    /// The live state, if only calls made it.
-    pub fn live(&self) -> Option<&History> {
+    /// Whether only calls made the live state.
+    pub fn is_known(&self) -> bool {
+        self.live.is_some()
+    }
+
+    /// The live state, if only calls made it, and then its table.
+    pub fn live(&self) -> Option<Cow<'_, History>> {
+        self.table().map(Table::as_one)
+    }
+
+    pub fn table(&self) -> Option<&Table> {
         self.live.as_ref().map(|_| &self.now)
     }
 
     /// What a place's copy holds, whether it is kept or not.
-    pub fn copy(&self, place: usize) -> Option<History> {
+    pub fn copy(&self, place: usize) -> Option<Table> {
         self.places[place].as_ref().map(Trail::replayed)
     }
 
@@ -99,7 +123,7 @@ impl Trails {
     }
 
     /// The live state once more, from its start.
-    pub fn live_replayed(&self) -> Option<History> {
+    pub fn live_replayed(&self) -> Option<Table> {
         self.live.as_ref().map(Trail::replayed)
     }
 
@@ -128,7 +152,7 @@ impl Trails {
     /// Every ring to done, records rising, as finishing in one call does.
     pub fn finish(&mut self) -> Result<(), u8> {
         let mut record = 0;
-        while record < self.now.forest.records.len() {
+        while record < self.now.records() {
             match self.step(record) {
                 Ok(_) => {}
                 Err(crate::model::forest::OUT_OF_TURN) => record += 1,
@@ -189,9 +213,9 @@ impl Trails {
             ["drop", name] => self.drop_name(number(name)?),
             _ => return Err(format!("no such call: {line}")),
         };
-        let forest = &self.live().ok_or("a state that no call left")?.forest;
+        let table = self.table().ok_or("a state that no call left")?;
         let answer = answer.err().unwrap_or(0);
-        Ok(format!("{line} {answer} {} {}\n", forest.points, forest.records.len()))
+        Ok(format!("{line} {answer} {} {}\n", table.points(), table.records()))
     }
 }
 

@@ -41,18 +41,23 @@ impl Forest {
         }
     }
 
+    /// What a step on a record number would do, if there is room for it.
+    pub fn decide(&self, record: usize) -> Result<Act, u8> {
+        match self.records.get(record) {
+            Some(Entry::Closed { lone, .. }) => lone.decide(self.keep).ok_or(OUT_OF_TURN),
+            _ => Err(OUT_OF_TURN),
+        }
+    }
+
     /// One step on a record number.
     pub fn step(&mut self, record: usize) -> Result<Act, u8> {
         let held = self.records.len();
-        let lone = match self.records.get_mut(record) {
-            Some(Entry::Closed { lone, .. }) => lone,
-            _ => return Err(OUT_OF_TURN),
-        };
-        let act = lone.decide(self.keep).ok_or(OUT_OF_TURN)?;
+        let act = self.decide(record)?;
         let (points, records) = act.takes();
         if self.points + points > POINTS || held + records > RECORDS {
             return Err(FULL);
         }
+        let Entry::Closed { lone, .. } = &mut self.records[record] else { return Err(OUT_OF_TURN) };
         let offcut = lone.apply(act);
         self.points += points;
         if let Some(lone) = offcut {

@@ -1,0 +1,20 @@
+-- `laying::lay_all` meets its contract: points, records, counts.
+use borrow.Author.Needs.{needs}
+use Rattle.laying.proofs.Calls.{all-laid}
+use Rattle.laying.proofs.lay_all.Statement.{statement}
+use Rattle.laying.proofs.lay_all.Tie as tie
+
+pub lay-all-spec : {M : Type 1} → statement M
+lay-all-spec =
+    tie.close
+    (tie.spec
+    (λ c κs. search needs)
+    (λ c κs. search needs)
+    (λ c κs. search needs)
+    (λ c κs. search needs)
+    (λ c. search needs)
+    (λ c. search needs)
+    (λ c κs. search needs)
+    (λ c κs. search needs)
+    (λ c. search needs)
+    (λ c. search all-laid))
