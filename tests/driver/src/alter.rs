@@ -275,14 +275,14 @@ pub fn before_laying(w: &mut [u32], rng: &mut Rng) -> String {
         }
         2 | 3 => progress(w, rng),
         4 => kept(w, rng),
-        5 | 6 => names_beside(w, rng),
-        7 => {
+        5 => names_beside(w, rng),
+        6 => {
             let said = made_up(&mut w[..BLOCK], rng);
             // As a job leaves them: laying is carried out on such words too.
             (0..records(w)).filter(|_| rng.one_in(2)).for_each(|r| (w[MARK + r], w[PRESENT + r]) = (0, w[FIRST + r]));
             said
         }
-        8..=11 => asked(w, rng),
+        7..=11 => asked(w, rng),
         _ => alter(w, rng),
     }
 }
@@ -293,14 +293,15 @@ fn asked(w: &mut [u32], rng: &mut Rng) -> String {
     if held == 0 {
         return "nothing".into();
     }
-    let r = rng.below(held);
+    let live: Vec<usize> = (0..held).filter(|&r| is_live(w, r)).collect();
+    let r = if live.is_empty() || rng.one_in(3) { rng.below(held) } else { rng.pick(&live) };
     let any = rng.pick(&[0, held as u32 - 1, held as u32, NONE, 1 << 20]);
-    match rng.below(7) {
+    match rng.below(8) {
         0 => w[CUT + r] = any,
         1 => (w[FIRST + r], w[REASON + r]) = (NONE, 1 + rng.below(5) as u32),
         2 => w[TAKER + r] = any,
-        3 | 4 => w[PRESENT + r] = w[NEXT + (w[FIRST + r] as usize).min(MOST_POINTS - 1)],
-        5 => w[START + r] = rng.pick(&[0, w[POINTS].wrapping_sub(1), w[POINTS], NONE, u32::MAX]),
+        3..=5 => w[PRESENT + r] = w[NEXT + (w[FIRST + r] as usize).min(MOST_POINTS - 1)],
+        6 => w[START + r] = rng.pick(&[0, w[POINTS].wrapping_sub(1), w[POINTS], NONE, u32::MAX]),
         _ => w[OWNER + r] = rng.pick(&[NONE, (r + 1) as u32 % held as u32]),
     }
     format!(
