@@ -42,7 +42,7 @@ isAtStart s i = eqb (s (rc MARK) i) 0 && eqb (s (rc PRESENT) i) (s (rc FIRST) i)
 abbrev pub isDiscarded : Store → ℕ → Bool
 isDiscarded s i = ltb JOINED (s (rc REASON) i)
 
--- an offcut; or without a ring, and "discarded by a step"; or a closed ring that isn't at its start. Of an open record nothing else is asked
+-- an offcut; or without a ring, and "discarded by a step"; or a closed ring that isn't at its start. Of an open ring nothing else is asked
 unfoldable pub isStepped : Store → ℕ → Bool
 isStepped s i = cond (isOffcut s i) true (cond (ringless s i) (isDiscarded s i) (cond (isOpen s i) false (not (isAtStart s i))))
 
