@@ -8,7 +8,7 @@
 /* Where the records' progress marks stand (docs/WORKSPACE.md). */
 #define MARKS (16 + 6 * OUTLINE_POINTS + 3 * OUTLINE_RECORDS)
 
-static uint8_t job[2 * OUTLINE_JOB_BYTES], tray[OUTLINE_TRAY_BYTES], text[OUTLINE_TEXT_BYTES], written[OUTLINE_REWRITTEN_BYTES];
+static uint8_t job[2 * OUTLINE_JOB_BYTES], tray[OUTLINE_TRAY_BYTES], text[OUTLINE_TEXT_BYTES], written[OUTLINE_REWRITTEN_BYTES], answers[OUTLINE_ANSWER_BYTES];
 static uint32_t work[OUTLINE_WORK_WORDS], second[OUTLINE_WORK_WORDS];
 static size_t length;
 static int faults;
@@ -187,6 +187,32 @@ static void rewriting(void) {
     is("a word less, of it", rewritten(OUTLINE_WORK_WORDS - 1, OUTLINE_REWRITTEN_BYTES), OUTLINE_FULL);
 }
 
+static uint32_t contained(size_t words, size_t bytes) {
+    memset(answers, 7, sizeof answers);
+    return outline_contained(job, length, work, words, tray, sizeof tray, answers, bytes);
+}
+
+/* As many squares as there may be records, the last round all others. */
+static void containing(void) {
+    const uint32_t last = OUTLINE_RECORDS - 1;
+    settings();
+    for (uint32_t r = 0; r <= last; r++) {
+        const int32_t x = r < last ? (int32_t)r * 20 : -10, side = r < last ? 10 : 20000, y = r < last ? 0 : -10;
+        const uint32_t first = 4 * r;
+        point(x, y, first + 1, first + 3, r), point(x + side, y, first + 2, first, r);
+        point(x + side, y + side, first + 3, first + 1, r), point(x, y + side, first, first + 2, r);
+    }
+    for (uint32_t r = 0; r <= last; r++) record(0, NONE, 4 * r);
+    is("all pairs", contained(OUTLINE_WORK_WORDS, OUTLINE_ANSWER_BYTES), 0);
+    is("the first square in the last", answers[last - 1], 1);
+    is("the first in the second", answers[0], 0);
+    is("the last in the first", answers[last * last], 0);
+    is("a byte of the answers less", contained(OUTLINE_WORK_WORDS, OUTLINE_ANSWER_BYTES - 1), OUTLINE_SMALL_TRAY);
+    is("the answers then", answers[last - 1], 0);
+    is("the byte past them", answers[OUTLINE_ANSWER_BYTES - 1], 7);
+    is("a word less, of the pairs", contained(OUTLINE_WORK_WORDS - 1, OUTLINE_ANSWER_BYTES), OUTLINE_FULL);
+}
+
 /* A ring for each reason, the second joined into the first: the case `one of each` of tests/answers/reasons.txt. Two offcuts come to it. */
 static const struct {
     uint32_t reason, open, points;
@@ -322,6 +348,7 @@ int main(void) {
     lengths();
     listings();
     rewriting();
+    containing();
     reasons();
     states();
     pairs();

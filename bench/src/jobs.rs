@@ -7,7 +7,7 @@ use oracle::job::{Job, Point, Record, NONE};
 type At = (i32, i32);
 
 /// One closed record for each ring, its points in walk order, each of depth 0.
-fn of_rings(rings: &[Vec<At>]) -> Job {
+pub fn of_rings(rings: &[Vec<At>]) -> Job {
     let mut job = Job::default();
     for (record, ring) in rings.iter().enumerate() {
         let (base, n) = (job.points.len(), ring.len());

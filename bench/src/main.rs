@@ -1,6 +1,7 @@
-// Times outline_finish and the real Rust on the same jobs, side by side in one run, and steps by outline_step.
+// Times outline_finish and the real Rust on the same jobs, side by side in one run, steps by outline_step, and which shape lies in which.
 mod drawings;
 mod jobs;
+mod pairs;
 
 use oracle::answer::Answer;
 use oracle::{check, read, real};
@@ -105,6 +106,7 @@ fn main() {
         row(&format!("one smooth ring of {n} points"), &jobs::smooth(n).bytes());
     }
     drawings::whole_way();
+    pairs::rows();
     println!("\n| job, stepped | steps | steps a second |");
     println!("|---|---|---|");
     for (name, job) in jobs::table() {

@@ -3,8 +3,8 @@
  *
  * Slices are a pointer and a count of elements, words of 32 bits and bytes. Any count will do, and so will any content: nothing outside a
  * slice is read or written, and every call ends. A pointer must point to as many elements as its count says, and be aligned for
- * them; with a count of 0 it may point anywhere but must not be null. The slices of one call, job, work space, tray and text, or two work spaces, must
- * not overlap.
+ * them; with a count of 0 it may point anywhere but must not be null. The slices of one call, job, work space, tray, text and answers, or two work spaces,
+ * must not overlap.
  *
  * Nothing is kept between calls but the words of the work space, so two threads may use two work spaces at once. */
 #ifndef OUTLINE_H
@@ -81,6 +81,14 @@ extern "C" {
 #error "OUTLINE_REWRITTEN_BYTES is not what the limits make it"
 #endif
 
+/* ---- which shape lies in which: a byte for each ordered pair of closed paths, 1 for yes and 0 for no */
+
+/* A slice of so many bytes has room for the answers of any job. */
+#define OUTLINE_ANSWER_BYTES 261632
+#if OUTLINE_ANSWER_BYTES != OUTLINE_RECORDS * (OUTLINE_RECORDS - 1)
+#error "OUTLINE_ANSWER_BYTES is not what the limits make it"
+#endif
+
 /* ---- the answers: 0, or the refusal's number, the first that applies */
 
 enum outline_refusal {
@@ -94,7 +102,7 @@ enum outline_refusal {
     OUTLINE_OPEN_EDGE = 8,       /* a segment or a join names a point of an open ring */
     OUTLINE_KNOT = 9,            /* a join's second point is already the next of its first */
     OUTLINE_FULL = 10,           /* finishing, or laying together, needs more than 2,048 points or 512 records, or a work space is too short */
-    OUTLINE_SMALL_TRAY = 11,     /* the paths, or the job that is written, need more bytes than the tray has */
+    OUTLINE_SMALL_TRAY = 11,     /* the paths, or the job that is written, need more bytes than the tray has, or the pairs more than the answers have */
     OUTLINE_OUT_OF_TURN = 12,    /* a step on a record that has none to take, the reason of an unknown record, writing out or asking for a reason before every closed ring is done, or laying together what was stepped */
     OUTLINE_BAD_RATE = 13,       /* more than one rate is given, or one that is not a whole number from 1 to 1,000 */
     OUTLINE_UNKNOWN_NAME = 14,   /* going back to, or dropping, a name that is not kept */
@@ -123,6 +131,12 @@ uint64_t outline_work_words(void);
 /* Finishes a job in one call: opens it, steps every ring until it is done, and writes out. Refused: every word of the work space and every
  * byte of the tray is 0. Else the tray holds the paths, and past them every byte is 0; the work space holds the finished rings, and no name is kept. */
 uint32_t outline_finish(const uint8_t *job, size_t job_bytes, uint32_t *work, size_t work_words, uint8_t *tray, size_t tray_bytes);
+
+/* Which shape lies in which: finishes a job as outline_finish does and answers for every ordered pair of its closed paths whether the second contains the first. With n closed paths
+ * there are n (n - 1) answers, a byte each, 1 for yes and 0 for no, by rising first place and then second, a path never with itself: of paths i and j, places in the tray from 0, the byte
+ * i (n - 1) + j, one less if j > i, says whether path i lies in path j. Refused as outline_finish is; then with 11 if the slice is shorter than the answers. Refused: every word, every byte of
+ * the tray and every byte of the slice is 0. Else words and tray are as outline_finish leaves them, and past the answers every byte of the slice is 0. */
+uint32_t outline_contained(const uint8_t *job, size_t job_bytes, uint32_t *work, size_t work_words, uint8_t *tray, size_t tray_bytes, uint8_t *answers, size_t answers_bytes);
 
 /* Finishes a job as outline_finish does and writes its listing, ASCII with a line feed after each line, into the text; bytes past it stay. The
  * answer is how many bytes the listing has, a refused job's too. A work space that is too short is refused with 10 first of all; every word and

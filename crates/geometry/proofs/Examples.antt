@@ -2,12 +2,14 @@
 use mathlib.Core.Path.{_≡_, refl}
 use mathlib.Core.Bool.{true, false}
 use mathlib.Core.List.{[], _∷_}
+use mathlib.Core.Option.{none, some}
 use Prim.Native.Nat.{ℕ}
 use lib.IntN.{pos, negsuc}
 use lib.Ieee.{binary64, ofBits, round, units, odd, climb, span, size, add, sum, mul, ofInt, toSigned}
 use Rattle.geometry.specs.declared.Point.{Point}
 use Rattle.geometry.specs.declared.Crossing.the-variants.{Inside}
-use Rattle.geometry.specs.Plane.{samePoint, isCollinear, dotProductThreePoints, areaTriangle, areaOutpt, ptsReallyClose, isVerySmallTriangle, removable, strictlyWithin, segmentsIntersect}
+use Rattle.geometry.specs.Plane.{samePoint, isCollinear, crossProductSign, dotProductThreePoints, areaTriangle, areaOutpt, ptsReallyClose, isVerySmallTriangle, removable, strictlyWithin, segmentsIntersect}
+use Rattle.geometry.specs.Box.{widen, boxOf}
 use Rattle.geometry.specs.Crossing.{fractionOf, crossing, coordinateAt, getSegmentIntersectPt, crossingPoint}
 
 abbrev pt : ℕ → ℕ → Point
@@ -109,3 +111,24 @@ small = refl
 large : isVerySmallTriangle (pt 0 0) (pt 2 0) (pt 1 50) ≡ false
 unfolding isVerySmallTriangle ptsReallyClose
 large = refl
+
+-- `cross_product_sign`: the way turns to one side, to the other, or goes on in line
+turns-one-way : crossProductSign (pt 0 0) (pt 10 0) (pt 10 10) ≡ pos 1
+unfolding crossProductSign
+turns-one-way = refl
+
+turns-the-other : crossProductSign (pt 0 0) (pt 0 10) (pt 10 10) ≡ negsuc 0
+unfolding crossProductSign
+turns-the-other = refl
+
+goes-on : crossProductSign (pt 0 0) (pt 5 5) (pt 10 10) ≡ pos 0
+unfolding crossProductSign
+goes-on = refl
+
+-- a box: each side is another point's, and top is the least y; no points have none
+box : boxOf (pt 3 9 ∷ pt 1 4 ∷ pt 7 5 ∷ pt 4 2 ∷ []) ≡ some (record { left = pos 1; top = pos 2; right = pos 7; bottom = pos 9 })
+unfolding widen
+box = refl
+
+no-box : boxOf [] ≡ none
+no-box = refl

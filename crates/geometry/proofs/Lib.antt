@@ -1,6 +1,7 @@
 -- Laws of the definitions; the functions' own proofs stand in folders of their own.
 pub mod Examples
 pub mod Coordinates
+pub mod Signs
 pub mod Differences
 pub mod Fractions
 pub mod Box

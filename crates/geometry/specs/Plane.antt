@@ -2,7 +2,7 @@
 use mathlib.Core.Bool.{Bool, false, cond, not, _&&_, _||_}
 use mathlib.Core.List.{List, [], _∷_}
 use lib.Dec.{ltb}
-use lib.IntN.{ℤ, pos, natAbs, _+ℤ_, _-ℤ_, _*ℤ_}
+use lib.IntN.{ℤ, pos, negsuc, natAbs, _+ℤ_, _-ℤ_, _*ℤ_}
 use lib.Signed.{ltZ}
 use Rattle.exact.specs.Equal.{eqZ}
 use Rattle.rings.specs.Circle.{lastOf}
@@ -19,6 +19,13 @@ samePoint p q = eqZ (p .x) (q .x) && eqZ (p .y) (q .y)
 -- `is_collinear`: the two products are equal
 unfoldable pub isCollinear : Point → Point → Point → Bool
 isCollinear pt1 shared pt2 = eqZ ((shared .x -ℤ pt1 .x) *ℤ (pt2 .y -ℤ shared .y)) ((shared .y -ℤ pt1 .y) *ℤ (pt2 .x -ℤ shared .x))
+
+-- `cross_product_sign`: 1, -1 or 0, as the first product is the greater, the less, or they are equal
+abbrev pub signOf : ℤ → ℤ → ℤ
+signOf ab cd = cond (ltZ cd ab) (pos 1) (cond (ltZ ab cd) (negsuc 0) (pos 0))
+
+unfoldable pub crossProductSign : Point → Point → Point → ℤ
+crossProductSign pt1 pt2 pt3 = signOf ((pt2 .x -ℤ pt1 .x) *ℤ (pt3 .y -ℤ pt2 .y)) ((pt2 .y -ℤ pt1 .y) *ℤ (pt3 .x -ℤ pt2 .x))
 
 -- `dot_product_three_points`: the edge to pt2 times the edge from it
 unfoldable pub dotProductThreePoints : Point → Point → Point → ℤ

@@ -4,7 +4,7 @@ ghost use mathlib.Core.Path.{_≡_};
 ghost use Prim.Native.Nat.{_^_};
 ghost use lib.IntN.{_+ℤ_, _-ℤ_, _*ℤ_};
 ghost use Rattle.exact.specs.Num.{Within};
-ghost use Rattle.geometry.specs.Plane.{samePoint, isCollinear, dotProductThreePoints, edgeArea, areaTriangle, closeBy, ptsReallyClose, isVerySmallTriangle, removable, segmentsIntersect};
+ghost use Rattle.geometry.specs.Plane.{samePoint, isCollinear, signOf, crossProductSign, dotProductThreePoints, edgeArea, areaTriangle, closeBy, ptsReallyClose, isVerySmallTriangle, removable, segmentsIntersect};
 ghost use Rattle.geometry.specs.Table.{InTable};
 ghost use Rattle.geometry.specs.Crossing.{edgePair, crossing, pointAt};
 ghost use Rattle.geometry.specs.Within.{edgesOf, Paired, MeetAt};
@@ -15,6 +15,14 @@ pub struct Point {
     pub x: i32,
     pub y: i32,
     pub z: u32,
+}
+
+// A box: the least and greatest x and y. As in core.rs, top is the least y.
+pub struct Rect {
+    pub left: i32,
+    pub top: i32,
+    pub right: i32,
+    pub bottom: i32,
 }
 
 // The differences of two edges: the first from a to b, the second from c to d.
@@ -87,6 +95,29 @@ pub fn is_collinear(pt1: Point, shared_pt: Point, pt2: Point) -> bool
 {
     product(shared_pt.x, pt1.x, pt2.y, shared_pt.y)
         == product(shared_pt.y, pt1.y, pt2.x, shared_pt.x)
+}
+
+// 1, -1 or 0, as ab is greater than cd, less, or equal.
+fn sign_of(ab: i64, cd: i64) -> i32
+    ensures { λ r. ⌜ r ≡ signOf ab cd ⌝ }
+{
+    if ab > cd {
+        return 1;
+    }
+    if ab < cd {
+        return -1;
+    }
+    0
+}
+
+// To which side the way turns at pt2.
+pub fn cross_product_sign(pt1: Point, pt2: Point, pt3: Point) -> i32
+    requires { ⌜ InTable pt1 ⌝ ∗ ⌜ InTable pt2 ⌝ ∗ ⌜ InTable pt3 ⌝ }
+    ensures { λ r. ⌜ r ≡ crossProductSign pt1 pt2 pt3 ⌝ }
+{
+    let ab = product(pt2.x, pt1.x, pt3.y, pt2.y);
+    let cd = product(pt2.y, pt1.y, pt3.x, pt2.x);
+    sign_of(ab, cd)
 }
 
 // The edge to pt2 times the edge from it.

@@ -24,6 +24,7 @@ use Rattle.listing.specs.declared.Listed.{Listed}
 use Rattle.listing.specs.Told.{told}
 use Rattle.job_listing.specs.Cutlist.{listedJob, listJobOf}
 use Rattle.prefix.specs.Decides.{LONGEST}
+use Rattle.containment.specs.Contained.{contained, containedOf}
 use Rattle.rewriting.specs.declared.Rewritten.{Rewritten}
 use Rattle.rewriting.specs.declared.Rewritten.the-variants as rewritten
 use Rattle.rewriting.specs.Rewrite.{rewrote, rewriteOf}
@@ -38,7 +39,7 @@ use Rattle.telling.specs.Within.{NumberWithin, ToldWithin}
 use Rattle.telling.proofs.Within.{told-within}
 use Rattle.states.specs.Calls.{keepOf, goBackOf, dropOf}
 use Rattle.laying.specs.Lay.{layOf}
-use Rattle.outline.specs.Calls.{openedNumber, replyNumber, writtenNumber, listedBytes, rewrittenNumber, reasonWord, toldNumber, rateFrom, textShort, worked, wrote, finished, listing, asOpened, asReplied, asWritten, asFinished, asListed, asRewritten, openC, stepC, keepC, backC, dropC, layC, writeC, finishC, listC, rewriteC, reasonC}
+use Rattle.outline.specs.Calls.{openedNumber, replyNumber, writtenNumber, listedBytes, rewrittenNumber, reasonWord, toldNumber, rateFrom, textShort, worked, wrote, finished, listing, pairs, asOpened, asReplied, asWritten, asFinished, asListed, asContained, asRewritten, openC, stepC, keepC, backC, dropC, layC, writeC, finishC, listC, rewriteC, reasonC, containedC}
 
 pub as-opened : (bytes lent : List ℕ) (k : ℕ) (a : Opened) (w : List ℕ) → end a w ≡ openOf bytes lent → k ≡ openedNumber a → worked k w ≡ openC bytes lent
 unfolding openC
@@ -133,3 +134,7 @@ module _ (bytes w t : List ℕ) (rate : ℕ) (s : List ℕ) (b : Bool) (d : b �
   as-listed k q a w′ t′ s′ h i e g =
       ap (λ (z : ℕ). listing z w′ t′ s′) g ∙ ap asListed (e ∙ ap (λ (p : Rate). listJobOf p bytes w t s) i)
       ∙ sym (ap (λ (x : Bool). cond x (listing 0 w t s) (asListed (listJobOf (rateFrom rate) bytes w t s))) (sym d ∙ h))
+
+pub as-contained : (bytes lent t : List ℕ) (m k : ℕ) (a : Written) (w u v : List ℕ) → contained a w u v ≡ containedOf bytes lent t m → k ≡ writtenNumber a → pairs k w u v ≡ containedC bytes lent t m
+unfolding containedC
+as-contained bytes lent t m k a w u v e h = ap (λ (z : ℕ). pairs z w u v) h ∙ ap asContained e

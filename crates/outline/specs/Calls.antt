@@ -28,6 +28,7 @@ use Rattle.listing.specs.declared.Listed.{Listed}
 use Rattle.listing.specs.declared.Listed.the-variants.{Bytes, NoRoom}
 use Rattle.listing.specs.Room.{TEXT}
 use Rattle.job_listing.specs.Cutlist.{ListedJob, listJobOf}
+use Rattle.containment.specs.Contained.{Contained, containedOf}
 use Rattle.rewriting.specs.declared.Rewritten.{Rewritten}
 use Rattle.rewriting.specs.declared.Rewritten.the-variants as rewritten
 use Rattle.rewriting.specs.Rewrite.{Rewrote, rewriteOf}
@@ -121,6 +122,16 @@ pub record Listing : Type 0 where
 abbrev pub listing : ℕ → List ℕ → List ℕ → List ℕ → Listing
 listing n w t s = record { bytes = n; words = w; tray = t; text = s }
 
+-- a call that changes these and the answers for pairs
+pub record Pairs : Type 0 where
+  pub number : ℕ
+  pub words : List ℕ
+  pub tray : List ℕ
+  pub answers : List ℕ
+
+abbrev pub pairs : ℕ → List ℕ → List ℕ → List ℕ → Pairs
+pairs n w t a = record { number = n; words = w; tray = t; answers = a }
+
 -- ---- the calls
 
 abbrev pub asOpened : End → Worked
@@ -137,6 +148,9 @@ asFinished l = finished (writtenNumber (l .answer)) (l .words) (l .tray)
 
 abbrev pub asListed : ListedJob → Listing
 asListed l = listing (listedBytes (l .text .answer)) (l .words) (l .tray) (l .text .out)
+
+abbrev pub asContained : Contained → Pairs
+asContained l = pairs (writtenNumber (l .answer)) (l .words) (l .tray) (l .answers)
 
 abbrev pub asRewritten : Rewrote → Finished
 asRewritten l = finished (rewrittenNumber (l .answer)) (l .words) (l .tray)
@@ -186,3 +200,7 @@ rewriteC bytes n m = asRewritten (rewriteOf bytes n m)
 -- `outline_reason`
 unfoldable pub reasonC : List ℕ → ℕ → ℕ
 reasonC w i = toldNumber (reasonOf w i)
+
+-- `outline_contained`: with the lent tray, of the answers only their length counts
+unfoldable pub containedC : List ℕ → List ℕ → List ℕ → ℕ → Pairs
+containedC bytes lent t k = asContained (containedOf bytes lent t k)

@@ -1,5 +1,6 @@
-// The entry points for C and Rust: the same calls, answering 0 or the refusal's number; the listing; rewriting; laying two drawings together; and telling a record's reason.
+// The entry points for C and Rust: the same calls, answering 0 or the refusal's number; the listing; rewriting; laying two drawings together; telling a record's reason; and which shape lies in which.
 use audit::Reply;
+use containment::contained;
 use finishing::finish::finish;
 use finishing::open;
 use finishing::step;
@@ -30,7 +31,7 @@ ghost use Rattle.prefix.specs.Decides.{LONGEST};
 ghost use Rattle.rewriting.specs.Answers.{BytesWithin};
 ghost use Rattle.paths.specs.Tray.{tagOf};
 ghost use Rattle.telling.specs.Within.{NumberWithin, ToldWithin};
-ghost use Rattle.outline.specs.Calls.{openedNumber, replyNumber, writtenNumber, listedBytes, rewrittenNumber, reasonWord, toldNumber, rateFrom, textShort, worked, wrote, finished, listing, openC, stepC, keepC, backC, dropC, layC, writeC, finishC, listC, rewriteC, reasonC};
+ghost use Rattle.outline.specs.Calls.{openedNumber, replyNumber, writtenNumber, listedBytes, rewrittenNumber, reasonWord, toldNumber, rateFrom, textShort, worked, wrote, finished, listing, pairs, openC, stepC, keepC, backC, dropC, layC, writeC, finishC, listC, rewriteC, reasonC, containedC};
 
 // ---- the numbers of answers
 
@@ -272,4 +273,18 @@ pub extern "C" fn outline_reason(work: &[u32], number: u32) -> u64
 {
     let a = reason_of(work, number);
     told_number(a)
+}
+
+// Finishes a job in one call, and answers for every ordered pair of its closed paths whether the second contains the first.
+#[no_mangle]
+pub extern "C" fn outline_contained(
+    job: &[u8],
+    work: &mut [u32],
+    tray: &mut [u8],
+    answers: &mut [u8],
+) -> u32
+    ensures { λ r. ⌜ pairs r (now (work .exit)) (now (tray .exit)) (now (answers .exit)) ≡ containedC (now (job .entry)) (now (work .entry)) (now (tray .entry)) (length (now (answers .entry))) ⌝ }
+{
+    let a = contained(job, work, tray, answers);
+    written_number(a)
 }

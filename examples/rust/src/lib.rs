@@ -23,6 +23,7 @@
 //! A work space is lent by the caller and nothing else is kept between calls, so two threads may use two work spaces at once.
 #![deny(missing_docs)]
 
+mod contained;
 mod job;
 mod laying;
 mod reason;
@@ -30,6 +31,7 @@ mod refused;
 mod states;
 mod tray;
 
+pub use contained::contained;
 pub use job::{Job, Ring};
 pub use laying::lay_together;
 pub use reason::Reason;
@@ -61,6 +63,8 @@ pub const REWRITTEN_BYTES: usize = JOB_BYTES - 21;
 
 /// A text of so many bytes has room for the listing of any job.
 pub const TEXT_BYTES: usize = 54 + 49 * RECORDS + 66 * POINTS + 49;
+/// A slice of so many bytes has room for the answers of any job: which shape lies in which.
+pub const ANSWER_BYTES: usize = RECORDS * (RECORDS - 1);
 /// The largest rate, in cents for a square decimetre; 0 is none.
 pub const RATE: u32 = 1_000;
 

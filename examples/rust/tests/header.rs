@@ -30,6 +30,7 @@ fn constants() {
         ("TEXT_BYTES", TEXT_BYTES as u64),
         ("RATE", u64::from(RATE)),
         ("REWRITTEN_BYTES", REWRITTEN_BYTES as u64),
+        ("ANSWER_BYTES", ANSWER_BYTES as u64),
     ];
     let refusals = [
         ("TORN", Refused::TORN),

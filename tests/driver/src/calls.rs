@@ -192,6 +192,18 @@ pub enum Fault {
     LayDiscarded,
     /// The second's work space is emptied.
     LaySecond,
+    /// Which shape lies in which: the pair is turned round.
+    ContainedTurned,
+    /// A path is tested against itself too.
+    ContainedDiagonal,
+    /// A point on the edge is taken for inside.
+    ContainedOnEdge,
+    /// The last byte past the answers is 1.
+    ContainedPast,
+    /// A refused job leaves a 1 in the last byte of the answers.
+    ContainedRefused,
+    /// A short slice is said before the job's own refusals.
+    ContainedShort,
     /// A copy misses a column: the loop's starts stay what they were.
     KeepColumn,
     /// A name that is kept, with three others, is refused with 15.
@@ -300,6 +312,12 @@ pub const FAULTS: &[Fault] = &[
     Fault::LayPresent,
     Fault::LayDiscarded,
     Fault::LaySecond,
+    Fault::ContainedTurned,
+    Fault::ContainedDiagonal,
+    Fault::ContainedOnEdge,
+    Fault::ContainedPast,
+    Fault::ContainedRefused,
+    Fault::ContainedShort,
     Fault::KeepColumn,
     Fault::KeepAgain,
     Fault::KeepFifth,

@@ -4,6 +4,7 @@ mod altered;
 mod audit_cases;
 mod calls;
 mod canon;
+mod contains;
 mod damage;
 mod depths;
 mod drawn;
@@ -34,7 +35,7 @@ use oracle::text::number;
 use runs::{Kind, Run, KINDS};
 
 const USAGE: &str =
-    "usage: driver finish|large|steps|bytes|altered|canon|reasons|kept|laid|drawn SEED COUNT THREADS [FROM], driver faults SEED COUNT, \
+    "usage: driver finish|large|steps|bytes|altered|canon|reasons|kept|laid|drawn|contains SEED COUNT THREADS [FROM], driver faults SEED COUNT, \
                      driver fault NAME KIND SEED COUNT, or driver audit_cases";
 
 fn run_of(kind: &str, seed: &str, count: &str, threads: &str, from: u64) -> Result<Run, String> {
@@ -54,6 +55,7 @@ fn is_tried(fault: Fault, kind: Kind) -> bool {
         _ if kind == Kind::Drawn => fault == Fault::TrayByte,
         _ if kind == Kind::Laid || name.starts_with("Lay") => kind == Kind::Laid && name.starts_with("Lay"),
         _ if kind == Kind::Kept => is_of_names(fault),
+        _ if kind == Kind::Contains || name.starts_with("Contained") => kind == Kind::Contains && name.starts_with("Contained"),
         _ if ["Keep", "Back", "Drop"].iter().any(|call| name.starts_with(call)) => false,
         _ if name.starts_with("Reason") => kind == Kind::Reasons,
         _ if name.starts_with("Rewrite") => kind == Kind::Canon,

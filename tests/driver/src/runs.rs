@@ -3,7 +3,7 @@
 use crate::calls::Fault;
 use crate::room::{Room, Same};
 use crate::tally::Tally;
-use crate::{altered, canon, damage, drawn, finish, kept, laid, large, open, pair, reasons, steps, turned};
+use crate::{altered, canon, contains, damage, drawn, finish, kept, laid, large, open, pair, reasons, steps, turned};
 use oracle::gen;
 use oracle::rng::Rng;
 use std::panic::{catch_unwind, AssertUnwindSafe};
@@ -25,6 +25,7 @@ pub enum Kind {
     Kept,
     Laid,
     Drawn,
+    Contains,
 }
 
 pub const KINDS: &[(&str, Kind)] = &[
@@ -38,6 +39,7 @@ pub const KINDS: &[(&str, Kind)] = &[
     ("kept", Kind::Kept),
     ("laid", Kind::Laid),
     ("drawn", Kind::Drawn),
+    ("contains", Kind::Contains),
 ];
 
 impl Kind {
@@ -91,6 +93,10 @@ impl Kind {
                 laid::case(room, seed, index, &mut rng)
             }
             Kind::Drawn => drawn::case(room, &mut rng),
+            Kind::Contains => {
+                room.start(&contains::job(seed, index, &mut rng), at);
+                contains::case(room, &mut rng)
+            }
         }
     }
 
@@ -113,6 +119,7 @@ impl Kind {
             Kind::Kept => kept::must_see(),
             Kind::Laid => laid::must_see(),
             Kind::Drawn => vec![("finish", vec![0, 3, 10, 11])],
+            Kind::Contains => vec![("contained", (0..=11).collect())],
         }
     }
 
@@ -213,6 +220,9 @@ impl Run {
         }
         if self.kind == Kind::Drawn {
             lacking.extend(tally.lacking_events(&drawn::SEEN));
+        }
+        if self.kind == Kind::Contains {
+            lacking.extend(tally.lacking_events(&contains::SEEN));
         }
         lacking.extend(self.kind.must_test().iter().flat_map(|call| tally.lacking_kept(call)));
         if count >= 10_000 && !lacking.is_empty() {

@@ -9,6 +9,7 @@ pub mod cases;
 pub mod charge;
 pub mod check;
 pub mod compare;
+pub mod contains;
 pub mod copies;
 pub mod drawn;
 pub mod fraction;

@@ -2,8 +2,8 @@
 use ::oracle::oracle::Oracle;
 use ::oracle::text::number;
 use ::oracle::{
-    answer, batch, canon, canon_cases, cases, charge, gen, guard, output, raw, reasons, reasons_cases, runs, search,
-    show, stepped, stored, text, trails, vectors,
+    answer, batch, canon, canon_cases, cases, charge, contains, gen, guard, output, raw, reasons, reasons_cases, runs,
+    search, show, stepped, stored, text, trails, vectors,
 };
 use std::io::Read;
 
@@ -34,6 +34,10 @@ fn run(words: &[&str]) -> Result<(), String> {
         ["tray"] => match Oracle::default().answer(&input()?) {
             answer::Answer::Refused(number) => Err(format!("the job is refused with {number}, so it has no tray")),
             answer => output(&answer.tray()),
+        },
+        ["contains"] => match Oracle::default().answer(&input()?) {
+            answer::Answer::Refused(number) => Err(format!("refused {number}")),
+            answer::Answer::Paths { closed, .. } => output(&contains::answers(&closed)),
         },
         ["canon"] => match canon::rewrite(&input()?) {
             Err(number) => Err(format!("refused {number}")),

@@ -1,0 +1,2 @@
+-- Laws of a table of boxes.
+pub mod Tables

@@ -1,0 +1,3 @@
+-- An edge seen from a point.
+pub mod Edge
+pub mod Needs
