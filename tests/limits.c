@@ -344,6 +344,33 @@ static void pairs(void) {
     is("a record beside the largest", lay(), OUTLINE_FULL);
 }
 
+/* ---- backward links: a line of two points, the second its own prev */
+
+static uint8_t found[OUTLINE_JOB_BYTES];
+
+static void mending(void) {
+    settings();
+    point(0, 0, 1, 1, 0);
+    point(5, 5, 0, 1, 0);
+    record(1, NONE, 0);
+    is("a loose link", outline_open(job, length, work, OUTLINE_WORK_WORDS), OUTLINE_LOOSE);
+    memcpy(found, job, length);
+    is("mended", outline_mend(job, length), 0);
+    is("its prev", job[4 + 21 + 13], 0);
+    job[4 + 21 + 13] = 1;
+    is("its other bytes", (uint64_t)memcmp(found, job, length), 0);
+    is("mended again", outline_mend(job, length), 0);
+    is("opened", outline_open(job, length, work, OUTLINE_WORK_WORDS), 0);
+    is("a byte less", outline_mend(job, length - 1), OUTLINE_TORN);
+    job[15] = 0;
+    memcpy(found, job, length);
+    is("the next of none", outline_mend(job, length), OUTLINE_PAST_MENDING);
+    job[4 + 21 + 13] = 2;
+    is("a prev that names nothing, before 17", outline_mend(job, length), OUTLINE_NO_SUCH);
+    job[4 + 21 + 13] = 0;
+    is("nothing is altered", (uint64_t)memcmp(found, job, length), 0);
+}
+
 int main(void) {
     lengths();
     listings();
@@ -352,6 +379,7 @@ int main(void) {
     reasons();
     states();
     pairs();
+    mending();
     counts();
     coordinates();
     depths();

@@ -13,6 +13,14 @@ BITS = 3
 FRONT = 2
 
 
+def mending(nexts):
+    """Whether backward links would do, and which: what the program mend says of a job that passes 5."""
+    wrong = next((point for point in range(len(nexts)) if nexts.count(point) != 1), None)
+    if wrong is None:
+        return "; the program mend sets every prev by the nexts"
+    return f"; past mending: point {wrong} is the next of {nexts.count(wrong) or 'none'}"
+
+
 class Fault(Exception):
     """A refusal: its number, what earns it, and the field that it is found in, by tag and number, or by its byte."""
 
@@ -125,9 +133,9 @@ def no_such(found):
 def loose(rings):
     for point, (after, before) in enumerate(zip(rings.next, rings.prev)):
         if rings.next[before] != point:
-            raise Fault(6, f"point {point}: its prev is {before}, whose next is {rings.next[before]}", POINT, point)
+            raise Fault(6, f"point {point}: its prev is {before}, whose next is {rings.next[before]}{mending(rings.next)}", POINT, point)
         if rings.prev[after] != point:
-            raise Fault(6, f"point {point}: its next is {after}, whose prev is {rings.prev[after]}", POINT, point)
+            raise Fault(6, f"point {point}: its next is {after}, whose prev is {rings.prev[after]}{mending(rings.next)}", POINT, point)
 
 
 def muddled(rings):

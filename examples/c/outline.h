@@ -92,22 +92,23 @@ extern "C" {
 /* ---- the answers: 0, or the refusal's number, the first that applies */
 
 enum outline_refusal {
-    OUTLINE_TORN = 1,            /* a field is cut off, or its length is not its tag's */
-    OUTLINE_STRANGE = 2,         /* the job is empty, or has a tag or a bit that does not belong there */
-    OUTLINE_CROWDED = 3,         /* more points, records, segments or joins than a job may have */
-    OUTLINE_OFF_THE_TABLE = 4,   /* a coordinate is beyond 1,048,576 micrometres either way */
-    OUTLINE_NO_SUCH = 5,         /* a number names no point or no record of the job */
-    OUTLINE_LOOSE = 6,           /* a point's next and prev do not lead back to it */
-    OUTLINE_MUDDLED = 7,         /* owners go in a circle, or a point is not on the ring of the record that it names */
-    OUTLINE_OPEN_EDGE = 8,       /* a segment or a join names a point of an open ring */
-    OUTLINE_KNOT = 9,            /* a join's second point is already the next of its first */
-    OUTLINE_FULL = 10,           /* finishing, or laying together, needs more than 2,048 points or 512 records, or a work space is too short */
-    OUTLINE_SMALL_TRAY = 11,     /* the paths, or the job that is written, need more bytes than the tray has, or the pairs more than the answers have */
-    OUTLINE_OUT_OF_TURN = 12,    /* a step on a record that has none to take, the reason of an unknown record, writing out or asking for a reason before every closed ring is done, or laying together what was stepped */
-    OUTLINE_BAD_RATE = 13,       /* more than one rate is given, or one that is not a whole number from 1 to 1,000 */
-    OUTLINE_UNKNOWN_NAME = 14,   /* going back to, or dropping, a name that is not kept */
-    OUTLINE_NO_PLACE = 15,       /* keeping a fifth name */
-    OUTLINE_SETTINGS_DIFFER = 16 /* laying together two drawings whose settings bytes are unequal */
+    OUTLINE_TORN = 1,             /* a field is cut off, or its length is not its tag's */
+    OUTLINE_STRANGE = 2,          /* the job is empty, or has a tag or a bit that does not belong there */
+    OUTLINE_CROWDED = 3,          /* more points, records, segments or joins than a job may have */
+    OUTLINE_OFF_THE_TABLE = 4,    /* a coordinate is beyond 1,048,576 micrometres either way */
+    OUTLINE_NO_SUCH = 5,          /* a number names no point or no record of the job */
+    OUTLINE_LOOSE = 6,            /* a point's next and prev do not lead back to it */
+    OUTLINE_MUDDLED = 7,          /* owners go in a circle, or a point is not on the ring of the record that it names */
+    OUTLINE_OPEN_EDGE = 8,        /* a segment or a join names a point of an open ring */
+    OUTLINE_KNOT = 9,             /* a join's second point is already the next of its first */
+    OUTLINE_FULL = 10,            /* finishing, or laying together, needs more than 2,048 points or 512 records, or a work space is too short */
+    OUTLINE_SMALL_TRAY = 11,      /* the paths, or the job that is written, need more bytes than the tray has, or the pairs more than the answers have */
+    OUTLINE_OUT_OF_TURN = 12,     /* a step on a record that has none to take, the reason of an unknown record, writing out or asking for a reason before every closed ring is done, or laying together what was stepped */
+    OUTLINE_BAD_RATE = 13,        /* more than one rate is given, or one that is not a whole number from 1 to 1,000 */
+    OUTLINE_UNKNOWN_NAME = 14,    /* going back to, or dropping, a name that is not kept */
+    OUTLINE_NO_PLACE = 15,        /* keeping a fifth name */
+    OUTLINE_SETTINGS_DIFFER = 16, /* laying together two drawings whose settings bytes are unequal */
+    OUTLINE_PAST_MENDING = 17     /* some point is the next of none or of more than one, so no backward links would do */
 };
 
 /* ---- where a record's ring went */
@@ -195,6 +196,11 @@ uint32_t outline_write(const uint32_t *work, size_t work_words, uint8_t *tray, s
  * answer >> 40 & 255, of reason 8, the tag of its path's list in the tray, 6 or 7; and answer >> 48 of reason 2 the record that took it, of reason 8 its path's
  * place in that list, from 0. The work space is only read. */
 uint64_t outline_reason(const uint32_t *work, size_t work_words, uint32_t record);
+
+/* Mends the backward links of a job, in its bytes: if every point is the next of exactly one point, each prev becomes that point, and no other byte changes. A job that it has mended
+ * never meets 6, no other backward links would avoid 6, and a job whose links are sound comes back as it was. Refused with 1 to 5 as opening, then with 17: some point is the next of none or
+ * of more than one. What 7 and 8 speak of is not asked. Refused, every byte is as found. No work space is lent: the call takes some 80 kB of stack. */
+uint32_t outline_mend(uint8_t *job, size_t job_bytes);
 
 /* ---- helpers, in C alone: they call nothing, and keep nothing */
 

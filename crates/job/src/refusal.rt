@@ -1,4 +1,4 @@
-// The refusals of document 01's table, and 13 to 16 of document 02.
+// The refusals of document 01's table, and 13 to 17 of document 02.
 ghost use mathlib.Core.Path.{_≡_};
 ghost use Rattle.job.specs.Refusal.{numberOf};
 
@@ -19,6 +19,7 @@ pub enum Refusal {
     UnknownName,
     NoPlace,
     SettingsDiffer,
+    PastMending,
 }
 
 impl Refusal {
@@ -43,6 +44,7 @@ impl Refusal {
             Refusal::UnknownName => 14,
             Refusal::NoPlace => 15,
             Refusal::SettingsDiffer => 16,
+            Refusal::PastMending => 17,
         }
     }
 }

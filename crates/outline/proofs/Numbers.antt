@@ -39,7 +39,8 @@ use Rattle.telling.specs.Within.{NumberWithin, ToldWithin}
 use Rattle.telling.proofs.Within.{told-within}
 use Rattle.states.specs.Calls.{keepOf, goBackOf, dropOf}
 use Rattle.laying.specs.Lay.{layOf}
-use Rattle.outline.specs.Calls.{openedNumber, replyNumber, writtenNumber, listedBytes, rewrittenNumber, reasonWord, toldNumber, rateFrom, textShort, worked, wrote, finished, listing, pairs, asOpened, asReplied, asWritten, asFinished, asListed, asContained, asRewritten, openC, stepC, keepC, backC, dropC, layC, writeC, finishC, listC, rewriteC, reasonC, containedC}
+use Rattle.mending.specs.Mend.{mended, mendOf}
+use Rattle.outline.specs.Calls.{openedNumber, replyNumber, writtenNumber, listedBytes, rewrittenNumber, reasonWord, toldNumber, rateFrom, textShort, worked, wrote, finished, listing, pairs, asOpened, asReplied, asWritten, asFinished, asListed, asContained, asRewritten, asMended, openC, stepC, keepC, backC, dropC, layC, writeC, finishC, listC, rewriteC, reasonC, containedC, mendedJob, mendC}
 
 pub as-opened : (bytes lent : List ℕ) (k : ℕ) (a : Opened) (w : List ℕ) → end a w ≡ openOf bytes lent → k ≡ openedNumber a → worked k w ≡ openC bytes lent
 unfolding openC
@@ -85,6 +86,12 @@ half-is a k e = rw e
 pub as-rewritten : (bytes : List ℕ) (n m k : ℕ) (a : Rewritten) (w t : List ℕ) → rewrote a w t ≡ rewriteOf bytes n m → k ≡ rewrittenNumber a → finished k w t ≡ rewriteC bytes n m
 unfolding rewriteC
 as-rewritten bytes n m k a w t e h = ap (λ (z : ℕ). finished z w t) h ∙ ap asRewritten e
+
+-- ---- mending
+
+pub as-mended : (bytes : List ℕ) (k : ℕ) (a : Reply) (s : List ℕ) → mended a s ≡ mendOf bytes → k ≡ replyNumber a → mendedJob k s ≡ mendC bytes
+unfolding mendC
+as-mended bytes k a s e h = ap (λ (z : ℕ). mendedJob z s) h ∙ ap asMended e
 
 -- ---- a record's reason
 

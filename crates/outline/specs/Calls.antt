@@ -32,6 +32,7 @@ use Rattle.containment.specs.Contained.{Contained, containedOf}
 use Rattle.rewriting.specs.declared.Rewritten.{Rewritten}
 use Rattle.rewriting.specs.declared.Rewritten.the-variants as rewritten
 use Rattle.rewriting.specs.Rewrite.{Rewrote, rewriteOf}
+use Rattle.mending.specs.Mend.{Mended, mendOf}
 use Rattle.telling.specs.declared.Reason.{Reason}
 use Rattle.telling.specs.declared.Reason.the-variants.{NoRing, Joined, SmallRing, RingFell, SmallArea, ShortPath, SmallPath}
 use Rattle.telling.specs.declared.Reason.the-variants as reason
@@ -132,6 +133,14 @@ pub record Pairs : Type 0 where
 abbrev pub pairs : ℕ → List ℕ → List ℕ → List ℕ → Pairs
 pairs n w t a = record { number = n; words = w; tray = t; answers = a }
 
+-- a call that changes the job only
+pub record MendedJob : Type 0 where
+  pub number : ℕ
+  pub job : List ℕ
+
+abbrev pub mendedJob : ℕ → List ℕ → MendedJob
+mendedJob n s = record { number = n; job = s }
+
 -- ---- the calls
 
 abbrev pub asOpened : End → Worked
@@ -154,6 +163,9 @@ asContained l = pairs (writtenNumber (l .answer)) (l .words) (l .tray) (l .answe
 
 abbrev pub asRewritten : Rewrote → Finished
 asRewritten l = finished (rewrittenNumber (l .answer)) (l .words) (l .tray)
+
+abbrev pub asMended : Mended → MendedJob
+asMended l = mendedJob (replyNumber (l .answer)) (l .bytes)
 
 -- `outline_open`, by the job's bytes and the lent work space
 unfoldable pub openC : List ℕ → List ℕ → Worked
@@ -204,3 +216,7 @@ reasonC w i = toldNumber (reasonOf w i)
 -- `outline_contained`: with the lent tray, of the answers only their length counts
 unfoldable pub containedC : List ℕ → List ℕ → List ℕ → ℕ → Pairs
 containedC bytes lent t k = asContained (containedOf bytes lent t k)
+
+-- `outline_mend`
+unfoldable pub mendC : List ℕ → MendedJob
+mendC bytes = asMended (mendOf bytes)

@@ -1,4 +1,4 @@
-// The entry points for C and Rust: the same calls, answering 0 or the refusal's number; the listing; rewriting; laying two drawings together; telling a record's reason; and which shape lies in which.
+// The entry points for C and Rust: the same calls, answering 0 or the refusal's number; the listing; rewriting; laying two drawings together; telling a record's reason; which shape lies in which; and mending a job's backward links.
 use audit::Reply;
 use containment::contained;
 use finishing::finish::finish;
@@ -9,6 +9,7 @@ use job_listing::list_job;
 use laying::lay_together;
 use listing::Listed;
 use listing::TEXT;
+use mending::mend;
 use opening::open::Opened;
 use paths::Written;
 use paths::tag_of;
@@ -31,7 +32,7 @@ ghost use Rattle.prefix.specs.Decides.{LONGEST};
 ghost use Rattle.rewriting.specs.Answers.{BytesWithin};
 ghost use Rattle.paths.specs.Tray.{tagOf};
 ghost use Rattle.telling.specs.Within.{NumberWithin, ToldWithin};
-ghost use Rattle.outline.specs.Calls.{openedNumber, replyNumber, writtenNumber, listedBytes, rewrittenNumber, reasonWord, toldNumber, rateFrom, textShort, worked, wrote, finished, listing, pairs, openC, stepC, keepC, backC, dropC, layC, writeC, finishC, listC, rewriteC, reasonC, containedC};
+ghost use Rattle.outline.specs.Calls.{openedNumber, replyNumber, writtenNumber, listedBytes, rewrittenNumber, reasonWord, toldNumber, rateFrom, textShort, worked, wrote, finished, listing, pairs, openC, stepC, keepC, backC, dropC, layC, writeC, finishC, listC, rewriteC, reasonC, containedC, mendedJob, mendC};
 
 // ---- the numbers of answers
 
@@ -287,4 +288,13 @@ pub extern "C" fn outline_contained(
 {
     let a = contained(job, work, tray, answers);
     written_number(a)
+}
+
+// Mends a job's backward links, in its bytes.
+#[no_mangle]
+pub extern "C" fn outline_mend(job: &mut [u8]) -> u32
+    ensures { λ r. ⌜ mendedJob r (now (job .exit)) ≡ mendC (now (job .entry)) ⌝ }
+{
+    let a = mend(job);
+    reply_number(a)
 }

@@ -26,6 +26,7 @@
 mod contained;
 mod job;
 mod laying;
+mod mending;
 mod reason;
 mod refused;
 mod states;
@@ -34,6 +35,7 @@ mod tray;
 pub use contained::contained;
 pub use job::{Job, Ring};
 pub use laying::lay_together;
+pub use mending::mend;
 pub use reason::Reason;
 pub use refused::Refused;
 pub use states::{drop_name, go_back, keep};

@@ -4,7 +4,7 @@ use std::fmt;
 /// A number, a word and what it means in each line, with a tab between them.
 const TABLE: &str = include_str!("../refusals");
 
-/// The number of a refusal, 1 to 16.
+/// The number of a refusal, 1 to 17.
 ///
 /// ```
 /// use outline::Refused;
@@ -48,6 +48,8 @@ impl Refused {
     pub const NO_PLACE: Refused = Refused(15);
     /// Laying together two drawings whose settings bytes are unequal.
     pub const SETTINGS_DIFFER: Refused = Refused(16);
+    /// Some point is the next of none or of more than one, so no backward links would do.
+    pub const PAST_MENDING: Refused = Refused(17);
 
     /// The word and the meaning; none of a number that is no refusal's.
     fn said(self) -> Option<(&'static str, &'static str)> {

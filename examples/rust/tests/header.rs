@@ -49,6 +49,7 @@ fn constants() {
         ("UNKNOWN_NAME", Refused::UNKNOWN_NAME),
         ("NO_PLACE", Refused::NO_PLACE),
         ("SETTINGS_DIFFER", Refused::SETTINGS_DIFFER),
+        ("PAST_MENDING", Refused::PAST_MENDING),
     ];
     for (name, refused) in refusals {
         assert_eq!(refused.word().replace(' ', "_").to_uppercase(), name);

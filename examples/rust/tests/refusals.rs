@@ -1,4 +1,4 @@
-// The refusals' words; and 11, 12, 14, 15 and 16, which only the library gives, on the examples of docs/JOB.md. 1 to 10 are run by tests/cutlist.
+// The refusals' words; and 11, 12, 14, 15 and 16, which only the library gives, and 17, on the examples of docs/JOB.md. 1 to 10 are run by tests/cutlist.
 use outline::*;
 
 /// `ring 1 - 0,0 5,5` under `settings 0`: an open line of two points, a path of 27 bytes.
@@ -43,8 +43,24 @@ fn settings_differ() {
 }
 
 #[test]
+fn past_mending() {
+    // Both points of the line name point 0 as their next.
+    let mut job = LINE.to_vec();
+    job[15] = 0;
+    let found = job.clone();
+    assert_eq!(mend(&mut job), Err(Refused(17)));
+    assert_eq!(job, found);
+    // Both name point 1 as their prev: mended.
+    let mut job = LINE.to_vec();
+    job[38] = 1;
+    assert_eq!(open(&job, &mut vec![7; WORK_WORDS]), Err(Refused(6)));
+    assert_eq!(mend(&mut job), Ok(()));
+    assert_eq!(job, LINE);
+}
+
+#[test]
 fn every_refusal_has_its_word() {
-    assert!((1..=16).all(|number| !Refused(number).word().is_empty() && !Refused(number).meaning().is_empty()));
+    assert!((1..=17).all(|number| !Refused(number).word().is_empty() && !Refused(number).meaning().is_empty()));
     assert_eq!(Refused(7).word(), "muddled");
     assert_eq!(Refused(12).to_string(), format!("refused 12, out of turn: {}", Refused::OUT_OF_TURN.meaning()));
     assert_eq!((Refused(0).word(), Refused(99).meaning()), ("", ""));

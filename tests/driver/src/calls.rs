@@ -204,6 +204,12 @@ pub enum Fault {
     ContainedRefused,
     /// A short slice is said before the job's own refusals.
     ContainedShort,
+    /// A job past mending is said so before a number that names nothing.
+    MendOrder,
+    /// A mended job has another next.
+    MendNext,
+    /// A job that the mender refuses is altered.
+    MendFound,
     /// A copy misses a column: the loop's starts stay what they were.
     KeepColumn,
     /// A name that is kept, with three others, is refused with 15.
@@ -318,6 +324,9 @@ pub const FAULTS: &[Fault] = &[
     Fault::ContainedPast,
     Fault::ContainedRefused,
     Fault::ContainedShort,
+    Fault::MendOrder,
+    Fault::MendNext,
+    Fault::MendFound,
     Fault::KeepColumn,
     Fault::KeepAgain,
     Fault::KeepFifth,

@@ -15,6 +15,7 @@ mod large;
 mod laying;
 mod lent;
 mod listed;
+mod mended;
 mod model;
 mod names;
 mod open;
@@ -35,8 +36,8 @@ use oracle::text::number;
 use runs::{Kind, Run, KINDS};
 
 const USAGE: &str =
-    "usage: driver finish|large|steps|bytes|altered|canon|reasons|kept|laid|drawn|contains SEED COUNT THREADS [FROM], driver faults SEED COUNT, \
-                     driver fault NAME KIND SEED COUNT, or driver audit_cases";
+    "usage: driver finish|large|steps|bytes|altered|canon|reasons|kept|laid|drawn|contains|mended SEED COUNT THREADS [FROM], driver faults SEED COUNT, \
+                     driver fault NAME KIND SEED COUNT, driver audit_cases, or driver mended_all";
 
 fn run_of(kind: &str, seed: &str, count: &str, threads: &str, from: u64) -> Result<Run, String> {
     let kind = Kind::named(kind).ok_or(USAGE)?;
@@ -56,6 +57,7 @@ fn is_tried(fault: Fault, kind: Kind) -> bool {
         _ if kind == Kind::Laid || name.starts_with("Lay") => kind == Kind::Laid && name.starts_with("Lay"),
         _ if kind == Kind::Kept => is_of_names(fault),
         _ if kind == Kind::Contains || name.starts_with("Contained") => kind == Kind::Contains && name.starts_with("Contained"),
+        _ if kind == Kind::Mended || name.starts_with("Mend") => kind == Kind::Mended && name.starts_with("Mend"),
         _ if ["Keep", "Back", "Drop"].iter().any(|call| name.starts_with(call)) => false,
         _ if name.starts_with("Reason") => kind == Kind::Reasons,
         _ if name.starts_with("Rewrite") => kind == Kind::Canon,
@@ -91,6 +93,7 @@ fn run(words: &[&str]) -> Result<(), String> {
         return Err(format!("outline_work_words answers {stated}, not {}", words::WORDS));
     }
     match words {
+        ["mended_all"] => mended::all(),
         ["audit_cases"] => oracle::output(audit_cases::lines().as_bytes()),
         ["faults", seed, count] => faults(number(seed)?, number(count)?),
         ["fault", name, kind, seed, count] => {

@@ -3,7 +3,7 @@
 use crate::calls::Fault;
 use crate::room::{Room, Same};
 use crate::tally::Tally;
-use crate::{altered, canon, contains, damage, drawn, finish, kept, laid, large, open, pair, reasons, steps, turned};
+use crate::{altered, canon, contains, damage, drawn, finish, kept, laid, large, mended, open, pair, reasons, steps, turned};
 use oracle::gen;
 use oracle::rng::Rng;
 use std::panic::{catch_unwind, AssertUnwindSafe};
@@ -26,6 +26,7 @@ pub enum Kind {
     Laid,
     Drawn,
     Contains,
+    Mended,
 }
 
 pub const KINDS: &[(&str, Kind)] = &[
@@ -40,6 +41,7 @@ pub const KINDS: &[(&str, Kind)] = &[
     ("laid", Kind::Laid),
     ("drawn", Kind::Drawn),
     ("contains", Kind::Contains),
+    ("mended", Kind::Mended),
 ];
 
 impl Kind {
@@ -97,6 +99,7 @@ impl Kind {
                 room.start(&contains::job(seed, index, &mut rng), at);
                 contains::case(room, &mut rng)
             }
+            Kind::Mended => mended::case(room, seed, index, &mut rng),
         }
     }
 
@@ -120,6 +123,7 @@ impl Kind {
             Kind::Laid => laid::must_see(),
             Kind::Drawn => vec![("finish", vec![0, 3, 10, 11])],
             Kind::Contains => vec![("contained", (0..=11).collect())],
+            Kind::Mended => vec![("mend", (0..=5).chain(17..=17).collect())],
         }
     }
 
@@ -223,6 +227,9 @@ impl Run {
         }
         if self.kind == Kind::Contains {
             lacking.extend(tally.lacking_events(&contains::SEEN));
+        }
+        if self.kind == Kind::Mended {
+            lacking.extend(tally.lacking_events(&mended::SEEN));
         }
         lacking.extend(self.kind.must_test().iter().flat_map(|call| tally.lacking_kept(call)));
         if count >= 10_000 && !lacking.is_empty() {

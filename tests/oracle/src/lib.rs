@@ -16,6 +16,7 @@ pub mod fraction;
 pub mod gen;
 pub mod guard;
 pub mod job;
+pub mod mending;
 pub mod model;
 pub mod oracle;
 pub mod raw;

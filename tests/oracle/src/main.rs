@@ -2,8 +2,8 @@
 use ::oracle::oracle::Oracle;
 use ::oracle::text::number;
 use ::oracle::{
-    answer, batch, canon, canon_cases, cases, charge, contains, gen, guard, output, raw, reasons, reasons_cases, runs,
-    search, show, stepped, stored, text, trails, vectors,
+    answer, batch, canon, canon_cases, cases, charge, contains, gen, guard, mending, output, raw, reasons,
+    reasons_cases, runs, search, show, stepped, stored, text, trails, vectors,
 };
 use std::io::Read;
 
@@ -42,6 +42,10 @@ fn run(words: &[&str]) -> Result<(), String> {
         ["canon"] => match canon::rewrite(&input()?) {
             Err(number) => Err(format!("refused {number}")),
             Ok(written) => output(&written),
+        },
+        ["mend"] => match mending::mend(&input()?) {
+            Err(number) => Err(format!("refused {number}")),
+            Ok(mended) => output(&mended),
         },
         ["canon", "expect", file] => canon_cases::expect(file),
         ["canon", "make", folder] => canon_cases::make(folder),
