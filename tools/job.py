@@ -177,6 +177,16 @@ def from_text(text):
     return reading.job
 
 
+def as_text(data):
+    """The text that the bytes are, or none."""
+    try:
+        # Some editors put a byte order mark before a text.
+        text = data.decode("utf-8-sig")
+    except UnicodeError:
+        return None
+    return None if any(character < " " and character not in "\t\r\n" for character in text) else text
+
+
 def ring_length(job, base, record):
     """How many points from `base` on are linked in their order and name this record; 0 where the record does not start there."""
     if job.records[record][2] != base or base >= len(job.points):
