@@ -1,4 +1,6 @@
 -- Laws of the tests.
+-- Agreeing: `passed-sound`, `sound-passed`, `tests-decide`, the tests pass exactly when the store is sound. Handing: `handed-decides`, `handedOf` passes exactly when the work space is usable.
+-- Reaching: `reached` (`Reached .shut`, `Reached .starts`), `only-reached`: the points that are looked at are those that can be reached. Trying: the code walks once and tests each point as it marks it.
 pub mod Testing
 pub mod Marking
 pub mod Reaching

@@ -1,4 +1,5 @@
 -- Laws of the answers, and what they are about.
+-- Theorem: `lies-in`. Places: `answers-are`, where the byte of a pair stands.
 pub mod Fields
 pub mod Rows
 pub mod Places

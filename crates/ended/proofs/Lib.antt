@@ -1,4 +1,5 @@
 -- Laws of what ended a ring.
+-- Opened: `stages`, every accepted job has them. Told: `tells`. Alike: `same-reasons`.
 pub mod Gone
 pub mod Joining
 pub mod Stepping

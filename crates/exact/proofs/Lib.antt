@@ -1,4 +1,5 @@
 -- Laws of whole numbers and of floats that hold them, lowest first.
+-- The vocabulary is specs/Num: `Within`, `Exact`, `Rounded`, `Num`, `Part`. No contract outside proofs needs more than `Within`.
 pub mod Size
 pub mod Words
 pub mod Parts

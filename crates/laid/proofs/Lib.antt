@@ -1,4 +1,5 @@
 -- Laws of two drawings on one table.
+-- Two: `two-drawings`, of every two work spaces. Jobs: `of-jobs`, of two accepted jobs. Together: `pooled-start`.
 pub mod Records
 pub mod Forests
 pub mod Weighing

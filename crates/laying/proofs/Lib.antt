@@ -1,4 +1,5 @@
 -- Laws of laying two drawings together.
+-- Deciding: `answer-is`, `refused-leaves`. Pooling: `point-after`, `record-after`, `pooled-sound`.
 pub mod Raising
 pub mod Pooling
 pub mod Laying

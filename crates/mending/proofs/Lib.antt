@@ -1,4 +1,5 @@
 -- Laws of mending the backward links of a job.
+-- Theorem: `mends`, of every list of bytes. Exactly: each answer exactly where it is given.
 pub mod Tables
 pub mod Once
 pub mod Laying

@@ -1,4 +1,5 @@
 -- Laws of opening: words of zeros, rings at their start, what a stage gives the next, a joins list with more places, the stages put together, what holds after an accepted opening.
+-- Accepted: `after-opening`, `open-as-given`. Behind: `opened-over`, `open-rest` (behind the names every word is as found).
 pub mod Blanking
 pub mod Starting
 pub mod Passing

@@ -1,4 +1,6 @@
 -- Laws of the work space: what a store does, what a sound store gives, what a step on one record keeps.
+-- Storing: `view-put`, `view-writes`, `unwritten`, `written`, `hit`, `miss`. Soundness: `whole`, `first-on`, `from-first`, `present-on`, `table-is`, `table-of`.
+-- Keeping: `Kept`, `Local`, `local-kept`, `sound-after`, `once-same`, `once-new`, `lone-other`, `kept-new`. Coordinates: `in-table`, `raised-back`.
 pub mod Storing
 pub mod Soundness
 pub mod Keeping
