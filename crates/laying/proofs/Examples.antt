@@ -1,4 +1,4 @@
--- Worked examples: which refusal comes first, which numbers are raised, what stays.
+-- Worked examples: which refusal comes first, which numbers are raised, what stays, which boxes come.
 use Prim.Native.Nat.{ℕ, _+_}
 use mathlib.Core.Path.{_≡_, refl}
 use mathlib.Core.Bool.{true, false, cond}
@@ -6,14 +6,18 @@ use mathlib.Core.List.{List, [], _∷_, _++_}
 use lib.ListN.{getD, set, replicate}
 use Rattle.job.specs.declared.refusal.Refusal.the-variants.{Crowded, NoSuch, Muddled, Full, OutOfTurn, SettingsDiffer}
 use Rattle.rings.specs.Walk.{run}
+use Rattle.geometry.specs.Box.{widen}
+use Rattle.store.specs.declared.boxed.Sides.{Sides}
 use Rattle.store.specs.Field.{PointCol, RecordCol, pt, rc, ct, X, Y, NEXT, PREV, REC, Z, FLAGS, OWNER, FIRST, MARK, PRESENT, START, CUT, REASON, TAKER, SETTINGS, POINTS, RECORDS, NONE, NAMES, LENGTH}
 use Rattle.store.specs.Words.{Store, Write, write, cell, put, onWords}
+use Rattle.store.specs.Reason.{NO-RING}
+use Rattle.store.specs.Boxes.{sidesAt, setSides, ringBox, misboxed}
 use Rattle.audit.specs.declared.Reply.{Reply}
 use Rattle.audit.specs.declared.Reply.the-variants.{Done, Refused}
 use Rattle.audit.specs.Tests.{anyBelow, reach, reachedBy, testsOf}
-use Rattle.audit.specs.Handed.{keptTwice, testedOf}
+use Rattle.audit.specs.Handed.{anyMisboxed, keptTwice, testedOf}
 use Rattle.laying.specs.Pooled.{raise, followed, pooled}
-use Rattle.laying.specs.Words.{layColumn, layAll}
+use Rattle.laying.specs.Words.{layColumn, laySides, layAll}
 use Rattle.laying.specs.Lay.{crowd, isStepped, anyStepped, layRoom, layTested, layOf}
 
 -- ---- the call, on whole work spaces
@@ -42,7 +46,7 @@ says w v = layOf w v .answer
 
 -- the definitions that the rows compute with
 unfoldable computing : Unit {0}
-unfolding layOf layTested layRoom layAll layColumn raise isStepped anyStepped testedOf keptTwice testsOf anyBelow reach reachedBy run cell put
+unfolding layOf layTested layRoom layAll layColumn laySides raise isStepped anyStepped testedOf anyMisboxed misboxed ringBox widen setSides keptTwice testsOf anyBelow reach reachedBy run cell put
 computing = tt
 
 first-length : says short (work []) ≡ Refused Full
@@ -104,6 +108,47 @@ names-stay = refl
 not-brought : getD (layOf (set (work atStart) NAMES 5) (set (set (work atStart) NAMES 9) (1 + NAMES) 7) .words) (1 + NAMES) 0 ≡ 0
 unfolding computing
 not-brought = refl
+
+-- ---- boxes
+
+-- a ring of one point at these words, with a box
+abbrev pointAt : ℕ → ℕ → Sides → List ℕ
+pointAt x y b = setSides (work (atStart ++ write (pt X) 0 x ∷ write (pt Y) 0 y ∷ [])) 0 b
+
+abbrev around : ℕ → ℕ → Sides
+around x y = record { left = x; top = y; right = x; bottom = y }
+
+-- and a record without a ring, whose box nobody asks
+abbrev bare : Sides
+bare = record { left = 1; top = 2; right = 3; bottom = 4 }
+
+abbrev andBare : List ℕ → List ℕ
+andBare w = setSides (onWords w (write (ct RECORDS) 0 2 ∷ write (rc FIRST) 1 NONE ∷ write (rc CUT) 1 NONE ∷ write (rc REASON) 1 NO-RING ∷ [])) 1 bare
+
+-- "A work space whose box isn't its ring's meets 7", in either
+first-misboxed : says (pointAt 5 7 (around 5 8)) (work []) ≡ Refused Muddled
+unfolding computing
+first-misboxed = refl
+
+second-misboxed : says (work []) (pointAt 5 7 (around 5 8)) ≡ Refused Muddled
+unfolding computing
+second-misboxed = refl
+
+-- the boxes of one record and of two
+abbrev pair : List ℕ
+pair = layOf (pointAt 5 7 (around 5 7)) (andBare (pointAt 9 4 (around 9 4))) .words
+
+first-box : sidesAt pair 0 ≡ around 5 7
+unfolding computing
+first-box = refl
+
+second-box : sidesAt pair 1 ≡ around 9 4
+unfolding computing
+second-box = refl
+
+bare-box : sidesAt pair 2 ≡ bare
+unfolding computing
+bare-box = refl
 
 -- ---- the limits of the pair
 
