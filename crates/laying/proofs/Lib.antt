@@ -7,4 +7,3 @@ pub mod Laying
 pub mod Boxing
 pub mod Calls
 pub mod Deciding
-pub mod Examples
