@@ -1,5 +1,5 @@
 /* limits: every constant of outline.h against the library's calls. What is at a limit passes, what is one past it is refused; each refusal
- * is given by name, on a smallest job of docs/JOB.md; each reason, on the job with one of each; states are kept of it, and two of it laid together. */
+ * is given by name, on a smallest job of docs/JOB.md; each reason, on the job with one of each; states are kept of it, two of it laid together, and windows asked of it. */
 #include "outline.h"
 #include <stdio.h>
 #include <string.h>
@@ -7,9 +7,11 @@
 #define NONE 65535
 /* Where the records' progress marks stand (docs/WORKSPACE.md). */
 #define MARKS (16 + 6 * OUTLINE_POINTS + 3 * OUTLINE_RECORDS)
+/* And where the boxes: least x, least y, greatest x, greatest y. */
+#define BOXES (16 + 6 * OUTLINE_POINTS + 9 * OUTLINE_RECORDS)
 
 static uint8_t job[2 * OUTLINE_JOB_BYTES], tray[OUTLINE_TRAY_BYTES], text[OUTLINE_TEXT_BYTES], written[OUTLINE_REWRITTEN_BYTES], answers[OUTLINE_ANSWER_BYTES];
-static uint32_t work[OUTLINE_WORK_WORDS], second[OUTLINE_WORK_WORDS];
+static uint32_t work[OUTLINE_WORK_WORDS], second[OUTLINE_WORK_WORDS], list[OUTLINE_RECORDS + 1];
 static size_t length;
 static int faults;
 
@@ -344,6 +346,69 @@ static void pairs(void) {
     is("a record beside the largest", lay(), OUTLINE_FULL);
 }
 
+/* ---- windows */
+
+static uint64_t in(int32_t left, int32_t top, int32_t right, int32_t bottom, size_t words) {
+    for (size_t i = 0; i <= OUTLINE_RECORDS; i++) list[i] = 7;
+    return outline_records_in(work, OUTLINE_WORK_WORDS, left, top, right, bottom, list, words);
+}
+
+static uint64_t everywhere(size_t words) { return in(INT32_MIN, INT32_MIN, INT32_MAX, INT32_MAX, words); }
+
+static uint64_t found_so(uint64_t count) { return count << 32; }
+
+static void windows(void) {
+    uint32_t r;
+    /* Squares in a row, ten wide with ten between them; a record without a ring; an open line. */
+    settings();
+    for (r = 0; r < 3; r++) {
+        const int32_t x = 20 * (int32_t)r;
+        point(x, 0, 4 * r + 1, 4 * r + 3, r), point(x + 10, 0, 4 * r + 2, 4 * r, r), point(x + 10, 5, 4 * r + 3, 4 * r + 1, r), point(x, 5, 4 * r, 4 * r + 2, r);
+    }
+    point(-30, 40, 13, 13, 4), point(-40, 50, 12, 12, 4);
+    for (r = 0; r < 3; r++) record(0, NONE, 4 * r);
+    record(0, NONE, NONE), record(1, NONE, 12);
+    is("squares, a record without a ring, a line", outline_open(job, length, work, OUTLINE_WORK_WORDS), 0);
+    is("the least x of the second square", work[BOXES + 1], OUTLINE_COORDINATE + 20);
+    is("its least y", work[BOXES + OUTLINE_RECORDS + 1], OUTLINE_COORDINATE);
+    is("its greatest x", work[BOXES + 2 * OUTLINE_RECORDS + 1], OUTLINE_COORDINATE + 30);
+    is("its greatest y", work[BOXES + 3 * OUTLINE_RECORDS + 1], OUTLINE_COORDINATE + 5);
+    is("all of them", everywhere(OUTLINE_RECORDS), found_so(4));
+    is("the line's number", list[3], 4);
+    is("a word past them", list[4], 0);
+    is("the last word", list[OUTLINE_RECORDS - 1], 0);
+    is("the word past the list", list[OUTLINE_RECORDS], 7);
+    is("a list that just suffices", everywhere(4), found_so(4));
+    is("a word of the list less", everywhere(3), OUTLINE_SMALL_TRAY);
+    is("the list then", list[0], 7);
+    is("an edge, just touched", in(30, 5, 39, 9, OUTLINE_RECORDS), found_so(1));
+    is("whose", list[0], 1);
+    is("a corner", in(-5, -5, 0, 0, OUTLINE_RECORDS), found_so(1));
+    is("one beside it", in(-5, -5, -1, 0, 0), found_so(0));
+    is("between two squares", in(11, 0, 19, 5, 0), found_so(0));
+    is("a place in a square", in(45, 2, 45, 2, 1), found_so(1));
+    is("inside out in x", in(50, 0, 0, 5, 0), found_so(0));
+    is("inside out in y", in(0, 5, 50, 0, 0), found_so(0));
+    is("inside out in both", in(INT32_MAX, INT32_MAX, INT32_MIN, INT32_MIN, 0), found_so(0));
+    is("far away", in(INT32_MIN, INT32_MIN, INT32_MIN, INT32_MIN, 0), found_so(0));
+    is("a word less, of a window", outline_records_in(work, OUTLINE_WORK_WORDS - 1, 0, 0, 0, 0, list, 0), OUTLINE_FULL);
+    work[BOXES + 3] = 7;
+    is("any box of a record without a ring", everywhere(OUTLINE_RECORDS), found_so(4));
+    for (r = 0; r < 4; r++) {
+        uint32_t *side = work + BOXES + r * OUTLINE_RECORDS + 4;
+        ++*side;
+        is("a box that is not its ring's", everywhere(0), OUTLINE_MUDDLED);
+        is("the list then", list[0], 7);
+        is("a step then", outline_step(work, OUTLINE_WORK_WORDS, 0), OUTLINE_MUDDLED);
+        --*side;
+    }
+    is("as before", everywhere(OUTLINE_RECORDS), found_so(4));
+    largest(1);
+    is("as many rings as there may be", outline_open(job, length, work, OUTLINE_WORK_WORDS), 0);
+    is("all of them, in a list that always suffices", everywhere(OUTLINE_RECORDS), found_so(OUTLINE_RECORDS));
+    is("the last of them", list[OUTLINE_RECORDS - 1], OUTLINE_RECORDS - 1);
+}
+
 /* ---- backward links: a line of two points, the second its own prev */
 
 static uint8_t found[OUTLINE_JOB_BYTES];
@@ -379,6 +444,7 @@ int main(void) {
     reasons();
     states();
     pairs();
+    windows();
     mending();
     counts();
     coordinates();

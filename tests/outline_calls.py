@@ -208,6 +208,61 @@ def mended():
     print(f"python: the backward links of {count} jobs mended")
 
 
+def around(points):
+    """The box of a ring's points."""
+    xs, ys = sorted(point[0] for point in points), sorted(point[1] for point in points)
+    return (xs[0], ys[0], xs[-1], ys[-1])
+
+
+def shown(work):
+    """Each ring's box is its points'; windows of every kind list the records whose boxes have a place in common with them, and no other."""
+    boxes = [(ring.record, around(ring.points)) for ring in work.rings() if ring.points]
+    assert [(ring.record, ring.box) for ring in work.rings() if ring.points] == boxes
+    assert all(ring.box is None for ring in work.rings() if not ring.points)
+    ends = -(2**31), 2**31 - 1
+    assert work.records_in(ends[0], ends[0], ends[1], ends[1]) == [record for record, _ in boxes]
+    count = 0
+    for _, (left, top, right, bottom) in boxes[:40]:
+        for by in (0, 1):
+            for window in (
+                (right + by, top, right + 9, bottom), (left - 9, top, left - by, bottom), (left, bottom + by, right, bottom + 9), (left, top - 9, right, top - by),
+                (right + by, bottom + by, right + 9, bottom + 9), (left, top, left, top), (right + 1, top, left, bottom), (left, bottom + 1, right, top), (ends[0], ends[0], ends[0], ends[1]),
+            ):
+                x, y, x2, y2 = window
+                want = [record for record, (l, t, r, b) in boxes if max(x, l) <= min(x2, r) and max(y, t) <= min(y2, b)]
+                assert work.records_in(*window) == want, (window, want)
+                count += 1
+    return count
+
+
+def windows():
+    if not outline.has("records_in"):
+        print("python: skipped: windows: the library has no outline_records_in yet")
+        return
+    count = 0
+    for data, lines, name in STORED:
+        if lines[0].startswith("refused"):
+            continue
+        work = outline.Work(data)
+        count += shown(work)
+        work.keep(7)
+        for record in [ring.record for ring in work.rings() if ring.due is not None]:
+            work.step(record)
+        count += shown(work)
+        work.finish()
+        count += shown(work)
+        work.go_back(7)
+        count += shown(work)
+    for sides in ((2**31, 0, 0, 0), (0, -(2**31) - 1, 0, 0)):
+        try:
+            work.records_in(*sides)
+        except ValueError:
+            continue
+        raise AssertionError(f"{sides} is taken")
+    assert count > 5000, count
+    print(f"python: {count} windows, after opening, steps, finishing and going back")
+
+
 def jobs():
     """A job from rings is the job that tools/jobtext makes; the module's own example; numbers that ctypes would cut short."""
     for name in sorted(glob.glob("samples/*.job")):
@@ -259,5 +314,5 @@ def words():
 
 
 if __name__ == "__main__":
-    for part in (jobs, words, finished, charged, rewritten, told, kept, laid, within, mended):
+    for part in (jobs, words, finished, charged, rewritten, told, kept, laid, within, mended, windows):
         part()

@@ -326,6 +326,57 @@ def lays(page):
     print("table: in the browser: a second drawing laid on, each with its own outlines")
 
 
+def views(page):
+    """A window over the rings that are stepped: dragged, typed, turned inside out, taken away; after steps it shows what it then shows."""
+    web = page.web
+    if not outline.has("records_in"):
+        assert not page.counts("#windows:not([hidden])")
+        return
+    web.click("#mode-draw")
+    data = page.sample("plate")
+    page.until(page.agrees, "the plate before windows")
+    web.click("#mode-step")
+    work = outline.Work(data)
+    page.until(lambda: agree(page, work), "the plate opened")
+    sides = ("left", "top", "right", "bottom")
+    typed = lambda: [int(web.run("return document.getElementById(arguments[0]).value", f"window-{side}")) for side in sides]
+    said = lambda: web.run("return document.getElementById('window-said').dataset.shown")
+    marked = lambda: sorted(web.run("return [...document.querySelectorAll('#drawing [data-shown]')].map(at => Number(at.dataset.shown))"))
+
+    def shows(what):
+        want = work.records_in(*typed())
+        seen = lambda: (said(), marked(), page.counts("#drawing .box"))
+        page.until(lambda: seen() == (" ".join(map(str, want)), want, len(want)) or (*seen(), want), what)
+        return want
+
+    web.press("w")
+    box = web.run("const box = document.querySelector('#drawing [data-record=\"3\"]').getBoundingClientRect(); return [box.left, box.top, box.right, box.bottom]")
+    web.pointer((box[0] - 3, box[1] - 3), "down", (box[0] + 10, box[1] + 10), (box[2] + 3, box[3] + 3), "up")
+    page.until(lambda: page.counts("#drawing .window") == 1 or page.counts("#drawing .window"), "a window dragged")
+    assert 3 in shows("a window dragged over record 3")
+    # A click is a window of one place; the sheet has not moved.
+    web.pointer((box[0] - 30, box[1] - 30), "down", "up")
+    shows("a window of one place")
+    for sides_of in ((-(2**31), -(2**31), 2**31 - 1, 2**31 - 1), (1, 0, 0, 90000), (0, 90000, 90000, 0), (2000000, 2000000, 3000000, 3000000)):
+        for side, number in zip(sides, sides_of):
+            web.run("const field = document.getElementById(arguments[0]); field.value = arguments[1]", f"window-{side}", str(number))
+        web.run("document.getElementById('window-left').dispatchEvent(new Event('change'))")
+        shows(f"the window {sides_of}")
+    web.run("document.getElementById('window-right').value = 3e10; document.getElementById('window-right').dispatchEvent(new Event('change'))")
+    page.until(lambda: "32 bits" in page.words("#said")[0] or page.words("#said"), "a side that is too large")
+    for side, number in zip(sides, (0, 0, 90000, 90000)):
+        web.run("document.getElementById(arguments[0]).value = arguments[1]", f"window-{side}", str(number))
+    web.run("document.getElementById('window-left').dispatchEvent(new Event('change'))")
+    web.press("f")
+    work.finish()
+    page.until(lambda: agree(page, work), "the plate finished")
+    shows("the same window after the steps")
+    web.press("Escape")
+    page.until(lambda: (said(), page.counts("#drawing .window")) == ("none", 0) or said(), "no window")
+    page.sound()
+    print("table: in the browser: a window dragged and typed shows the records that the library says")
+
+
 def hovers(page):
     """Only where the library can say what lies in what; elsewhere a path says its own facts."""
     web, data = page.web, page.sample("plate")
@@ -392,7 +443,7 @@ def main():
         try:
             page = Page(web, table.host)
             web.size(1280, 860)
-            for part in (draws, writes, mends, steps, apart, lays, full, hovers, saves, narrow):
+            for part in (draws, writes, mends, steps, apart, lays, views, full, hovers, saves, narrow):
                 part(page)
         except Exception:
             web.shot("target/table.png")

@@ -41,6 +41,10 @@ def picture(web, host, name):
         time.sleep(0.1)
     web.press("Shift+B")
     page.until(lambda: page.counts("#kept svg") == 2 or "no B", "B")
+    for side, number in (("left", 66000), ("top", 14500), ("right", 80000), ("bottom", 28000)):
+        web.run("document.getElementById(arguments[0]).value = arguments[1]", f"window-{side}", number)
+    web.run("document.getElementById('window-left').dispatchEvent(new Event('change'))")
+    page.until(lambda: page.counts("#drawing .window") == 1 or "no window", "a window")
     web.run("document.activeElement.blur(); document.querySelector('#rings').scrollTop = 0")
     page.sound()
     web.shot(name)

@@ -47,7 +47,7 @@ def refuses(table):
     kind = {"Content_Type": "application/json"}
     status, answer, page = table.ask("GET", "/")
     assert status == 200 and b"<title>The table</title>" in page and "default-src 'none'" in answer.headers["Content-Security-Policy"]
-    for name in re.findall(rb'(?:src|href)="(/[^"]*)"', page) + [b"/sheet.js", b"/scene.js", b"/panel.js", b"/hands.js", b"/steps.js", b"/talk.js", b"/drawing.js"]:
+    for name in re.findall(rb'(?:src|href)="(/[^"]*)"', page) + [b"/sheet.js", b"/scene.js", b"/panel.js", b"/hands.js", b"/steps.js", b"/talk.js", b"/windows.js", b"/drawing.js"]:
         assert table.ask("GET", name.decode())[0] == 200, name
     for path in OTHERS:
         assert table.ask("GET", path)[0] == 404, path
@@ -137,6 +137,26 @@ def laid(table):
     print("table: a second drawing is laid on, and gone back from")
 
 
+def windows(table):
+    if not outline.has("records_in"):
+        return
+    sides = ("left", "top", "right", "bottom")
+    window = lambda *of, **more: table.call("window", **dict(zip(sides, of)), **more)
+    ends = -(2**31), 2**31 - 1
+    table.call("open", text=open("samples/plate.txt").read())
+    work = outline.Work(fields.from_text(open("samples/plate.txt").read()).bytes())
+    for at in range(2):
+        every = [ring.record for ring in work.rings() if ring.points]
+        assert window(ends[0], ends[0], ends[1], ends[1])["answer"]["records"] == every, every
+        for ring in work.rings():
+            for of in ((*ring.box[:2], *ring.box[:2]), (ring.box[2], ring.box[3], ends[1], ends[1]), (ring.box[2] + 1, ring.box[1], ring.box[0], ring.box[3])) if ring.points else ():
+                assert window(*of)["answer"]["records"] == work.records_in(*of), of
+        table.call("finish"), work.finish()
+    assert window(ends[1] + 1, 0, 0, 0) == 400 and table.call("window", left=0) == 400
+    assert window(0, 0, 0, 0, tab="0000000c")["bad"].startswith("nothing is opened")
+    print("table: a window shows the records that the library says")
+
+
 def mended(table):
     if not outline.has("mend"):
         return
@@ -154,7 +174,7 @@ def files():
 if __name__ == "__main__":
     before, table = files(), Table()
     try:
-        for part in (refuses, answers, tabs, laid, mended):
+        for part in (refuses, answers, tabs, laid, windows, mended):
             part(table)
     finally:
         table.end()

@@ -1,4 +1,4 @@
-"""What the table's page can ask for: a drawing's outlines, steps, kept states. Each answer is plain data; a refusal has its number, its word and what to do about it."""
+"""What the table's page can ask for: a drawing's outlines, steps, kept states, the records in a window. Each answer is plain data; a refusal has its number, its word and what to do about it."""
 import base64
 import collections
 import glob
@@ -132,6 +132,7 @@ def rings_of(rings):
             "record": ring.record,
             "open": bool(ring.flags & outline.OPEN),
             "points": ring.points,
+            "box": ring.box,
             "due": None if ring.due is None else outline.DUE[ring.due],
             "done": ring.due in (None, outline.DONE),
             "present": ring.present,
@@ -252,7 +253,7 @@ class Table:
         for name in sorted(glob.glob(os.path.join(TREE, "samples", "*.txt"))):
             with open(name, encoding="utf-8") as file:
                 samples[os.path.basename(name)[:-4]] = file.read()
-        return {"text": self.text, "samples": samples, "calls": {name: outline.has(name) for name in ("lay_together", "contained", "mend")}}
+        return {"text": self.text, "samples": samples, "calls": {name: outline.has(name) for name in ("lay_together", "contained", "mend", "records_in")}}
 
     def call(self, asked):
         """The answer to a call: {"answer": ..}, {"refused": ..} or {"bad": words}."""
@@ -266,6 +267,8 @@ class Table:
             if call in ("draw", "mend"):
                 return {"answer": drawn(outline.mend(data) if call == "mend" else data, int(asked["rate"]))}
             with tab.lock:
+                if call == "window":
+                    return {"answer": {"records": tab.opened().records_in(*(int(asked[side]) for side in ("left", "top", "right", "bottom")))}}
                 STEPS[call](tab, asked, data)
                 return {"answer": tab.state()}
         except outline.Refused as refused:

@@ -1,7 +1,8 @@
-// Times outline_finish and the real Rust on the same jobs, side by side in one run, steps by outline_step, and which shape lies in which.
+// Times outline_finish and the real Rust on the same jobs, side by side in one run, steps by outline_step, which shape lies in which, and which records a window shows.
 mod drawings;
 mod jobs;
 mod pairs;
+mod windows;
 
 use oracle::answer::Answer;
 use oracle::{check, read, real};
@@ -107,6 +108,7 @@ fn main() {
     }
     drawings::whole_way();
     pairs::rows();
+    windows::rows();
     println!("\n| job, stepped | steps | steps a second |");
     println!("|---|---|---|");
     for (name, job) in jobs::table() {

@@ -16,7 +16,7 @@ fn round((x, y): At, radius: f64, n: usize) -> Vec<At> {
 }
 
 /// So many paths side by side, as many points in all as a job may have.
-fn apart(paths: usize) -> Vec<Vec<At>> {
+pub fn apart(paths: usize) -> Vec<Vec<At>> {
     let wide = (paths as f64).sqrt().ceil() as usize;
     let middle = |k: usize| ((k % wide) as i32 * 40_000 - 500_000, (k / wide) as i32 * 40_000 - 500_000);
     (0..paths).map(|k| round(middle(k), 15_000.0, POINTS / paths)).collect()

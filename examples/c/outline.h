@@ -3,7 +3,7 @@
  *
  * Slices are a pointer and a count of elements, words of 32 bits and bytes. Any count will do, and so will any content: nothing outside a
  * slice is read or written, and every call ends. A pointer must point to as many elements as its count says, and be aligned for
- * them; with a count of 0 it may point anywhere but must not be null. The slices of one call, job, work space, tray, text and answers, or two work spaces,
+ * them; with a count of 0 it may point anywhere but must not be null. The slices of one call, job, work space, tray, text, answers and list, or two work spaces,
  * must not overlap.
  *
  * Nothing is kept between calls but the words of the work space, so two threads may use two work spaces at once. */
@@ -49,8 +49,8 @@ extern "C" {
 #define OUTLINE_STATES 4
 
 /* The fixed length of a work space in words: the live block, a name for each state, and a copy of the block for each. A shorter one is refused with 10 by every call, first of all. */
-#define OUTLINE_WORK_WORDS 84564
-#if OUTLINE_WORK_WORDS != (1 + OUTLINE_STATES) * (16 + 6 * OUTLINE_POINTS + 9 * OUTLINE_RECORDS) + OUTLINE_STATES
+#define OUTLINE_WORK_WORDS 94804
+#if OUTLINE_WORK_WORDS != (1 + OUTLINE_STATES) * (16 + 6 * OUTLINE_POINTS + 13 * OUTLINE_RECORDS) + OUTLINE_STATES
 #error "OUTLINE_WORK_WORDS is not what the limits make it"
 #endif
 
@@ -102,7 +102,7 @@ enum outline_refusal {
     OUTLINE_OPEN_EDGE = 8,        /* a segment or a join names a point of an open ring */
     OUTLINE_KNOT = 9,             /* a join's second point is already the next of its first */
     OUTLINE_FULL = 10,            /* finishing, or laying together, needs more than 2,048 points or 512 records, or a work space is too short */
-    OUTLINE_SMALL_TRAY = 11,      /* the paths, or the job that is written, need more bytes than the tray has, or the pairs more than the answers have */
+    OUTLINE_SMALL_TRAY = 11,      /* the paths, or the job that is written, need more bytes than the tray has, the pairs more than the answers have, or the records in a window more words than the list has */
     OUTLINE_OUT_OF_TURN = 12,     /* a step on a record that has none to take, the reason of an unknown record, writing out or asking for a reason before every closed ring is done, or laying together what was stepped */
     OUTLINE_BAD_RATE = 13,        /* more than one rate is given, or one that is not a whole number from 1 to 1,000 */
     OUTLINE_UNKNOWN_NAME = 14,    /* going back to, or dropping, a name that is not kept */
@@ -159,7 +159,7 @@ uint64_t outline_rewrite(const uint8_t *job, size_t job_bytes, uint32_t *work, s
 uint32_t outline_open(const uint8_t *job, size_t job_bytes, uint32_t *work, size_t work_words);
 
 /* One step on the ring of a record. Refused with 12: the record is unknown, open, without a ring, or done; with 10: the step needs more
- * points or records than there are; with 3 to 7: the work space is not one that these calls left. A refused step leaves every word as
+ * points or records than there are; with 3 to 7: the work space is not one that these calls left (7 too where the box beside a ring is not the ring's). A refused step leaves every word as
  * found. Steps may be taken in any order; an offcut is a new record, with the next number. */
 uint32_t outline_step(uint32_t *work, size_t work_words, uint32_t record);
 
@@ -174,7 +174,7 @@ uint32_t outline_lay_together(uint32_t *first, size_t first_words, const uint32_
 
 /* States to come back to: the next three calls. A name is one byte, any of the 256, 0 and 255 too. Refusals in this order: 10 for the length; 3 to 7 as a step, the last of them 7 for a name that
  * is kept twice, which every call on an opened work space tests; then 14 or 15. A refused call leaves every word as found.
- * The names and the copies are words of the work space, so opening a job, and finishing or listing one, keeps no name. If somebody else wrote into the live rings, every call is refused
+ * The names and the copies are words of the work space, so opening a job, and finishing or listing one, keeps no name. If somebody else wrote into the live rings, or into the boxes beside them, every call is refused
  * with 3 to 7, going back too: then there is no way back but opening the job again. A copy is not tested while it is kept; what somebody wrote into it, the next call after going back finds.
  *
  * Keeps the state, the rings as they are now, under a name; a state that the name kept is replaced. Refused with 15: OUTLINE_STATES other names are kept. */
@@ -197,9 +197,17 @@ uint32_t outline_write(const uint32_t *work, size_t work_words, uint8_t *tray, s
  * place in that list, from 0. The work space is only read. */
 uint64_t outline_reason(const uint32_t *work, size_t work_words, uint32_t record);
 
+/* Which records a window shows: those with a ring, closed or open, done or not, whose box has a place in common with the window, edges counted as inside. A ring's box is from the least
+ * to the greatest x and y of its points as they are now, and stands beside the ring in the work space. left and right are the window's least and greatest x, top and bottom its least and
+ * greatest y. Any four numbers are a window; one turned inside out, left above right or top above bottom, shows nothing.
+ * The records' numbers go into the list, rising, each once; every word past them is 0. OUTLINE_RECORDS words are always enough.
+ * The low half of the answer, (uint32_t)answer, is 0 or the refusal's number: 10 and 3 to 7 as a step, then 11 if the list is too short. The high half, answer >> 32, is how many records the
+ * window shows, 0 if refused. A refused call leaves every word of the list as found. The work space is only read; as in every call its tests walk the points, once. */
+uint64_t outline_records_in(const uint32_t *work, size_t work_words, int32_t left, int32_t top, int32_t right, int32_t bottom, uint32_t *list, size_t list_words);
+
 /* Mends the backward links of a job, in its bytes: if every point is the next of exactly one point, each prev becomes that point, and no other byte changes. A job that it has mended
  * never meets 6, no other backward links would avoid 6, and a job whose links are sound comes back as it was. Refused with 1 to 5 as opening, then with 17: some point is the next of none or
- * of more than one. What 7 and 8 speak of is not asked. Refused, every byte is as found. No work space is lent: the call takes some 80 kB of stack. */
+ * of more than one. What 7 and 8 speak of is not asked. Refused, every byte is as found. No work space is lent: the call takes some 90 kB of stack. */
 uint32_t outline_mend(uint8_t *job, size_t job_bytes);
 
 /* ---- helpers, in C alone: they call nothing, and keep nothing */
@@ -287,7 +295,7 @@ static inline size_t outline_add_ring(uint8_t *job, size_t bytes, size_t room, u
     return bytes + more;
 }
 
-/* The parts of an answer of outline_reason: 0 or the refusal's number (of outline_rewrite too); the reason, 1 to 8; of reason 8 the tag of its path's list,
+/* The parts of an answer of outline_reason: 0 or the refusal's number (of outline_rewrite and outline_records_in too); the reason, 1 to 8; of reason 8 the tag of its path's list,
  * 6 or 7; and of reason 2 the record that took it, of reason 8 its path's place in that list. */
 static inline uint32_t outline_told_refusal(uint64_t answer) { return (uint32_t)answer; }
 static inline uint32_t outline_told_reason(uint64_t answer) { return (uint32_t)(answer >> 32 & 255); }

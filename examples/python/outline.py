@@ -11,6 +11,7 @@
     work.keep(7)
     work.finish_ring(0)
     work.go_back(7)
+    work.records_in(0, 0, 5, 5)             # the records whose rings' boxes meet a window: least x and y, greatest x and y
 
 A job is a Job, or any bytes. A refusal is raised as Refused, with its number and word. One unit is a micrometre; a point is (x, y) or (x, y, z). docs/JOB.md
 says what the calls do, examples/c/outline.h what each of them leaves; slices of the right lengths are made here.
@@ -32,7 +33,7 @@ TEXT_BYTES = 54 + 49 * RECORDS + 66 * POINTS + 49
 REWRITTEN_BYTES = 4 + 21 * POINTS + 8 * RECORDS + 5 * SEGMENTS + 7 * JOINS
 ANSWER_BYTES = RECORDS * (RECORDS - 1)
 # The work space (docs/WORKSPACE.md): words of a head, columns of points and of records, then the names and the copies of kept states.
-HEAD, POINT_COLUMNS, RECORD_COLUMNS = 16, 6, 9
+HEAD, POINT_COLUMNS, RECORD_COLUMNS = 16, 6, 13
 BLOCK = HEAD + POINT_COLUMNS * POINTS + RECORD_COLUMNS * RECORDS
 RAISED = 1048576
 OPEN, FRONT = 1, 2
@@ -57,9 +58,10 @@ _TREE = os.path.join(_HERE, "..", "..")
 Path = collections.namedtuple("Path", "open points")
 Path.__doc__ = "A path of the tray: whether it is open, and its points (x, y, z)."
 
-Ring = collections.namedtuple("Ring", "record flags owner points numbers due present cut_from reason taker")
+Ring = collections.namedtuple("Ring", "record flags owner points numbers due present cut_from reason taker box")
 Ring.__doc__ = """A record of a work space: its flags, its owner or None; its ring's points (x, y, z) from the first, and their numbers; of a closed ring the step due, a number of DUE, and
-the place on the ring where its loop is; the record that it was cut from, or None. Of a record without a ring, and only of one, the reason that it keeps, 1 to 5, and the taker where that is 2."""
+the place on the ring where its loop is; the record that it was cut from, or None. Of a record without a ring, and only of one, the reason that it keeps, 1 to 5, and the taker where that is 2. Of one with a ring its box, as the words
+have it: least x, least y, greatest x, greatest y."""
 
 
 class Refused(Exception):
@@ -101,6 +103,7 @@ _CALLS = {
     "lay_together": (ctypes.c_uint32, _words_in_out + _words_in_out),
     "contained": (ctypes.c_uint32, _bytes_in + _words_in_out + _bytes_out + _bytes_out),
     "mend": (ctypes.c_uint32, _bytes_out),
+    "records_in": (ctypes.c_uint64, _words_in_out + [ctypes.c_int32] * 4 + _words_in_out),
 }
 
 
@@ -178,10 +181,10 @@ def _room(count):
     return (ctypes.c_uint8 * count)(), count
 
 
-def _within(number, most, what):
+def _within(number, most, what, least=0):
     # ctypes would cut a larger number short without a word.
-    if not 0 <= number <= most:
-        raise ValueError(f"{what} is from 0 to {most}: {number}")
+    if not least <= number <= most:
+        raise ValueError(f"{what} is from {least} to {most}: {number}")
     return number
 
 
@@ -339,6 +342,15 @@ class Work:
         """The reason of each record."""
         return [self.reason(record) for record in range(self._words[2])]
 
+    def records_in(self, left, top, right, bottom):
+        """The records, rising, whose rings' boxes have a place in common with a window, edges counted as inside: least x, least y, greatest x, greatest y, any numbers of 32 bits. A window turned
+        inside out shows nothing."""
+        sides = [_within(side, 2**31 - 1, "a window's side", -(2**31)) for side in (left, top, right, bottom)]
+        found = (ctypes.c_uint32 * RECORDS)()
+        answer = _call("records_in")(self._words, self._count, *sides, found, RECORDS)
+        _answered(answer & 0xFFFFFFFF)
+        return list(found[: answer >> 32])
+
     def keep(self, name):
         """Keeps the state under a name, a number from 0 to 255."""
         _answered(_call("keep")(self._words, self._count, _within(name, 255, "a name")))
@@ -416,7 +428,7 @@ class Work:
 def _ring(number, point, record):
     """The Ring of a record: the columns of the points, the record's words."""
     x, y, following, _, _, z = point
-    flags, owner, first, mark, present, _, cut_from, reason, taker = record
+    flags, owner, first, mark, present, _, cut_from, reason, taker, *sides = record
     none = lambda word: None if word == NONE else word
     walk, at = [], first
     # No further than there are points: a copy that somebody else wrote into may hold anything.
@@ -427,4 +439,5 @@ def _ring(number, point, record):
     stepped = bool(walk) and not flags & OPEN
     place = walk.index(present) if stepped and mark != DONE and present in walk else None
     gone = not walk
-    return Ring(number, flags, none(owner), points, walk, mark if stepped else None, place, none(cut_from), reason if gone else None, taker if gone and reason == JOINED else None)
+    box = None if gone else tuple(side - RAISED for side in sides)
+    return Ring(number, flags, none(owner), points, walk, mark if stepped else None, place, none(cut_from), reason if gone else None, taker if gone and reason == JOINED else None, box)

@@ -18,7 +18,8 @@ export function listen(app, sheet, does) {
     if (event.button !== 0) return;
     const start = sheet.place(event);
     const point = app.mode === "draw" && !app.sketch ? under(event, "point") : null;
-    drag = { start, last: start, point, from: point === null ? null : placeOf(app.fields, point), begun: false };
+    const window = app.mode === "step" && app.looking ? sheet.whole(start) : null;
+    drag = { start, last: start, point, window, from: point === null ? null : placeOf(app.fields, point), begun: false };
     if (point !== null) {
       app.chosen = point;
       does.show();
@@ -39,7 +40,8 @@ export function listen(app, sheet, does) {
       return;
     }
     if (!drag.begun && Math.hypot(place[0] - drag.start[0], place[1] - drag.start[1]) < STILL) return;
-    if (drag.point === null) {
+    if (drag.window) does.lookAt(drag.window, sheet.whole(place));
+    else if (drag.point === null) {
       sheet.pan(place[0] - drag.last[0], place[1] - drag.last[1]);
       does.show();
     } else {
@@ -51,10 +53,11 @@ export function listen(app, sheet, does) {
   }
 
   function up(event) {
-    const still = drag && !drag.begun;
+    const still = drag && !drag.begun, window = drag && drag.window;
     drag = null;
     if (!still) return;
     if (app.sketch) sketchAt(sheet.place(event));
+    else if (window) does.lookAt(window, window);
     else if (app.mode === "step") {
       const record = under(event, "record");
       if (record !== null) does.stepRing(record);
@@ -124,7 +127,7 @@ export function listen(app, sheet, does) {
     Enter: () => app.sketch && does.sketched(null), Escape: does.giveUp,
   };
   const STEP = {
-    s: () => does.stepChosen(), e: () => does.stepChosen("end"), f: () => does.act("finish"), " ": does.play, o: does.startAgain,
+    s: () => does.stepChosen(), e: () => does.stepChosen("end"), f: () => does.act("finish"), " ": does.play, o: does.startAgain, w: () => does.looking(), Escape: () => { does.looking(false); does.unlook(); },
   };
 
   function keyed(event) {

@@ -6,9 +6,11 @@ import { saidOf, saidOfRing, Scene } from "./scene.js";
 import { Sheet } from "./sheet.js";
 import { stepper } from "./steps.js";
 import { ask, latest } from "./talk.js";
+import { viewer } from "./windows.js";
 
-// mode: draw or step; chosen: a point's number; ring: the record that is stepped; drawn, state: the last answers; from: the drawing that the steps began with.
-const app = { mode: "draw", fields: empty(), drawn: null, chosen: null, sketch: null, hover: null, state: null, from: null, ring: null, name: "mine", calls: {}, past: [], playing: null, finishing: null };
+// mode: draw or step; chosen: a point's number; ring: the record that is stepped; drawn, state: the last answers; from: the drawing that the steps began with. window: the sides of one over
+// the rings that are stepped; shown: the records in it; looking: whether a drag makes one.
+const app = { mode: "draw", fields: empty(), drawn: null, chosen: null, sketch: null, hover: null, state: null, from: null, ring: null, name: "mine", calls: {}, past: [], playing: null, finishing: null, window: null, shown: [], looking: false };
 const sheet = new Sheet(part("drawing")), scene = new Scene(sheet, part("legend"));
 
 // A fault of the page itself is said, and the tests look for it.
@@ -35,7 +37,7 @@ function draw() {
   const paths = (stepping ? app.state.paths : app.drawn && app.drawn.paths) || [];
   const ring = stepping ? app.state.rings[app.ring] : null, chosen = ring ? `record ${ring.record}: ${saidOfRing(ring, (app.state.reasons || [])[ring.record])}` : "";
   part("about").textContent = app.hover === null || !paths[app.hover] ? chosen : saidOf(paths, app.hover, stepping ? null : app.drawn.inside);
-  part("drawing").classList.toggle("sketching", Boolean(app.sketch));
+  part("drawing").classList.toggle("sketching", Boolean(app.sketch) || Boolean(stepping && app.looking));
   for (const [id, open] of [["ring", false], ["line", true]]) part(id).textContent = `${app.sketch && app.sketch.open === open ? "End" : "New"} ${id}`;
   if (!stepping) showChosen();
 }
@@ -199,7 +201,8 @@ function setChosen() {
 
 // ---- steps
 
-const steps = stepper(app, show, fit);
+const views = viewer(app, show);
+const steps = stepper(app, show, fit, views.again);
 
 async function setMode(mode) {
   steps.stop();
@@ -234,13 +237,14 @@ function buttons() {
     add: () => addAfter(app.chosen), remove: removeChosen, turn: () => change(turned(app.fields, ringOf(app.fields, app.chosen))),
     "remove-ring": () => { const ring = ringOf(app.fields, app.chosen); app.chosen = null; change(withoutRing(app.fields, ring)); },
     step: () => steps.stepChosen(), end: () => steps.stepChosen("end"), all: () => steps.act("finish"), again: startAgain, play: steps.play,
-    lay: () => steps.lay({ text: app.samples[part("second-sample").value] }),
+    lay: () => steps.lay({ text: app.samples[part("second-sample").value] }), look: () => views.looking(), unlook: views.unlook,
     "save-job": () => save(`${app.name}.job`, "application/octet-stream", Uint8Array.from(atob(app.drawn.file), letter => letter.charCodeAt(0))),
     "save-listing": () => save(`${app.name}.txt`, "text/plain", app.drawn.listing),
     "save-picture": async () => save(`${app.name}.svg`, "image/svg+xml", await picture(part("drawing"))),
   };
   for (const [id, click] of Object.entries(clicks)) part(id).onclick = click;
   for (const axis of ["x", "y", "z"]) part(axis).onchange = setChosen;
+  for (const side of ["left", "top", "right", "bottom"]) part(`window-${side}`).onchange = views.typed;
   part("rate").oninput = () => finish({ fields: app.fields });
   part("sample").onchange = event => read({ text: app.samples[event.target.value] }, event.target.value);
   const bit = (id, value) => (part(id).onchange = () => change({ ...app.fields, settings: (app.fields.settings & ~value) | (part(id).checked ? value : 0) }));
@@ -256,7 +260,7 @@ function buttons() {
   };
   part("file").onchange = event => openFile(event, read);
   part("second-file").onchange = event => openFile(event, steps.lay);
-  part("undo").disabled = true;
+  part("undo").disabled = part("unlook").disabled = true;
 }
 
 // A job's file, or its text's, given to what takes it.
@@ -275,7 +279,7 @@ function zoom(times, place) {
 
 async function begin() {
   buttons();
-  listen(app, sheet, { show, change, remember, sketch, sketched, giveUp, addAfter, removeChosen, undo, setMode, startAgain, zoom, fit, ...steps });
+  listen(app, sheet, { show, change, remember, sketch, sketched, giveUp, addAfter, removeChosen, undo, setMode, startAgain, zoom, fit, ...steps, ...views });
   const { answer, bad } = await ask("begin");
   if (bad) {
     say(bad);
@@ -286,6 +290,7 @@ async function begin() {
   part("sample").append(...Object.keys(answer.samples).map(option));
   part("second-sample").append(...Object.keys(answer.samples).map(option));
   part("second").hidden = !answer.calls.lay_together;
+  part("windows").hidden = !answer.calls.records_in;
   if (answer.text !== null) part("sample").prepend(Object.assign(option("given"), { textContent: "the job given" }));
   if (answer.text !== null) app.samples.given = answer.text;
   part("sample").value = answer.text === null ? "plate" : "given";

@@ -107,7 +107,7 @@ export async function picture(svg) {
   const light = rules.replace(/@media[^{]*\{\s*svg \{[^}]*\}\s*\}/, "");
   copy.removeAttribute("tabindex");
   copy.setAttribute("xmlns", "http://www.w3.org/2000/svg");
-  for (const only of copy.querySelectorAll(".hit, .grip, .sketch, .around, .within")) only.remove();
+  for (const only of copy.querySelectorAll(".hit, .grip, .sketch, .around, .within, .shown, .box, .window")) only.remove();
   copy.prepend(shape("style", {}, light));
   const [, , wide, high] = svg.getAttribute("viewBox").split(" ");
   copy.setAttribute("width", wide);

@@ -6,7 +6,7 @@ import { shape } from "./sheet.js";
 const LABELLED = 24;
 // Of a ring with more, points are small and edges are not for the pointer: so it can still be dragged.
 const MANY = 300;
-const WORDS = { piece: "piece", hole: "hole", flat: "flat path", line: "line", ring: "ring as drawn", lost: "ring without an outline", made: "point that was made", present: "where a ring's steps are", within: "lies in it" };
+const WORDS = { piece: "piece", hole: "hole", flat: "flat path", line: "line", ring: "ring as drawn", lost: "ring without an outline", made: "point that was made", present: "where a ring's steps are", within: "lies in it", shown: "record that the window shows" };
 
 const text = points => points.map(point => point.join(",")).join(" ");
 export const isLost = reason => reason && reason.number >= 3 && reason.number <= 7;
@@ -178,7 +178,7 @@ export class Scene {
 
   // ---- the rings as the steps have left them
 
-  steps({ state, ring: chosen, hover }) {
+  steps({ state, ring: chosen, hover, window, shown }) {
     this.begin();
     const { begun, paths = [], reasons = [] } = state, numbers = [];
     for (const ring of begun.filter(ring => ring.points.length)) {
@@ -195,11 +195,28 @@ export class Scene {
     }
     if (state.done) this.outlines(paths);
     this.hovered(paths, hover, null);
+    if (window) this.window(window, state.rings.filter(ring => shown.includes(ring.record) && ring.points.length));
     this.made(live, begun);
     this.places(live, chosen);
     this.labels(live.flatMap(ring => ring.points));
     for (const number of numbers) number();
     this.end();
+  }
+
+  // A box, from its least to its greatest x and y; none of one that is turned inside out.
+  box(kind, [left, low, right, high]) {
+    const [x, y2] = this.sheet.at([left, low]), [x2, y] = this.sheet.at([right, high]);
+    if (x <= x2 && y <= y2) this.add("rect", { class: kind, x, y, width: x2 - x, height: y2 - y });
+  }
+
+  // The window, and the rings that it shows with their boxes, as they stand beside them.
+  window({ left, top, right, bottom }, shown) {
+    for (const ring of shown) {
+      this.add("path", { class: "shown", d: this.sheet.ring(ring), "data-shown": ring.record });
+      this.box("box", ring.box);
+      this.kinds.add("shown");
+    }
+    this.box("window", [left, top, right, bottom]);
   }
 
   // Where each ring's loop is; with few rings each has its number beside its first point.

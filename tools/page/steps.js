@@ -2,8 +2,8 @@
 import { part, plural, say, showKept, showProgress, showRefusal, showRings } from "./panel.js";
 import { ask, inTurn } from "./talk.js";
 
-// What can be done to the work space of the page's state `app`; `show` draws the sheet anew, `fit` with all of it in sight.
-export function stepper(app, show, fit) {
+// What can be done to the work space of the page's state `app`; `show` draws the sheet anew, `fit` with all of it in sight; `changed` is told when the rings may be others.
+export function stepper(app, show, fit, changed) {
   function showState() {
     const { state } = app;
     showRings(state, app.ring, choose);
@@ -12,6 +12,7 @@ export function stepper(app, show, fit) {
     for (const id of ["step", "end", "all", "play"]) part(id).disabled = state.done;
     part("lay").disabled = part("second-file").disabled = state.steps > 0;
     say(state.done ? "Every ring is done" : `Steps due: ${plural(state.rings.filter(ring => !ring.done).length, "ring")}`);
+    changed();
     show();
   }
 

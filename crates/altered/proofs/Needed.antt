@@ -11,6 +11,7 @@ use Rattle.rings.specs.Progress.{Ring, Due, split, done}
 use Rattle.rings.specs.Walk as walk
 use Rattle.geometry.specs.declared.Point.{Point}
 use Rattle.geometry.specs.Plane.{samePoint, isCollinear, dotProductThreePoints, areaTriangle, areaOutpt, ptsReallyClose, isVerySmallTriangle, removable, strictlyWithin, segmentsIntersect}
+use Rattle.geometry.specs.Box.{widen}
 use Rattle.geometry.specs.Crossing.{fractionOf, crossing, coordinateAt, getSegmentIntersectPt}
 use Rattle.lone.specs.Lone.{removalTurn, doSplitOp, splitTurn, decide, actOf, stepRing, offcutRing, takesRing}
 use Rattle.lone.specs.Forest.{Entry, ringless, openRing, closedRing, Forest, at, answer, stepForest, runForest}
@@ -18,10 +19,11 @@ use Rattle.lone.specs.Order.{machine}
 use Rattle.store.specs.Field.{pt, rc, ct, X, Y, NEXT, PREV, OWNER, MARK, PRESENT, START, CUT, POINTS, RECORDS, NONE, LENGTH}
 use Rattle.store.specs.Words.{Write, write, cell, put, view, onWords}
 use Rattle.store.specs.Sound.{recs, loneAt}
+use Rattle.store.specs.Boxes.{setSides, ringBox, misboxed, boxedAt}
 use Rattle.store.specs.Value.{wordOf}
 use Rattle.audit.specs.declared.Verdict.the-variants.{Passed}
 use Rattle.audit.specs.Tests.{anyBelow, reach, reachedBy, testsOf}
-use Rattle.audit.specs.Handed.{keptTwice, testedOf, handedOf}
+use Rattle.audit.specs.Handed.{anyMisboxed, keptTwice, testedOf, handedOf}
 use Rattle.acts.specs.InStep.{Holds, no-ring, an-open, a-closed}
 use Rattle.acts.specs.Step.{answerS, stepW}
 use Rattle.turns.specs.Form.{raised}
@@ -33,24 +35,26 @@ use Rattle.altered.specs.Altered.{HoldsForest, ringsOf}
 abbrev point : ℕ → ℕ → ℕ → ℕ → ℕ → List Write
 point k x y n p = write (pt X) k x ∷ write (pt Y) k y ∷ write (pt NEXT) k n ∷ write (pt PREV) k p ∷ []
 
--- (0,0) (10,10) (10,0) (0,12) (-5,6), in a split turn at the second point
+-- (0,0) (10,10) (10,0) (0,12) (-5,6), in a split turn at the second point; its box is from (-5,0) to (10,12)
 abbrev pub example : List ℕ
 example =
-    onWords (replicate LENGTH 0)
+    setSides
+    (onWords (replicate LENGTH 0)
     (point 0 1048576 1048576 1 4 ++ point 1 1048586 1048586 2 0 ++ point 2 1048586 1048576 3 1 ++ point 3 1048576 1048588 4 2 ++ point 4 1048571 1048582 0 3
-    ++ write (ct POINTS) 0 5 ∷ write (ct RECORDS) 0 1 ∷ write (rc OWNER) 0 NONE ∷ write (rc MARK) 0 3 ∷ write (rc PRESENT) 0 1 ∷ write (rc START) 0 5 ∷ write (rc CUT) 0 NONE ∷ [])
+    ++ write (ct POINTS) 0 5 ∷ write (ct RECORDS) 0 1 ∷ write (rc OWNER) 0 NONE ∷ write (rc MARK) 0 3 ∷ write (rc PRESENT) 0 1 ∷ write (rc START) 0 5 ∷ write (rc CUT) 0 NONE ∷ []))
+    0 (record { left = 1048571; top = 1048576; right = 1048586; bottom = 1048588 })
 
 pub passes : handedOf example ≡ Passed
-unfolding handedOf testedOf keptTwice testsOf anyBelow reach reachedBy walk.run cell put
+unfolding handedOf testedOf anyMisboxed misboxed ringBox widen setSides keptTwice testsOf anyBelow reach reachedBy walk.run cell put
 passes = refl
 
 -- the words' ring, after two steps
 pub ends : loneAt (view (runOf example (0 ∷ 0 ∷ []))) 0 .due ≡ done
-unfolding stepOf handedOf testedOf keptTwice testsOf anyBelow reach reachedBy answerS stepW wordOf walk.run cell put samePoint isCollinear dotProductThreePoints areaTriangle areaOutpt ptsReallyClose isVerySmallTriangle removable strictlyWithin segmentsIntersect fractionOf crossing coordinateAt getSegmentIntersectPt removalTurn doSplitOp splitTurn decide actOf toSigned add ofInt mul
+unfolding stepOf handedOf testedOf anyMisboxed misboxed ringBox widen setSides boxedAt keptTwice testsOf anyBelow reach reachedBy answerS stepW wordOf walk.run cell put samePoint isCollinear dotProductThreePoints areaTriangle areaOutpt ptsReallyClose isVerySmallTriangle removable strictlyWithin segmentsIntersect fractionOf crossing coordinateAt getSegmentIntersectPt removalTurn doSplitOp splitTurn decide actOf toSigned add ofInt mul
 ends = refl
 
 counts : recs (view (runOf example (0 ∷ 0 ∷ []))) ≡ 2
-unfolding stepOf handedOf testedOf keptTwice testsOf anyBelow reach reachedBy answerS stepW wordOf walk.run cell put samePoint isCollinear dotProductThreePoints areaTriangle areaOutpt ptsReallyClose isVerySmallTriangle removable strictlyWithin segmentsIntersect fractionOf crossing coordinateAt getSegmentIntersectPt removalTurn doSplitOp splitTurn decide actOf toSigned add ofInt mul
+unfolding stepOf handedOf testedOf anyMisboxed misboxed ringBox widen setSides boxedAt keptTwice testsOf anyBelow reach reachedBy answerS stepW wordOf walk.run cell put samePoint isCollinear dotProductThreePoints areaTriangle areaOutpt ptsReallyClose isVerySmallTriangle removable strictlyWithin segmentsIntersect fractionOf crossing coordinateAt getSegmentIntersectPt removalTurn doSplitOp splitTurn decide actOf toSigned add ofInt mul
 counts = refl
 
 -- the step due of a record's ring
@@ -64,7 +68,7 @@ abbrev later : Forest (Ring Point) (List Point)
 later = runForest (ringsOf example) 2048 512 (forestOf (raised .of) (view example)) (0 ∷ 0 ∷ [])
 
 pub goes-on : dueIn (at (later .entries) 0) ≡ split
-unfolding stepForest answer machine stepRing takesRing offcutRing walk.run cell put samePoint isCollinear dotProductThreePoints areaTriangle areaOutpt ptsReallyClose isVerySmallTriangle removable strictlyWithin segmentsIntersect fractionOf crossing coordinateAt getSegmentIntersectPt removalTurn doSplitOp splitTurn decide actOf toSigned add ofInt mul
+unfolding setSides stepForest answer machine stepRing takesRing offcutRing walk.run cell put samePoint isCollinear dotProductThreePoints areaTriangle areaOutpt ptsReallyClose isVerySmallTriangle removable strictlyWithin segmentsIntersect fractionOf crossing coordinateAt getSegmentIntersectPt removalTurn doSplitOp splitTurn decide actOf toSigned add ofInt mul
 goes-on = refl
 
 -- so the words do not hold that forest

@@ -16,18 +16,18 @@ use Rattle.store.specs.Good.{Sound}
 use Rattle.store.specs.Value.{preserveCollinear}
 use Rattle.audit.specs.declared.Verdict.the-variants as verdict
 use Rattle.audit.specs.Handed.{handedOf, Usable}
-use Rattle.audit.proofs.Handing.{handed-usable, usable-handed}
-use Rattle.acts.specs.Step.{answerS, stepW}
+use Rattle.audit.proofs.Handing.{handed-usable}
+use Rattle.acts.specs.Step.{stepW}
 use Rattle.acts.specs.Run.{stepS}
 use Rattle.acts.specs.InStep.{InStep}
-use Rattle.acts.proofs.Stepping.{length-step, view-step, answer-is, step-is}
+use Rattle.acts.proofs.Stepping.{view-step, answer-is, step-is}
 use Rattle.turns.specs.Form.{raised, geometryOf}
 use Rattle.turns.proofs.Ready.{laws}
-use Rattle.audit.specs.Left.{Left, left}
+use Rattle.audit.specs.Left.{Left}
 use Rattle.finishing.specs.Step.{steppedAs, stepOf}
 use Rattle.finishing.specs.Run.{runOf}
-use Rattle.finishing.proofs.Entering.{handed-step}
-use Rattle.finishing.proofs.Blocks.{call-usable}
+use Rattle.finishing.proofs.Blocks as blocks
+use Rattle.finishing.proofs.Blocks.{view-leaves, words-are, call-usable}
 use Rattle.order.proofs.Settings.{step-settings}
 use Rattle.altered.specs.OwnForest.{Settled}
 use Rattle.altered.specs.Altered.{HoldsForest, StepIs, Altered}
@@ -38,14 +38,15 @@ module _ (w : List ℕ) (f : Usable w) (i : ℕ) where
   l : BLOCK ≤ length w
   l = omega (arith, f .long)
 
-  step-of : stepOf w i ≡ left (steppedAs (answerS (geometryOf (view w)) raised (view w) i)) (stepW (geometryOf (view w)) raised w i)
-  step-of = handed-step w i verdict.Passed (usable-handed w f)
+  -- the store that it leaves is the step's, without its boxes
+  view-words : view (stepOf w i .words) ≡ view (stepW (geometryOf (view w)) raised w i)
+  view-words = ap view (words-are w f i) ∙ view-leaves w l (f .sound) i
 
   view-of : view (stepOf w i .words) ≡ stepS (geometryOf (view w)) raised (view w) i
-  view-of = ap (λ (x : Left). view (x .words)) step-of ∙ view-step (geometryOf (view w)) raised (laws (preserveCollinear (view w))) w i l (f .sound)
+  view-of = view-words ∙ view-step (geometryOf (view w)) raised (laws (preserveCollinear (view w))) w i l (f .sound)
 
   same-settings : preserveCollinear (view (stepOf w i .words)) ≡ preserveCollinear (view w)
-  same-settings = ap (λ (n : ℕ). eqb (n % 2) 1) (ap (λ (x : Left). view (x .words) (ct SETTINGS) 0) step-of ∙ step-settings raised (geometryOf (view w)) (laws (preserveCollinear (view w))) w i l (f .sound))
+  same-settings = ap (λ (n : ℕ). eqb (n % 2) 1) (ap (λ (s : Store). s (ct SETTINGS) 0) view-words ∙ step-settings raised (geometryOf (view w)) (laws (preserveCollinear (view w))) w i l (f .sound))
 
   still-settled : Settled (view w) → Settled (view (stepOf w i .words))
   still-settled h = subst (λ (s : Store). Settled s) (sym view-of) (settled-step (geometryOf (view w)) raised (laws (preserveCollinear (view w))) (view w) (f .sound) h i)
@@ -53,7 +54,7 @@ module _ (w : List ℕ) (f : Usable w) (i : ℕ) where
   one-step : (F : Forest (Ring Point) (List Point)) → HoldsForest w F → StepIs w F i
   one-step F r =
       record {
-        answers = ap (λ (x : Left). x .answer) step-of ∙ ap steppedAs (answer-is (geometryOf (view w)) raised (view w) F r i);
+        answers = ap (λ (x : Left). x .answer) (blocks.step-is w f i) ∙ ap steppedAs (answer-is (geometryOf (view w)) raised (view w) F r i);
         stays = λ h. subst (λ (s : Store). InStep (raised .of) s (stepForest (loneRing (preserveCollinear (view w))) 2048 512 F i)) (sym view-of) (step-is (geometryOf (view w)) raised (view w) F r i (laws (preserveCollinear (view w))) h);
       }
 

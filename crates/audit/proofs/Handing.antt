@@ -1,4 +1,4 @@
--- A handed work space passes exactly when it is long enough, its live block is sound and no name is kept twice.
+-- A handed work space passes exactly when it is long enough, its live block is sound, each ring's box stands beside it and no name is kept twice.
 use Prim.Native.Nat.{ℕ, _≤_, _<_}
 use mathlib.Core.Path.{_≡_, refl, sym, ap, _∙_}
 use mathlib.Core.Logic.{_↔_}
@@ -10,14 +10,21 @@ use lib.Dec.{eqb, ltb}
 use lib.ListN.{length}
 use borrow.Author.Tests.{lt-ltb, le-ltb, ltb-false, ne-eqb, eqb-false}
 use Rattle.job.specs.declared.refusal.Refusal.{Refusal}
-use Rattle.job.specs.declared.refusal.Refusal.the-variants.{Muddled, Full}
-use Rattle.store.specs.Field.{BLOCK, STATES, LENGTH}
+use Rattle.job.specs.declared.refusal.Refusal.the-variants.{Crowded, Muddled, Full}
+use Rattle.store.specs.Field.{STATES, LENGTH}
 use Rattle.store.specs.Good.{SoundWords}
+use Rattle.job.specs.Limits as limit
+use Rattle.store.specs.Named.{recordsOf}
+use Rattle.store.specs.Boxes.{misboxed, Boxed}
 use Rattle.store.specs.States.{isName, nameAt, sameName, Apart}
+use Rattle.bounds.proofs.Beside.{not-misboxed, boxed-not}
 use Rattle.audit.specs.declared.Verdict.{Verdict}
 use Rattle.audit.specs.declared.Verdict.the-variants.{Passed, Refused}
-use Rattle.audit.specs.Tests.{anyBelow, testsOf}
-use Rattle.audit.specs.Handed.{keptTwice, namesTested, testedOf, handedOf, Usable}
+use Rattle.audit.specs.Tests.{anyBelow, crowded, testsOf}
+use Rattle.audit.specs.Handed.{anyMisboxed, boxesTested, keptTwice, namesTested, testedOf, handedOf, Usable}
+use Rattle.audit.specs.Marks.{Counted, Looked}
+use Rattle.audit.proofs.Testing.{says-crowded}
+use Rattle.audit.proofs.Marking.{counted}
 use Rattle.audit.proofs.Saying.{none-of, all-none}
 use Rattle.audit.proofs.Agreeing.{passed-sound, sound-passed}
 
@@ -35,14 +42,38 @@ module _ (w : List ℕ) (b : Bool) (f : b ≡ keptTwice w) where
   pub says-twice : b ≡ true → Refused Muddled ≡ namesTested w Passed
   says-twice h = ap (λ (x : Bool). cond x (Refused Muddled) Passed) (sym h ∙ f)
 
+module _ (w : List ℕ) (b : Bool) (f : b ≡ anyMisboxed w) where
+  last-is : namesTested w (cond b (Refused Muddled) Passed) ≡ namesTested w (boxesTested w Passed)
+  last-is = ap (λ (x : Bool). namesTested w (cond x (Refused Muddled) Passed)) f
+
+  pub says-misboxed : b ≡ true → Refused Muddled ≡ namesTested w (boxesTested w Passed)
+  says-misboxed h = ap (λ (x : Bool). namesTested w (cond x (Refused Muddled) Passed)) (sym h) ∙ last-is
+
+  pub says-boxed : (r : Verdict) → b ≡ false → r ≡ namesTested w Passed → r ≡ namesTested w (boxesTested w Passed)
+  says-boxed r h g = g ∙ ap (λ (x : Bool). namesTested w (cond x (Refused Muddled) Passed)) (sym h) ∙ last-is
+
 module _ (w : List ℕ) (v : Verdict) (e : v ≡ testsOf w) where
   pub says-refused : (x : Refusal) → v ≡ Refused x → Refused x ≡ testedOf w
   unfolding testedOf
-  says-refused x f = ap (namesTested w) (sym f ∙ e)
+  says-refused x f = ap (λ (u : Verdict). namesTested w (boxesTested w u)) (sym f ∙ e)
 
-  pub says-named : (r : Verdict) → v ≡ Passed → r ≡ namesTested w Passed → r ≡ testedOf w
+  pub says-last : (r : Verdict) → v ≡ Passed → r ≡ namesTested w (boxesTested w Passed) → r ≡ testedOf w
   unfolding testedOf
-  says-named r f g = g ∙ ap (namesTested w) (sym f ∙ e)
+  says-last r f g = g ∙ ap (λ (u : Verdict). namesTested w (boxesTested w u)) (sym f ∙ e)
+
+  pub says-few : v ≡ Passed → recordsOf w ≤ limit.RECORDS
+  says-few f = passed-sound w (sym e ∙ f) .few-records
+
+pub says-many : (w : List ℕ) (b : Bool) → b ≡ crowded w → b ≡ true → Refused Crowded ≡ testedOf w
+says-many w b e h = says-refused w (Refused Crowded) (says-crowded w b e h) Crowded refl
+
+pub says-counted : (w : List ℕ) (b : Bool) → LENGTH ≤ length w → b ≡ crowded w → b ≡ false → Counted w
+says-counted w b l = counted w b (omega arith)
+
+-- nothing found at once
+pub says-good : (w : List ℕ) (b : Bool) (r : Verdict) → Looked w b → b ≡ true → r ≡ namesTested w Passed → r ≡ testedOf w
+unfolding testedOf
+says-good w b r l h g = rw (l .passes h, l .boxed h) g
 
 pub says-short : (w : List ℕ) → length w < LENGTH → Refused Full ≡ handedOf w
 unfolding handedOf
@@ -51,6 +82,16 @@ says-short w h = rw (lt-ltb (length w) LENGTH h)
 pub says-tested : (w : List ℕ) (v : Verdict) → LENGTH ≤ length w → v ≡ testedOf w → v ≡ handedOf w
 unfolding handedOf
 says-tested w v l e = rw (le-ltb (length w) LENGTH l) e
+
+-- ---- the boxes
+
+misboxed-none : (w : List ℕ) → anyMisboxed w ≡ false → (i : ℕ) → i < recordsOf w → Boxed w i
+unfolding anyMisboxed
+misboxed-none w e i l = not-misboxed w i (none-of (recordsOf w) (misboxed w) e i l)
+
+boxed-none : (w : List ℕ) → ((i : ℕ) → i < recordsOf w → Boxed w i) → anyMisboxed w ≡ false
+unfolding anyMisboxed
+boxed-none w b = all-none (recordsOf w) (misboxed w) (λ i l. boxed-not w i (b i l))
 
 -- ---- the names
 
@@ -75,18 +116,21 @@ pub handed-usable : (w : List ℕ) → handedOf w ≡ Passed → Usable w
 unfolding handedOf testedOf
 handed-usable w e = go (ltb (length w) LENGTH) refl (testsOf w) refl e
   where
-    names : (b : Bool) → keptTwice w ≡ b → cond b (Refused Muddled) Passed ≡ Passed → keptTwice w ≡ false
-    names true h f = absurd (let z : _≡_ {A = ℕ} 0 1 = cc in omega arith)
-    names false h f = h
+    last : (x y : Bool) → namesTested w (cond x (Refused Muddled) Passed) ≡ Passed → keptTwice w ≡ y → (x ≡ false) × (keptTwice w ≡ false)
+    last true y f h = absurd (let z : _≡_ {A = ℕ} 0 1 = cc in omega arith)
+    last false true f h = absurd (let z : _≡_ {A = ℕ} 0 1 = cc in omega arith)
+    last false false f h = (refl, h)
 
-    go : (b : Bool) → ltb (length w) LENGTH ≡ b → (v : Verdict) → testsOf w ≡ v → cond b (Refused Full) (namesTested w v) ≡ Passed → Usable w
+    go : (b : Bool) → ltb (length w) LENGTH ≡ b → (v : Verdict) → testsOf w ≡ v → cond b (Refused Full) (namesTested w (boxesTested w v)) ≡ Passed → Usable w
     go true h v t f = absurd (let z : _≡_ {A = ℕ} 0 1 = cc in omega arith)
     go false h (Refused r) t f = absurd (let z : _≡_ {A = ℕ} 0 1 = cc in omega arith)
-    go false h Passed t f = record { long = ltb-false (length w) LENGTH h; sound = passed-sound w t; apart = twice-apart w (names (keptTwice w) refl f) }
+    go false h Passed t f =
+        let l = last (anyMisboxed w) (keptTwice w) f refl in
+        record { long = ltb-false (length w) LENGTH h; sound = passed-sound w t; boxed = misboxed-none w (l .0); apart = twice-apart w (l .1) }
 
 pub usable-handed : (w : List ℕ) → Usable w → handedOf w ≡ Passed
 unfolding handedOf testedOf
-usable-handed w f = rw (le-ltb (length w) LENGTH (f .long), sound-passed w (f .sound), apart-once w (f .apart))
+usable-handed w f = rw (le-ltb (length w) LENGTH (f .long), sound-passed w (f .sound), boxed-none w (f .boxed), apart-once w (f .apart))
 
 -- THE LAW
 pub handed-decides : (w : List ℕ) → (handedOf w ≡ Passed) ↔ Usable w

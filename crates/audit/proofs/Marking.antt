@@ -50,8 +50,8 @@ marks-are w ms c zero = record { room = c .room; is = c .none }
 marks-are w ms c (suc i) = from limit.POINTS (nextOf w) (pointsOf w) (marksBy w ms i) (reachedBy w i) (firstOf w i) (marks-are w ms c i)
 
 -- marks that are all zero are clear
-zeros : (w : List ℕ) (n : ℕ) → pointsOf w ≤ n → Clear w (replicate n 0)
-zeros w n h = record { room = omega (arith, length-replicate {A = ℕ} n 0); none = λ k. go k (decLt k n) }
+zeros : (w : List ℕ) (n : ℕ) → pointsOf w ≤ n → n ≤ limit.POINTS → Clear w (replicate n 0)
+zeros w n h s = record { room = omega (arith, length-replicate {A = ℕ} n 0); short = omega (arith, length-replicate {A = ℕ} n 0); none = λ k. go k (decLt k n) }
   where
     go : (k : ℕ) → Dec (k < n) → isMarked (replicate n 0) k ≡ false
     go k (yes l) = rw (getD-replicate {A = ℕ} n k 0 0 l)
@@ -94,8 +94,8 @@ counted w b l e h =
     let q = counts (ltb limit.POINTS (pointsOf w)) (ltb limit.RECORDS (recordsOf w)) (sym e ∙ h) in
     record { long = l; points = ltb-false limit.POINTS (pointsOf w) (q .0); records = ltb-false limit.RECORDS (recordsOf w) (q .1) }
 
-pub few-zeros : (w : List ℕ) (m n : ℕ) → m ≡ pointsOf w → m ≤ n → Clear w (replicate n 0)
-few-zeros w m n e h = zeros w n (omega arith)
+pub few-zeros : (w : List ℕ) (m n : ℕ) → m ≡ pointsOf w → m ≤ n → n ≤ limit.POINTS → Clear w (replicate n 0)
+few-zeros w m n e h s = zeros w n (omega arith) s
 
 pub all-zeros : (w : List ℕ) → Counted w → Clear w (replicate limit.POINTS 0)
-all-zeros w h = zeros w limit.POINTS (h .points)
+all-zeros w h = zeros w limit.POINTS (h .points) (omega arith)

@@ -109,15 +109,35 @@ module _ (w ms₀ : List ℕ) where
   pub all-marked : (n i : ℕ) (ms : List ℕ) (b : Bool) → n ≤ i → n ≡ recordsOf w → i ≤ recordsOf w → ms ≡ marksBy w ms₀ i → b ≡ anyBelow i (meets w ms₀) → AllMarked w ms₀ ms b
   all-marked n i ms b h g k e f = let d : i ≡ recordsOf w = omega arith in record { marks = e ∙ ap (marksBy w ms₀) d; shares = f ∙ ap (λ (j : ℕ). anyBelow j (meets w ms₀)) d }
 
--- ---- a point, as a walk asks
+-- ---- a point, as a round asks
 
 module _ (w : List ℕ) (k m a : ℕ) (em : m ≡ pointsOf w) (ea : a ≡ nextOf w k) where
   pub point-astray : m ≤ a → true ≡ faulty w k
   point-astray h = rw (le-ltb (nextOf w k) (pointsOf w) (omega arith))
 
-  pub point-else : (n x y r d : ℕ) → a < m → n ≡ recordsOf w → x ≡ view w (pt X) k → y ≡ view w (pt Y) k → r ≡ recOf w k → d ≡ prevOf w a
-      → ((ltb (2 * limit.COORDINATE) x || ltb (2 * limit.COORDINATE) y) || (not (ltb r n) || not (eqb d k))) ≡ faulty w k
-  point-else n x y r d h en ex ey er ed = rw (lt-ltb (nextOf w k) (pointsOf w) (omega arith), en, ex, ey, er, ed, ea)
+  module _ (h : a < m) (n r : ℕ) (en : n ≡ recordsOf w) (er : r ≡ recOf w k) where
+    named : ltb (nextOf w k) (pointsOf w) ≡ true
+    named = lt-ltb (nextOf w k) (pointsOf w) (omega arith)
+
+    pub point-unowned : n ≤ r → true ≡ faulty w k
+    point-unowned l = rw (named, le-ltb (recOf w k) (recordsOf w) (omega arith))
+
+    module _ (l : r < n) (d : ℕ) (ed : d ≡ prevOf w a) where
+      owned : ltb (recOf w k) (recordsOf w) ≡ true
+      owned = lt-ltb (recOf w k) (recordsOf w) (omega arith)
+
+      pub point-loose : d ≢ k → true ≡ faulty w k
+      point-loose f = rw (named, owned, ne-eqb (prevOf w (nextOf w k)) k (λ z. f (ed ∙ ap (prevOf w) ea ∙ z)))
+
+      module _ (f : d ≡ k) (x : ℕ) (ex : x ≡ view w (pt X) k) where
+        tied : eqb (prevOf w (nextOf w k)) k ≡ true
+        tied = eq-eqb (prevOf w (nextOf w k)) k (sym (ed ∙ ap (prevOf w) ea) ∙ f)
+
+        pub point-off : 2 * limit.COORDINATE < x → true ≡ faulty w k
+        point-off g = rw (named, owned, tied, lt-ltb (2 * limit.COORDINATE) (view w (pt X) k) (omega arith))
+
+        pub point-else : (y : ℕ) → x ≤ 2 * limit.COORDINATE → y ≡ view w (pt Y) k → ltb (2 * limit.COORDINATE) y ≡ faulty w k
+        point-else y g ey = rw (named, owned, tied, le-ltb (2 * limit.COORDINATE) (view w (pt X) k) (omega arith), ey)
 
 -- ---- whether a point is on a ring
 

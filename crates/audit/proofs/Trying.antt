@@ -1,92 +1,79 @@
 -- Points are tested as they are marked: where neither they nor a record are found to fail, the work space passes.
-use Prim.Native.Nat.{ℕ, _≤_, _<_}
+use Prim.Native.Nat.{ℕ, _<_}
 use mathlib.Core.Path.{_≡_, refl, ap, _∙_, sym}
 use mathlib.Core.Bool.{Bool, true, false, not, _||_}
-use mathlib.Core.Logic.{_≢_}
 use mathlib.Core.List.{List, _∷_}
 use native.Mathlib.Omega.{arith}
 use native.Mathlib.Decide.{ℕ-discrete}
 use lib.Dec.{eqb, ltb}
-use lib.ListN.{getD, set}
+use lib.ListN.{set}
 use lib.Seq.{getD-set-other}
 use borrow.Author.Tests.{eqb-true, ltb-true, not-true, not-false}
-use Rattle.job.specs.Limits as limit
 use Rattle.rings.specs.Count.{occ}
 use Rattle.rings.proofs.Counting.{occ-head}
 use Rattle.rings.proofs.Members.{prev-on, next-prev}
 use Rattle.store.specs.Named.{pointsOf, recordsOf, nextOf, prevOf, recOf}
 use Rattle.audit.specs.declared.Verdict.the-variants.{Passed}
 use Rattle.audit.specs.Tests.{reachedBy, anyRecord, offTable, noSuch, loose, noSuchOf, lostTaker, misplaced, untold, testsOf}
-use Rattle.audit.specs.Marks.{Counted, Clear, isMarked, markFrom, faulty, faultyOf, Tried, MarkedFrom, AllMarked, Looked}
+use Rattle.audit.specs.Handed.{anyMisboxed}
+use Rattle.audit.specs.Marks.{Counted, Clear, isMarked, faulty, faultyOf, Tried, Unless, RingsPassed, Looked}
 use Rattle.audit.proofs.Reaching.{in-true}
 use Rattle.audit.proofs.Ringing.{RingAt, ring-at}
 use Rattle.audit.proofs.Saying.{none-of, all-none, none-reached, such-not, tied-not, passed}
-use Rattle.audit.proofs.Testing.{mark-out, mark-met, mark-over}
 use Rattle.audit.proofs.Marking.{marks-are, meets-is}
 
-clash : {A : Type 0} {b : Bool} → b ≡ true → b ≡ false → A
+pub clash : {A : Type 0} {b : Bool} → b ≡ true → b ≡ false → A
 clash e f = absurd (let z : _≡_ {A = ℕ} 0 1 = cc in omega arith)
 
-or-parts : (a b : Bool) → (a || b) ≡ false → (a ≡ false) × (b ≡ false)
+pub or-parts : (a b : Bool) → (a || b) ≡ false → (a ≡ false) × (b ≡ false)
 or-parts false b e = (refl, e)
 or-parts true b e = clash refl e
 
-pub tried-none : (w ms : List ℕ) → Tried w ms ms false
-tried-none w ms = record { good = λ e k a b. clash a b }
+pub tried-none : (w ms : List ℕ) → Tried w ms ms
+tried-none w ms = record { good = λ k a b. clash a b }
 
-pub tried-more : {w ms ms₁ : List ℕ} {r : Bool} → Tried w ms ms₁ r → (p : ℕ) (b : Bool) → b ≡ faulty w p → Tried w ms (set ms₁ p 1) (r || b)
-tried-more {w} {ms} {ms₁} {r} g p b e = record { good = λ h k m u. by (or-parts r b h) k m u (ℕ-discrete k p) }
+pub tried-more : {w ms ms₁ : List ℕ} → Tried w ms ms₁ → (p : ℕ) (b : Bool) → b ≡ faulty w p → b ≡ false → Tried w ms (set ms₁ p 1)
+tried-more {w} {ms} {ms₁} g p b e h = record { good = λ k m u. by k m u (ℕ-discrete k p) }
   where
-    by : (r ≡ false) × (b ≡ false) → (k : ℕ) → isMarked (set ms₁ p 1) k ≡ true → isMarked ms k ≡ false → Dec (k ≡ p) → faulty w k ≡ false
-    by h k m u (yes d) = ap (faulty w) d ∙ sym e ∙ h .1
-    by h k m u (no d) = g .good (h .0) k (rw (getD-set-other ms₁ p k 1 0 d) at m) u
+    by : (k : ℕ) → isMarked (set ms₁ p 1) k ≡ true → isMarked ms k ≡ false → Dec (k ≡ p) → faulty w k ≡ false
+    by k m u (yes d) = ap (faulty w) d ∙ sym e ∙ h
+    by k m u (no d) = g .good k (rw (getD-set-other ms₁ p k 1 0 d) at m) u
 
-pub tried-both : {w ms ms₁ ms₂ : List ℕ} {r s : Bool} → Tried w ms ms₁ r → Tried w ms₁ ms₂ s → Tried w ms ms₂ (r || s)
-tried-both {w} {ms} {ms₁} {ms₂} {r} {s} f g = record { good = λ h k m u. by (or-parts r s h) k m u (isMarked ms₁ k) refl }
+pub tried-both : {w ms ms₁ ms₂ : List ℕ} → Tried w ms ms₁ → Tried w ms₁ ms₂ → Tried w ms ms₂
+tried-both {w} {ms} {ms₁} {ms₂} f g = record { good = λ k m u. by k m u (isMarked ms₁ k) refl }
   where
-    by : (r ≡ false) × (s ≡ false) → (k : ℕ) → isMarked ms₂ k ≡ true → isMarked ms k ≡ false → (b : Bool) → isMarked ms₁ k ≡ b → faulty w k ≡ false
-    by h k m u true d = f .good (h .0) k d u
-    by h k m u false d = g .good (h .1) k m d
-
--- the walk from a first point, as it ends
-module _ {w ms₀ ms : List ℕ} {bad : Bool} (t : Tried w ms₀ ms bad) (a p m : ℕ) where
-  pub walked-out : (k : ℕ) → m ≡ pointsOf w → m ≤ p → markFrom k (nextOf w) (pointsOf w) ms p ≡ markFrom limit.POINTS (nextOf w) (pointsOf w) ms₀ a → MarkedFrom w ms₀ a ms bad
-  walked-out k e h g = record { marks = mark-out (nextOf w) (pointsOf w) p ms (markFrom limit.POINTS (nextOf w) (pointsOf w) ms₀ a) k m e h g; tried = t }
-
-  pub walked-met : (k : ℕ) → m ≡ pointsOf w → p < m → getD ms p 0 ≢ 0 → markFrom k (nextOf w) (pointsOf w) ms p ≡ markFrom limit.POINTS (nextOf w) (pointsOf w) ms₀ a → MarkedFrom w ms₀ a ms bad
-  walked-met k e l h g = record { marks = mark-met (nextOf w) (pointsOf w) p ms (markFrom limit.POINTS (nextOf w) (pointsOf w) ms₀ a) k m e l h g; tried = t }
-
-  pub walked-over : (k : ℕ) → k ≤ 0 → markFrom k (nextOf w) (pointsOf w) ms p ≡ markFrom limit.POINTS (nextOf w) (pointsOf w) ms₀ a → MarkedFrom w ms₀ a ms bad
-  walked-over k z g = record { marks = mark-over (nextOf w) (pointsOf w) p ms (markFrom limit.POINTS (nextOf w) (pointsOf w) ms₀ a) k z g; tried = t }
-
--- the walks from all of them
-pub walked-more : {w ms₀ ms ms′ : List ℕ} {bad b : Bool} {a : ℕ} → Tried w ms₀ ms bad → MarkedFrom w ms a ms′ b → Tried w ms₀ ms′ (bad || b)
-walked-more t m = tried-both t (m .tried)
+    by : (k : ℕ) → isMarked ms₂ k ≡ true → isMarked ms k ≡ false → (b : Bool) → isMarked ms₁ k ≡ b → faulty w k ≡ false
+    by k m u true d = f .good k d u
+    by k m u false d = g .good k m d
 
 -- ---- nothing found: the work space passes
 
--- what a point that a walk tested is known to be
-record Tested (w : List ℕ) (k : ℕ) : Type 0 where
-  next : nextOf w k < pointsOf w
-  table : offTable w k ≡ false
-  owner : recOf w k < recordsOf w
-  back : prevOf w (nextOf w k) ≡ k
+-- what a point that a round tested is known to be
+pub record Tested (w : List ℕ) (k : ℕ) : Type 0 where
+  pub next : nextOf w k < pointsOf w
+  pub owner : recOf w k < recordsOf w
+  pub back : prevOf w (nextOf w k) ≡ k
+  pub table : offTable w k ≡ false
 
-tested : (w : List ℕ) (k : ℕ) → faulty w k ≡ false → Tested w k
+pub tested : (w : List ℕ) (k : ℕ) → faulty w k ≡ false → Tested w k
 tested w k e =
-    let a = or-parts (not (ltb (nextOf w k) (pointsOf w))) (offTable w k || (not (ltb (recOf w k) (recordsOf w)) || not (eqb (prevOf w (nextOf w k)) k))) e in
-    let b = or-parts (offTable w k) (not (ltb (recOf w k) (recordsOf w)) || not (eqb (prevOf w (nextOf w k)) k)) (a .1) in
-    let c = or-parts (not (ltb (recOf w k) (recordsOf w))) (not (eqb (prevOf w (nextOf w k)) k)) (b .1) in
+    let a = or-parts (not (ltb (nextOf w k) (pointsOf w))) (not (ltb (recOf w k) (recordsOf w)) || (not (eqb (prevOf w (nextOf w k)) k) || offTable w k)) e in
+    let b = or-parts (not (ltb (recOf w k) (recordsOf w))) (not (eqb (prevOf w (nextOf w k)) k) || offTable w k) (a .1) in
+    let c = or-parts (not (eqb (prevOf w (nextOf w k)) k)) (offTable w k) (b .1) in
     record {
       next = ltb-true (nextOf w k) (pointsOf w) (not-false (ltb (nextOf w k) (pointsOf w)) (a .0));
-      table = b .0;
-      owner = ltb-true (recOf w k) (recordsOf w) (not-false (ltb (recOf w k) (recordsOf w)) (c .0));
-      back = eqb-true (prevOf w (nextOf w k)) k (not-false (eqb (prevOf w (nextOf w k)) k) (c .1));
+      owner = ltb-true (recOf w k) (recordsOf w) (not-false (ltb (recOf w k) (recordsOf w)) (b .0));
+      back = eqb-true (prevOf w (nextOf w k)) k (not-false (eqb (prevOf w (nextOf w k)) k) (c .0));
+      table = c .1;
     }
 
-module _ (w ms ms′ : List ℕ) (s b : Bool) (h : Counted w) (c : Clear w ms) (a : AllMarked w ms ms′ s) (t : Tried w ms ms′ b) (e : (b || s) ≡ false) where
+-- so a round stays among the points
+pub goes-on : (w : List ℕ) (p m q : ℕ) (b : Bool) → b ≡ faulty w p → b ≡ false → m ≡ pointsOf w → q ≡ nextOf w p → q < m
+goes-on w p m q b e h em eq = omega (arith, tested w p (sym e ∙ h) .next)
+
+module _ (w ms ms′ : List ℕ) (h : Counted w) (c : Clear w ms) (a : RingsPassed w ms (recordsOf w) ms′) where
   good : (k : ℕ) → 0 < occ k (reachedBy w (recordsOf w)) → Tested w k
-  good k o = tested w k (t .good (or-parts b s e .0) k (ap (λ (l : List ℕ). isMarked l k) (a .marks) ∙ marks-are w ms c (recordsOf w) .is k ∙ in-true k (reachedBy w (recordsOf w)) o) (c .none k))
+  good k o = tested w k (a .tried .good k (ap (λ (l : List ℕ). isMarked l k) (a .marks) ∙ marks-are w ms c (recordsOf w) .is k ∙ in-true k (reachedBy w (recordsOf w)) o) (c .none k))
 
   module _ (k : ℕ) (o : 0 < occ k (reachedBy w (recordsOf w))) where
     g : RingAt w (h .points) (λ j q. good j q .next) (λ j q. good j q .back) k
@@ -116,16 +103,17 @@ module _ (w ms ms′ : List ℕ) (s b : Bool) (h : Counted w) (c : Clear w ms) (
           owned = all-none (recordsOf w) (noSuchOf w) (λ i l. parts i l .0);
           taken = all-none (recordsOf w) (lostTaker w) (λ i l. parts i l .1);
           tied = none-reached w (loose w) linked;
-          apart = sym (meets-is w ms c) ∙ sym (a .shares) ∙ or-parts b s e .1;
+          apart = sym (meets-is w ms c) ∙ a .apart;
           meant = all-none (recordsOf w) (misplaced w) (λ i l. parts i l .2);
           explained-all = all-none (recordsOf w) (untold w) (λ i l. parts i l .3);
         })
 
-  pub looked : (f : Bool) → f ≡ anyRecord w (faultyOf w) → Looked w (not f)
-  looked f ef = record { passes = λ h. nothing f ef (not-true f h) }
+  nowhere : anyMisboxed w ≡ false
+  unfolding anyMisboxed
+  nowhere = a .boxed
+
+pub looked : (w ms ms′ : List ℕ) (b f : Bool) → Counted w → Clear w ms → Unless b (RingsPassed w ms (recordsOf w) ms′) → b ≡ false → f ≡ anyRecord w (faultyOf w) → Looked w (not f)
+looked w ms ms′ b f h c u z ef = record { passes = λ t. nothing w ms ms′ h c (u .none z) f ef (not-true f t); boxed = λ t. nowhere w ms ms′ h c (u .none z) }
 
 pub found : (w : List ℕ) → Looked w false
-found w = record { passes = λ h. clash h refl }
-
-pub at-once : (w : List ℕ) (b : Bool) → Looked w b → b ≡ true → Passed ≡ testsOf w
-at-once w b l h = sym (l .passes h)
+found w = record { passes = λ h. clash h refl; boxed = λ h. clash h refl }

@@ -1,16 +1,22 @@
--- The tests as the code goes through them: one mark for each point, set by the walks, and a test by its name.
+-- The tests as the code goes through them: one mark for each point, set by the walks; the rounds, which gather the rings' boxes too; and a test by its name.
 use Prim.Native.Nat.{ℕ, zero, suc, _≤_}
 use mathlib.Core.Path.{_≡_}
 use mathlib.Core.Bool.{Bool, true, false, cond, not, _&&_, _||_}
 use mathlib.Core.List.{List}
+use mathlib.Core.Option.{some}
 use lib.Dec.{eqb, ltb}
 use lib.ListN.{length, getD, set}
 use Rattle.job.specs.Limits as limit
 use Rattle.job.specs.declared.refusal.Refusal.the-variants.{OffTheTable, NoSuch, Loose, Muddled}
 use Rattle.audit.specs.declared.Verdict.{Verdict}
 use Rattle.audit.specs.declared.Verdict.the-variants.{Passed, Refused}
+use Rattle.store.specs.declared.boxed.Sides.{Sides}
 use Rattle.store.specs.Field.{BLOCK}
+use Rattle.store.specs.Words.{view}
+use Rattle.store.specs.Boxes.{rectOf, misboxed}
 use Rattle.store.specs.Named.{pointsOf, recordsOf, nextOf, prevOf, recOf, firstOf}
+use Rattle.bounds.specs.Along.{boxFrom}
+use Rattle.audit.specs.Handed.{anyMisboxed}
 use Rattle.audit.specs.Tests.{anyBelow, anyRecord, offTable, noSuch, loose, noSuchOf, lostTaker, misplaced, untold, testsOf}
 use Rattle.audit.specs.declared.PointTest.{PointTest}
 use Rattle.audit.specs.declared.PointTest.the-variants.{Table, Numbers, Links}
@@ -27,9 +33,10 @@ pub record Counted (w : List ℕ) : Type 0 where
 abbrev pub isMarked : List ℕ → ℕ → Bool
 isMarked ms k = not (eqb (getD ms k 0) 0)
 
--- marks with a place for each point, none of them set
+-- marks with a place for each point, and for no more than a job may have; none of them set
 pub record Clear (w ms : List ℕ) : Type 0 where
   pub room : pointsOf w ≤ length ms
+  pub short : length ms ≤ limit.POINTS
   pub none : (k : ℕ) → isMarked ms k ≡ false
 
 -- the marks after a walk from a that ends at a number that names no point, or at a marked point
@@ -56,20 +63,39 @@ fails Table w k = offTable w k
 fails Numbers w k = noSuch w k
 fails Links w k = loose w k
 
--- a point fails a test that the walks ask: its coordinates, next and record, and prev of next
+-- a point fails a test that a round asks: its next, record, prev of next, and coordinates
 abbrev pub faulty : List ℕ → ℕ → Bool
 faulty w k =
     not (ltb (nextOf w k) (pointsOf w))
-    || (offTable w k || (not (ltb (recOf w k) (recordsOf w)) || not (eqb (prevOf w (nextOf w k)) k)))
+    || (not (ltb (recOf w k) (recordsOf w)) || (not (eqb (prevOf w (nextOf w k)) k) || offTable w k))
 
--- of the points that walks have marked, whether one is faulty: if none was found, none is
-pub record Tried (w ms ms′ : List ℕ) (r : Bool) : Type 0 where
-  pub good : r ≡ false → (k : ℕ) → isMarked ms′ k ≡ true → isMarked ms k ≡ false → faulty w k ≡ false
+-- each point that was marked since passes
+pub record Tried (w ms ms′ : List ℕ) : Type 0 where
+  pub good : (k : ℕ) → isMarked ms′ k ≡ true → isMarked ms k ≡ false → faulty w k ≡ false
 
--- what `mark_from` leaves
-pub record MarkedFrom (w ms : List ℕ) (a : ℕ) (ms′ : List ℕ) (r : Bool) : Type 0 where
+-- what is known where a look found nothing
+pub record Unless (found : Bool) (P : Type 0) : Type 0 where
+  pub none : found ≡ false → P
+
+-- what a round from a comes to: its points are marked and pass, and b is the box of the ring that starts there
+pub record Rounded (w ms : List ℕ) (a : ℕ) (ms′ : List ℕ) (b : Sides) : Type 0 where
   pub marks : ms′ ≡ markFrom limit.POINTS (nextOf w) (pointsOf w) ms a
-  pub tried : Tried w ms ms′ r
+  pub tried : Tried w ms ms′
+  pub box : boxFrom (view w) a ≡ some (rectOf b)
+
+-- record i's ring is no earlier record's, its points pass, and its box stands beside it
+pub record RingPassed (w ms : List ℕ) (i : ℕ) (ms′ : List ℕ) : Type 0 where
+  pub marks : ms′ ≡ markFrom limit.POINTS (nextOf w) (pointsOf w) ms (firstOf w i)
+  pub apart : isMarked ms (firstOf w i) ≡ false
+  pub tried : Tried w ms ms′
+  pub boxed : misboxed w i ≡ false
+
+-- so of the records below i
+pub record RingsPassed (w ms : List ℕ) (i : ℕ) (ms′ : List ℕ) : Type 0 where
+  pub marks : ms′ ≡ marksBy w ms i
+  pub apart : anyBelow i (meets w ms) ≡ false
+  pub tried : Tried w ms ms′
+  pub boxed : anyBelow i (misboxed w) ≡ false
 
 abbrev pub failsOf : RecordTest → List ℕ → ℕ → Bool
 failsOf Named w i = noSuchOf w i
@@ -95,6 +121,7 @@ linksOf w ms shares =
 abbrev pub passesOf : List ℕ → List ℕ → Bool → Verdict
 passesOf w ms shares = cond (anyMarked w ms Table) (Refused OffTheTable) (linksOf w ms shares)
 
--- what a look at everything at once finds: if nothing fails, the work space passes
+-- what a look at everything at once finds: if nothing fails, the work space passes and each ring's box stands beside it
 pub record Looked (w : List ℕ) (r : Bool) : Type 0 where
   pub passes : r ≡ true → testsOf w ≡ Passed
+  pub boxed : r ≡ true → anyMisboxed w ≡ false

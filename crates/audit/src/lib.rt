@@ -1,9 +1,12 @@
 // The tests of a handed work space: read only, linear in points and records.
+mod boxes;
 mod names;
 mod points;
 mod records;
+mod rounds;
 mod walks;
 
+use crate::boxes::last_tested;
 use crate::names::names_tested;
 use crate::points::loose;
 use crate::points::no_such;
@@ -13,6 +16,7 @@ use crate::records::lost_taker;
 use crate::records::misplaced;
 use crate::records::no_such_of;
 use crate::records::untold;
+use crate::rounds::any_bad_ring;
 use crate::walks::any_marked;
 use crate::walks::mark_all;
 use job::Job;
@@ -191,19 +195,31 @@ fn in_order(w: &[u32]) -> Verdict
     ensures { λ r. ⌜ r ≡ testsOf (now (w .entry)) ⌝ }
 {
     let mut marks = [0u8; Job::POINTS];
-    let walks = mark_all(w, &mut marks);
-    passes_of(w, &marks, walks.shared)
+    let shared = mark_all(w, &mut marks);
+    passes_of(w, &marks, shared)
+}
+
+// The tests of the live block, in their order.
+pub fn tests_of(w: &[u32]) -> Verdict
+    requires { ⌜ BLOCK ≤ length (now w) ⌝ }
+    ensures { λ r. ⌜ r ≡ testsOf (now (w .entry)) ⌝ }
+{
+    let many = crowded(w);
+    if many {
+        return Verdict::Refused(Refusal::Crowded);
+    }
+    in_order(w)
 }
 
 // ---- all tests at once
 
-// Whether neither the walks nor a turn through the records find anything that fails.
+// Whether neither the rounds nor a turn through the records find anything that fails.
 fn none_found(w: &[u32], marks: &mut [u8]) -> bool
     requires { ⌜ Counted (now w) × Clear (now w) (now marks) ⌝ }
     ensures { λ r. ⌜ Looked (now (w .entry)) r ⌝ }
 {
-    let walks = mark_all(w, marks);
-    if walks.bad | walks.shared {
+    let bad = any_bad_ring(w, marks);
+    if bad {
         return false;
     }
     let faulty = any_faulty(w);
@@ -224,10 +240,12 @@ fn is_good(w: &[u32]) -> bool
     none_found(w, &mut marks)
 }
 
-// The tests of a work space that a step, or writing out after steps, is handed: at once, and in their order only where something fails.
-pub fn tests_of(w: &[u32]) -> Verdict
-    requires { ⌜ BLOCK ≤ length (now w) ⌝ }
-    ensures { λ r. ⌜ r ≡ testsOf (now (w .entry)) ⌝ }
+// ---- what a call asks first
+
+// The tests of a work space that is long enough: its counts; its live block and its boxes at once, and in their order only where something fails; then its names.
+pub fn tested(w: &[u32]) -> Verdict
+    requires { ⌜ LENGTH ≤ length (now w) ⌝ }
+    ensures { λ r. ⌜ r ≡ testedOf (now (w .entry)) ⌝ }
 {
     let many = crowded(w);
     if many {
@@ -235,22 +253,12 @@ pub fn tests_of(w: &[u32]) -> Verdict
     }
     let good = is_good(w);
     if good {
-        return Verdict::Passed;
+        return names_tested(w);
     }
-    in_order(w)
-}
-
-// ---- what a call asks first
-
-// The tests of a work space that is long enough: of its live block, then of its names.
-pub fn tested(w: &[u32]) -> Verdict
-    requires { ⌜ LENGTH ≤ length (now w) ⌝ }
-    ensures { λ r. ⌜ r ≡ testedOf (now (w .entry)) ⌝ }
-{
-    let verdict = tests_of(w);
+    let verdict = in_order(w);
     match verdict {
         Verdict::Passed => {
-            return names_tested(w);
+            return last_tested(w);
         }
         Verdict::Refused(r) => {
             return Verdict::Refused(r);

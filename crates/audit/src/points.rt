@@ -13,7 +13,7 @@ ghost use Rattle.audit.specs.Tests.{offTable, noSuch, loose};
 ghost use Rattle.audit.specs.Marks.{Counted, faulty};
 
 // The word of the largest coordinate.
-const FAR: usize = 2 * (Job::COORDINATE as usize);
+pub const FAR: usize = 2 * (Job::COORDINATE as usize);
 
 pub fn off_table(w: &[u32], k: usize) -> bool
     requires { ⌜ BLOCK ≤ length (now w) ⌝ }
@@ -55,9 +55,18 @@ pub fn is_faulty(w: &[u32], m: usize, n: usize, k: usize, a: usize) -> bool
     if m <= a {
         return true;
     }
-    let x = get(w, Col::X, k);
-    let y = get(w, Col::Y, k);
     let r = get(w, Col::Rec, k);
+    if n <= r {
+        return true;
+    }
     let d = get(w, Col::Prev, a);
-    ((FAR < x) | (FAR < y)) | (!(r < n) | !(d == k))
+    if d != k {
+        return true;
+    }
+    let x = get(w, Col::X, k);
+    if FAR < x {
+        return true;
+    }
+    let y = get(w, Col::Y, k);
+    FAR < y
 }

@@ -1,7 +1,6 @@
-// The walks along next from the first points: points are marked, and tested as they are met.
+// The walks along next from the first points, which mark what they reach; and the marked points, by one test.
 use crate::PointTest;
 use crate::point_fails;
-use crate::points::is_faulty;
 use job::Job;
 use store::Col;
 use store::get;
@@ -9,9 +8,10 @@ ghost use mathlib.Core.Path.{_≡_};
 ghost use mathlib.Core.Bool.{_&&_};
 ghost use Prim.Native.Nat.{_≤_};
 ghost use lib.ListN.{length};
+ghost use Rattle.job.specs.Limits as limit;
 ghost use Rattle.store.specs.Field.{BLOCK};
-ghost use Rattle.store.specs.Named.{pointsOf, recordsOf};
-ghost use Rattle.audit.specs.Marks.{Counted, isMarked, AllMarked, MarkedFrom, Tried, fails, anyMarked};
+ghost use Rattle.store.specs.Named.{pointsOf, nextOf};
+ghost use Rattle.audit.specs.Marks.{Counted, isMarked, markFrom, AllMarked, fails, anyMarked};
 
 // Whether a number is a marked point.
 fn is_marked(marks: &[u8], k: usize) -> bool
@@ -23,59 +23,43 @@ fn is_marked(marks: &[u8], k: usize) -> bool
     false
 }
 
-// Marks the points from a on, up to a number that names none of the m points or to a marked one: does one of them fail a test?
-fn mark_from(w: &[u32], marks: &mut [u8], m: usize, n: usize, a: usize) -> bool
-    requires { ⌜ Counted (now w) × (pointsOf (now w) ≤ length (now marks)) × (m ≡ pointsOf (now w)) × (n ≡ recordsOf (now w)) ⌝ }
-    ensures { λ r. ⌜ MarkedFrom (now (w .entry)) (now (marks .entry)) a (now (marks .exit)) r ⌝ }
+// Marks the points from a on, up to a number that names none of the m points or to a marked one.
+fn mark_from(w: &[u32], marks: &mut [u8], m: usize, a: usize)
+    requires { ⌜ Counted (now w) × (pointsOf (now w) ≤ length (now marks)) × (m ≡ pointsOf (now w)) ⌝ }
+    ensures { λ _. ⌜ now (marks .exit) ≡ markFrom limit.POINTS (nextOf (now (w .entry))) (pointsOf (now (w .entry))) (now (marks .entry)) a ⌝ }
 {
-    let mut bad = false;
     let mut p = a;
     let mut left: usize = Job::POINTS;
     while 0 < left {
         if m <= p {
-            return bad;
+            return;
         }
         if marks[p] != 0 {
-            return bad;
+            return;
         }
         marks[p] = 1;
-        let q = get(w, Col::Next, p);
-        let failed = is_faulty(w, m, n, p, q);
-        bad = bad | failed;
-        p = q;
+        p = get(w, Col::Next, p);
         left -= 1;
     }
-    bad
 }
 
-// What the walks from all first points find: whether one was marked from an earlier record's, and whether a point fails a test.
-pub struct Walks {
-    pub shared: bool,
-    pub bad: bool,
-}
-
-// Marks every reached point.
-pub fn mark_all(w: &[u32], marks: &mut [u8]) -> Walks
+// Marks every reached point: was a first point marked from an earlier record's?
+pub fn mark_all(w: &[u32], marks: &mut [u8]) -> bool
     requires { ⌜ Counted (now w) × (pointsOf (now w) ≤ length (now marks)) ⌝ }
-    ensures { λ r. ⌜ AllMarked (now (w .entry)) (now (marks .entry)) (now (marks .exit)) (r .shared) × Tried (now (w .entry)) (now (marks .entry)) (now (marks .exit)) (r .bad) ⌝ }
+    ensures { λ r. ⌜ AllMarked (now (w .entry)) (now (marks .entry)) (now (marks .exit)) r ⌝ }
 {
     let m = get(w, Col::Points, 0);
     let n = get(w, Col::Records, 0);
     let mut shared = false;
-    let mut bad = false;
     let mut i: usize = 0;
     while i < n {
         let a = get(w, Col::First, i);
         let met = is_marked(marks, a);
         shared = shared | met;
-        let failed = mark_from(w, marks, m, n, a);
-        bad = bad | failed;
+        mark_from(w, marks, m, a);
         i += 1;
     }
-    Walks {
-        shared: shared,
-        bad: bad,
-    }
+    shared
 }
 
 // ---- the marked points, by one test

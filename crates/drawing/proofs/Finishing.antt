@@ -22,7 +22,7 @@ use Rattle.finishing.specs.Start.{Start}
 use Rattle.finishing.specs.InOneCall.{Finished, refused, afterWriting, finishOf}
 use Rattle.order.specs.Demand3.{Lone, inTray, lones, AllDoneAfter, RingsFit, RingsNeverEnd}
 use Rattle.order.proofs.Theorem.{F, lones-are, after-list, GoesThrough, where-fits}
-use Rattle.order.proofs.Jobs.{left, goes-out, of-job}
+use Rattle.order.proofs.Jobs.{left, boxes, goes-out, of-job}
 use Rattle.drawing.specs.Renumbered.{RenumberedJob}
 use Rattle.drawing.specs.Same.{SameFinish}
 use Rattle.drawing.proofs.Forests.{SameForest}
@@ -81,7 +81,7 @@ module _ (bytes bytes′ lent w w′ : List ℕ) (e : openOf bytes lent ≡ end 
       (out-alike (runOf w (g .steps)) (runOf w′ (g′ .steps)) (writeOf (runOf w (g .steps)) t .answer) (writeOf (runOf w (g .steps)) t .tray))
 
   both : RingsFit w ⊎ RingsNeverEnd w → RingsFit w′ ⊎ RingsNeverEnd w′ → SameFinish (finishOf bytes lent t) (finishOf bytes′ lent t)
-  both (inl x) (inl y) = through (where-fits w o x) (where-fits w′ o′ y)
+  both (inl x) (inl y) = through (where-fits w o (boxes bytes lent w e) x) (where-fits w′ o′ (boxes bytes′ lent w′ e′) y)
   both (inl x) (inr y) = let g = x .goes-on [] in absurd (y (g .0) (done-too w w′ o o′ f (g .0) (g .1)))
   both (inr x) (inl y) = let g = y .goes-on [] in absurd (x (g .0) (done-too w′ w o′ o (forest-back w w′ f) (g .0) (g .1)))
   both (inr x) (inr y) =

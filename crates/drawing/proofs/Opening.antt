@@ -5,12 +5,12 @@ use mathlib.Core.Bool.{Bool, true, false, cond}
 use mathlib.Core.List.{List}
 use native.Mathlib.Omega.{arith}
 use lib.Dec.{ltb}
-use lib.ListN.{length, drop, replicate, length-append, length-replicate}
+use lib.ListN.{length, replicate}
 use borrow.Author.Tests.{ltb-false}
 use Rattle.job.specs.Limits as limit
 use Rattle.job.specs.declared.Job.{Job}
 use Rattle.job.specs.declared.refusal.Refusal.the-variants as refusal
-use Rattle.store.specs.Field.{BLOCK, KEPT, LENGTH}
+use Rattle.store.specs.Field.{BLOCK, LENGTH}
 use Rattle.store.specs.Words.{view}
 use Rattle.reading.specs.declared.fill.Outcome.the-variants as outcome
 use Rattle.reading.specs.Fill as fill
@@ -28,6 +28,7 @@ use Rattle.converting.proofs.Converting.{JoinsOf, convert-joins}
 use Rattle.opening.specs.declared.open.Opened.the-variants.{Accepted, Refused}
 use Rattle.opening.specs.Start.{startRings}
 use Rattle.opening.specs.Open.{JOIN-POINTS, End, end, afterJoins, afterSegments, afterRows, stagesOf, settled, cleared, openOf}
+use Rattle.opening.proofs.Clearing.{cleared-live}
 use Rattle.opening.proofs.Passing.{converting}
 use Rattle.opening.proofs.Starting.{start-ready}
 use Rattle.drawing.specs.Renumbered.{Renumbered, RenumberedList, RenumberedJob}
@@ -105,4 +106,4 @@ opening-alike {ρ} bytes bytes′ lent j j′ w w′ ss ss′ js js′ p p′ d 
     go false e =
         rw (p, p′)
         (settled-alike (length lent) (afterSegments (convertHorzSegsToJoins w (j .segments) ss js (j .joins))) (afterSegments (convertHorzSegsToJoins w′ (j′ .segments) ss′ js′ (j′ .joins)))
-        (stages (omega (arith, length-append (replicate {A = ℕ} KEPT 0) (drop KEPT lent), length-replicate {A = ℕ} KEPT 0))))
+        (stages (cleared-live lent e)))

@@ -1,12 +1,12 @@
--- In a work space that is longer than it must be, rows 1 to 8 answer the same, and the job has the same drawing: words past the fixed length are neither read nor written.
+-- Rows 1 to 8 and the drawing read a work space by the store that it holds. So a job has the same drawing in every work space that is long enough and holds zeros, whatever stands where no column is.
 use Prim.Native.Nat.{ℕ, zero, suc, _+_, _-_, _*_, _≤_}
 use mathlib.Core.Path.{_≡_, refl, ap, _∙_, sym}
 use mathlib.Core.Bool.{Bool, true, false, cond, not, _&&_, _||_}
-use mathlib.Core.List.{List, [], _∷_, _++_, append-assoc}
-use mathlib.Core.Option.{some}
+use mathlib.Core.List.{List, [], _∷_}
+use mathlib.Core.Option.{Option, some}
 use native.Mathlib.Omega.{arith}
 use lib.Dec.{eqb, leb, ltb}
-use lib.ListN.{length, getD, drop, replicate, length-replicate, replicate-append-replicate}
+use lib.ListN.{length, getD, set, drop, replicate, length-replicate, replicate-append-replicate}
 use Rattle.rings.specs.Count.{table}
 use Rattle.rings.specs.Place.{place, orZero}
 use Rattle.job.specs.Limits as limit
@@ -20,25 +20,27 @@ use Rattle.job.specs.declared.field.Field.the-variants.{Settings, Point, Record
 use Rattle.job.specs.declared.field.Reading.{Reading}
 use Rattle.job.specs.declared.field.Reading.the-variants as reading
 use Rattle.job.proofs.Accepted.{accepted}
-use Rattle.store.specs.Field.{pt, rc, ct, X, Y, Z, NEXT, PREV, REC, FLAGS, OWNER, FIRST, SETTINGS, POINTS, RECORDS, BLOCK, STATES, KEPT}
-use Rattle.store.specs.Words.{Store, view, write}
+use Rattle.store.specs.Field.{pt, rc, ct, X, Y, Z, NEXT, PREV, REC, OWNER, FIRST, SETTINGS, POINTS, RECORDS, BLOCK}
+use Rattle.store.specs.Words.{Store, Write, view, write, onWords}
+use Rattle.store.specs.Stores.{Within, onStore}
 use Rattle.store.specs.Sound.{ringAt, isOpen}
-use Rattle.store.proofs.Storing.{length-writes}
+use Rattle.store.proofs.Storing.{length-writes, view-writes}
 use Rattle.audit.specs.Tests.{isIn, anyBelow, namesNothing}
 use Rattle.audit.specs.declared.Verdict.{Verdict}
 use Rattle.audit.specs.declared.Verdict.the-variants as verdict
 use Rattle.joins.specs.Resolve.{findIn}
 use Rattle.reading.specs.declared.fill.Outcome.the-variants.{Ok, Refused}
-use Rattle.reading.specs.Fill.{ReadEnd, end, recordRead, placed, taken, turnOf, follow, run, fillOf}
+use Rattle.reading.specs.Fill.{ReadEnd, end, recordRead, putJoin, placed, taken, turnOf, follow, run, fillOf}
 use Rattle.reading.specs.Needs.{Room}
-use Rattle.reading.specs.Read.{withCounts, readOf}
+use Rattle.reading.specs.Read.{counted, withCounts, readOf}
 use Rattle.reading.proofs.Placing.{has-room}
 use Rattle.rows.specs.Owners.{endsIn}
 use Rattle.rows.specs.Rings.{anyIn}
 use Rattle.rows.specs.Rows.{rowsOf}
 use Rattle.accepting.specs.Accept.{answer, judged, acceptOf}
-use Rattle.acts.proofs.Beyond.{view-more, writes-more}
+use Rattle.acts.proofs.Beyond.{view-more}
 use Rattle.opening.specs.Open.{JOIN-POINTS, cleared}
+use Rattle.opening.proofs.Clearing.{view-cleared}
 use Rattle.drawing.specs.Drawing.{Drawing, drawnAt, drawingOf, drawnFrom, drawingIn}
 
 -- ---- rows 4 to 8 and the drawing, by the store
@@ -74,107 +76,85 @@ drawing-is : (w ss : List ℕ) (m : ℕ) (js : List ℕ) (n : ℕ) → drawingOf
 unfolding drawingOf
 drawing-is w ss m js n = refl
 
--- ---- m: what follows a work space that is long enough
+-- ---- words that hold the same store
 
-module _ (m : List ℕ) where
-  abbrev longer : ReadEnd → ReadEnd
-  longer (end o w ss js) = end o (w ++ m) ss js
+record Same (w w′ : List ℕ) : Type 0 where
+  long : BLOCK ≤ length w
+  long′ : BLOCK ≤ length w′
+  store : view w ≡ view w′
 
-  abbrev Long : ReadEnd → Type 0
-  Long (end o w ss js) = BLOCK ≤ length w
+same-writes : (w w′ : List ℕ) → Same w w′ → (xs : List Write) → Within xs → Same (onWords w xs) (onWords w′ xs)
+same-writes w w′ s xs h =
+    record {
+      long = omega (arith, s .long, length-writes w xs);
+      long′ = omega (arith, s .long′, length-writes w′ xs);
+      store = view-writes w xs (s .long) h ∙ ap (λ (z : Store). onStore z xs) (s .store) ∙ sym (view-writes w′ xs (s .long′) h);
+    }
 
-  record More (T T′ : ReadEnd) : Type 0 where
-    is : T′ ≡ longer T
-    long : Long T
+-- the drawing of a job that was read
+abbrev drawn : ReadEnd → Option Drawing
+drawn T = drawnFrom (judged (withCounts T))
 
-  -- a field goes to a word of its column
-  placed-more : (j : Job) (w ss js : List ℕ) → BLOCK ≤ length w → (f : job.Field) (n : ℕ) → Room f j → More (placed f n j w ss js) (placed f n j (w ++ m) ss js)
-  placed-more j w ss js l (Settings b) n h = record { is = refl; long = l }
-  placed-more j w ss js l (Point x y nx pv r z) n h =
-      let xs = write (pt X) (j .points) x ∷ write (pt Y) (j .points) y ∷ write (pt NEXT) (j .points) nx ∷ write (pt PREV) (j .points) pv ∷ write (pt REC) (j .points) r ∷ write (pt Z) (j .points) z ∷ [] in
-      record { is = ap (λ (v : List ℕ). end (Ok (past (Point x y nx pv r z) n j)) v ss js) (writes-more m w l xs (h, (h, (h, (h, (h, (h, tt))))))); long = omega (arith, length-writes w xs) }
-  placed-more j w ss js l (Record f o p) n h =
-      let xs = recordRead (j .records) f o p in
-      record { is = ap (λ (v : List ℕ). end (Ok (past (Record f o p) n j)) v ss js) (writes-more m w l xs (h, (h, (h, (h, tt))))); long = omega (arith, length-writes w xs) }
-  placed-more j w ss js l (Segment p) n h = record { is = refl; long = l }
-  placed-more j w ss js l (Join a b) n h = record { is = refl; long = l }
+ended : (j : Job) (w w′ ss js : List ℕ) → Same w w′ → drawn (end (Ok j) w ss js) ≡ drawn (end (Ok j) w′ ss js)
+ended j w w′ ss js s =
+    ap (λ (v : Verdict). drawnFrom (end (answer v j) (counted j w) ss js)) (rows-are (counted j w) ss (j .segments) js (j .joins) ∙ ap (λ (z : Store). rowsIn z ss (j .segments) js (j .joins)) e ∙ sym (rows-are (counted j w′) ss (j .segments) js (j .joins)))
+    ∙ by (rowsOf (counted j w′) ss (j .segments) js (j .joins))
+  where
+    e : view (counted j w) ≡ view (counted j w′)
+    e = same-writes w w′ s (write (ct SETTINGS) 0 (j .bits) ∷ write (ct POINTS) 0 (j .points) ∷ write (ct RECORDS) 0 (j .records) ∷ []) (omega arith, (omega arith, (omega arith, tt))) .store
 
-  turn-more : (bytes : List ℕ) (j : Job) (w ss js : List ℕ) → BLOCK ≤ length w → More (turnOf bytes j w ss js) (turnOf bytes j (w ++ m) ss js)
-  unfolding turnOf
-  turn-more bytes j w ss js l = go (fieldOf j (drop (j .at) bytes)) refl
-    where
-      go : (r : Reading) → fieldOf j (drop (j .at) bytes) ≡ r → More (taken r j w ss js) (taken r j (w ++ m) ss js)
-      go (reading.Read f n) e = placed-more j w ss js l f n (has-room j (drop (j .at) bytes) f n (accepted j (drop (j .at) bytes) f n e))
-      go (reading.Refused x) e = record { is = refl; long = l }
+    by : (v : Verdict) → drawnFrom (end (answer v j) (counted j w) ss js) ≡ drawnFrom (end (answer v j) (counted j w′) ss js)
+    by verdict.Passed =
+        ap some (drawing-is (counted j w) ss (j .segments) js (j .joins) ∙ ap (λ (z : Store). drawingBy z ss (j .segments) js (j .joins)) e ∙ sym (drawing-is (counted j w′) ss (j .segments) js (j .joins)))
+    by (verdict.Refused x) = refl
 
-  run-more : (k : ℕ) (bytes : List ℕ) (j : Job) (w ss js : List ℕ) → BLOCK ≤ length w → More (run k bytes j w ss js) (run k bytes j (w ++ m) ss js)
-  unfolding run
-  run-more zero bytes j w ss js l = record { is = refl; long = l }
-  run-more (suc k) bytes j w ss js l =
-      by (ltb (j .at) (length bytes)) (turnOf bytes j w ss js) (turnOf bytes j (w ++ m) ss js) (turn-more bytes j w ss js l) (λ i u us ls h. run-more k bytes i u us ls h)
-    where
-      on : (T : ReadEnd) → Long T → ((i : Job) (u us ls : List ℕ) → BLOCK ≤ length u → More (run k bytes i u us ls) (run k bytes i (u ++ m) us ls)) → More (follow (run k bytes) T) (follow (run k bytes) (longer T))
-      on (end (Ok i) u us ls) h f = f i u us ls h
-      on (end (Refused x) u us ls) h f = record { is = refl; long = h }
+-- a field goes to the same place of either
+run-same : (k : ℕ) (bytes : List ℕ) (j : Job) (w w′ ss js : List ℕ) → Same w w′ → drawn (run k bytes j w ss js) ≡ drawn (run k bytes j w′ ss js)
+unfolding run turnOf
+run-same zero bytes j w w′ ss js s = refl
+run-same (suc k) bytes j w w′ ss js s = by (ltb (j .at) (length bytes)) (fieldOf j (drop (j .at) bytes)) refl (λ i u u′ us ls t. run-same k bytes i u u′ us ls t)
+  where
+    placed-same : (f : job.Field) (n : ℕ) → Room f j → ((i : Job) (u u′ us ls : List ℕ) → Same u u′ → drawn (run k bytes i u us ls) ≡ drawn (run k bytes i u′ us ls))
+        → drawn (follow (run k bytes) (placed f n j w ss js)) ≡ drawn (follow (run k bytes) (placed f n j w′ ss js))
+    placed-same (Settings b) n h r = r (past (Settings b) n j) w w′ ss js s
+    placed-same (Point x y nx pv rec z) n h r =
+        let xs = write (pt X) (j .points) x ∷ write (pt Y) (j .points) y ∷ write (pt NEXT) (j .points) nx ∷ write (pt PREV) (j .points) pv ∷ write (pt REC) (j .points) rec ∷ write (pt Z) (j .points) z ∷ [] in
+        r (past (Point x y nx pv rec z) n j) (onWords w xs) (onWords w′ xs) ss js (same-writes w w′ s xs (h, (h, (h, (h, (h, (h, tt)))))))
+    placed-same (Record f o p) n h r =
+        let xs = recordRead (j .records) f o p in
+        r (past (Record f o p) n j) (onWords w xs) (onWords w′ xs) ss js (same-writes w w′ s xs (h, (h, (h, (h, tt)))))
+    placed-same (Segment p) n h r = r (past (Segment p) n j) w w′ (set ss (j .segments) p) js s
+    placed-same (Join a b) n h r = r (past (Join a b) n j) w w′ ss (putJoin (j .joins) a b js) s
 
-      by : (b : Bool) (T T′ : ReadEnd) → More T T′ → ((i : Job) (u us ls : List ℕ) → BLOCK ≤ length u → More (run k bytes i u us ls) (run k bytes i (u ++ m) us ls))
-          → More (cond b (follow (run k bytes) T) (end (Ok j) w ss js)) (cond b (follow (run k bytes) T′) (end (Ok j) (w ++ m) ss js))
-      by true T T′ h f = rw (h .is) (on T (h .long) f)
-      by false T T′ h f = record { is = refl; long = l }
+    by : (b : Bool) (m : Reading) → fieldOf j (drop (j .at) bytes) ≡ m → ((i : Job) (u u′ us ls : List ℕ) → Same u u′ → drawn (run k bytes i u us ls) ≡ drawn (run k bytes i u′ us ls))
+        → drawn (cond b (follow (run k bytes) (taken m j w ss js)) (end (Ok j) w ss js)) ≡ drawn (cond b (follow (run k bytes) (taken m j w′ ss js)) (end (Ok j) w′ ss js))
+    by true (reading.Read f n) e r = placed-same f n (has-room j (drop (j .at) bytes) f n (accepted j (drop (j .at) bytes) f n e)) r
+    by true (reading.Refused x) e r = refl
+    by false m e r = ended j w w′ ss js s
 
-  fill-more : (bytes w ss js : List ℕ) → BLOCK ≤ length w → More (fillOf bytes w ss js) (fillOf bytes (w ++ m) ss js)
-  unfolding fillOf
-  fill-more bytes w ss js l = by (eqb (length bytes) 0)
-    where
-      by : (b : Bool) → More (cond b (end (Refused Strange) w ss js) (run (suc (length bytes)) bytes fresh w ss js)) (cond b (end (Refused Strange) (w ++ m) ss js) (run (suc (length bytes)) bytes fresh (w ++ m) ss js))
-      by true = record { is = refl; long = l }
-      by false = run-more (suc (length bytes)) bytes fresh w ss js l
+same-drawing : (bytes w w′ ss js : List ℕ) → Same w w′ → drawnFrom (acceptOf bytes w ss js) ≡ drawnFrom (acceptOf bytes w′ ss js)
+unfolding acceptOf readOf fillOf
+same-drawing bytes w w′ ss js s = by (eqb (length bytes) 0)
+  where
+    by : (b : Bool) → drawn (cond b (end (Refused Strange) w ss js) (run (suc (length bytes)) bytes fresh w ss js)) ≡ drawn (cond b (end (Refused Strange) w′ ss js) (run (suc (length bytes)) bytes fresh w′ ss js))
+    by true = refl
+    by false = run-same (suc (length bytes)) bytes fresh w w′ ss js s
 
-  read-more : (bytes w ss js : List ℕ) → BLOCK ≤ length w → More (readOf bytes w ss js) (readOf bytes (w ++ m) ss js)
-  unfolding readOf
-  read-more bytes w ss js l = let h = fill-more bytes w ss js l in rw (h .is) (go (fillOf bytes w ss js) (h .long))
-    where
-      go : (T : ReadEnd) → Long T → More (withCounts T) (withCounts (longer T))
-      go (end (Ok j) u us ls) h =
-          let xs = write (ct SETTINGS) 0 (j .bits) ∷ write (ct POINTS) 0 (j .points) ∷ write (ct RECORDS) 0 (j .records) ∷ [] in
-          record { is = ap (λ (v : List ℕ). end (Ok j) v us ls) (writes-more m u h xs (omega arith, (omega arith, (omega arith, tt)))); long = omega (arith, length-writes u xs) }
-      go (end (Refused x) u us ls) h = record { is = refl; long = h }
+-- ---- the drawing is the same in every work space that is long enough, and holds the store of zeros
 
-  rows-more : (w ss : List ℕ) (k : ℕ) (js : List ℕ) (n : ℕ) → BLOCK ≤ length w → rowsOf (w ++ m) ss k js n ≡ rowsOf w ss k js n
-  rows-more w ss k js n l = rows-are (w ++ m) ss k js n ∙ ap (λ (s : Store). rowsIn s ss k js n) (view-more m w l) ∙ sym (rows-are w ss k js n)
-
-  drawing-more : (w ss : List ℕ) (k : ℕ) (js : List ℕ) (n : ℕ) → BLOCK ≤ length w → drawingOf (w ++ m) ss k js n ≡ drawingOf w ss k js n
-  drawing-more w ss k js n l = drawing-is (w ++ m) ss k js n ∙ ap (λ (s : Store). drawingBy s ss k js n) (view-more m w l) ∙ sym (drawing-is w ss k js n)
-
-  accept-more : (bytes w ss js : List ℕ) → BLOCK ≤ length w → More (acceptOf bytes w ss js) (acceptOf bytes (w ++ m) ss js)
-  unfolding acceptOf
-  accept-more bytes w ss js l = let h = read-more bytes w ss js l in rw (h .is) (go (readOf bytes w ss js) (h .long))
-    where
-      go : (T : ReadEnd) → Long T → More (judged T) (judged (longer T))
-      go (end (Ok j) u us ls) h = record { is = ap (λ (v : Verdict). end (answer v j) (u ++ m) us ls) (rows-more u us (j .segments) ls (j .joins) h); long = h }
-      go (end (Refused x) u us ls) h = record { is = refl; long = h }
-
-  drawn-more : (bytes w ss js : List ℕ) → BLOCK ≤ length w → drawnFrom (acceptOf bytes (w ++ m) ss js) ≡ drawnFrom (acceptOf bytes w ss js)
-  drawn-more bytes w ss js l = let h = accept-more bytes w ss js l in ap drawnFrom (h .is) ∙ go (acceptOf bytes w ss js) (h .long)
-    where
-      go : (T : ReadEnd) → Long T → drawnFrom (longer T) ≡ drawnFrom T
-      go (end (Ok j) u us ls) h = ap some (drawing-more u us (j .segments) ls (j .joins) h)
-      go (end (Refused x) u us ls) h = refl
-
--- the drawing is the same in every work space that is long enough
-pub any-space : (bytes : List ℕ) (n : ℕ) → BLOCK ≤ n → drawnFrom (acceptOf bytes (replicate n 0) (replicate limit.SEGMENTS 0) (replicate JOIN-POINTS 0)) ≡ drawingIn bytes
+by-store : (bytes w : List ℕ) → BLOCK ≤ length w → view w ≡ view (replicate BLOCK 0) → drawnFrom (acceptOf bytes w (replicate limit.SEGMENTS 0) (replicate JOIN-POINTS 0)) ≡ drawingIn bytes
 unfolding drawingIn
+by-store bytes w l e =
+    same-drawing bytes w (replicate BLOCK 0) (replicate limit.SEGMENTS 0) (replicate JOIN-POINTS 0) (record { long = l; long′ = omega (arith, length-replicate {A = ℕ} BLOCK 0); store = e })
+
+pub any-space : (bytes : List ℕ) (n : ℕ) → BLOCK ≤ n → drawnFrom (acceptOf bytes (replicate n 0) (replicate limit.SEGMENTS 0) (replicate JOIN-POINTS 0)) ≡ drawingIn bytes
 any-space bytes n h =
-    ap (λ (w : List ℕ). drawnFrom (acceptOf bytes w (replicate limit.SEGMENTS 0) (replicate JOIN-POINTS 0))) (ap (λ (k : ℕ). replicate k 0) split ∙ sym (replicate-append-replicate BLOCK (n - BLOCK) 0))
-    ∙ drawn-more (replicate (n - BLOCK) 0) bytes (replicate BLOCK 0) (replicate limit.SEGMENTS 0) (replicate JOIN-POINTS 0) (omega (arith, length-replicate {A = ℕ} BLOCK 0))
+    by-store bytes (replicate n 0) (omega (arith, length-replicate {A = ℕ} n 0))
+    (ap (λ (k : ℕ). view (replicate k 0)) split ∙ ap view (sym (replicate-append-replicate {A = ℕ} BLOCK (n - BLOCK) 0)) ∙ view-more (replicate (n - BLOCK) 0) (replicate BLOCK 0) (omega (arith, length-replicate {A = ℕ} BLOCK 0)))
   where
     split : n ≡ BLOCK + (n - BLOCK)
     split = omega arith
 
--- and in the work space that opening has cleared
-pub any-cleared : (bytes lent : List ℕ) → drawnFrom (acceptOf bytes (cleared lent) (replicate limit.SEGMENTS 0) (replicate JOIN-POINTS 0)) ≡ drawingIn bytes
-unfolding drawingIn
-any-cleared bytes lent =
-    ap (λ (w : List ℕ). drawnFrom (acceptOf bytes w (replicate limit.SEGMENTS 0) (replicate JOIN-POINTS 0)))
-    (ap (λ (z : List ℕ). z ++ drop KEPT lent) (sym (replicate-append-replicate {A = ℕ} BLOCK STATES 0)) ∙ append-assoc (replicate BLOCK 0) (replicate STATES 0) (drop KEPT lent))
-    ∙ drawn-more (replicate STATES 0 ++ drop KEPT lent) bytes (replicate BLOCK 0) (replicate limit.SEGMENTS 0) (replicate JOIN-POINTS 0) (omega (arith, length-replicate {A = ℕ} BLOCK 0))
+-- so in the one that opening has cleared
+pub any-cleared : (bytes lent : List ℕ) → BLOCK ≤ length (cleared lent) → drawnFrom (acceptOf bytes (cleared lent) (replicate limit.SEGMENTS 0) (replicate JOIN-POINTS 0)) ≡ drawingIn bytes
+any-cleared bytes lent l = by-store bytes (cleared lent) l (view-cleared lent)

@@ -6,16 +6,17 @@ use mathlib.Core.List.{List}
 use mathlib.Core.Option.{some}
 use native.Mathlib.Omega.{arith}
 use lib.Dec.{ltb}
-use lib.ListN.{length, drop, replicate, length-append, length-replicate}
+use lib.ListN.{length, replicate}
 use Rattle.job.specs.Limits as limit
 use Rattle.job.specs.declared.Job.{Job}
 use Rattle.job.specs.declared.refusal.Refusal.the-variants as refusal
-use Rattle.store.specs.Field.{BLOCK, KEPT, LENGTH}
+use Rattle.store.specs.Field.{BLOCK, LENGTH}
 use Rattle.reading.specs.declared.fill.Outcome.the-variants as outcome
 use Rattle.reading.specs.Fill as fill
 use Rattle.accepting.specs.Accept.{acceptOf}
 use Rattle.opening.specs.declared.open.Opened.the-variants.{Refused}
 use Rattle.opening.specs.Open.{JOIN-POINTS, end, cleared, openOf}
+use Rattle.opening.proofs.Clearing.{cleared-live}
 use Rattle.opening.proofs.Passing.{converting}
 use Rattle.finishing.specs.InOneCall.{finishOf}
 use Rattle.drawing.specs.Drawing.{Drawing, drawingOf, drawnFrom, drawingIn}
@@ -32,21 +33,20 @@ short-open bytes lent e = rw e
 
 module _ (bytes bytes′ lent t : List ℕ) where
   -- as rows 1 to 8 leave them
-  read-finish : (j j′ : Job) (w w′ ss ss′ js js′ : List ℕ) → acceptedAs bytes lent j w ss js → acceptedAs bytes′ lent j′ w′ ss′ js′
+  read-finish : BLOCK ≤ length (cleared lent) → (j j′ : Job) (w w′ ss ss′ js js′ : List ℕ) → acceptedAs bytes lent j w ss js → acceptedAs bytes′ lent j′ w′ ss′ js′
       → drawingOf w′ ss′ (j′ .segments) js′ (j′ .joins) ≡ drawingOf w ss (j .segments) js (j .joins) → SameFinish (finishOf bytes lent t) (finishOf bytes′ lent t)
-  read-finish j j′ w w′ ss ss′ js js′ p p′ e =
-      let l : BLOCK ≤ length (cleared lent) = omega (arith, length-append (replicate {A = ℕ} KEPT 0) (drop KEPT lent), length-replicate {A = ℕ} KEPT 0) in
+  read-finish l j j′ w w′ ss ss′ js js′ p p′ e =
       finishing-alike bytes bytes′ lent t j j′ w w′ ss ss′ js js′ p p′
       (drawing-alike j j′ w w′ ss ss′ js js′ (converting bytes (cleared lent) w ss js j l p) (converting bytes′ (cleared lent) w′ ss′ js′ j′ l p′) e)
 
-  long-finish : (d : Drawing) → drawingIn bytes ≡ some d → drawingIn bytes′ ≡ some d → SameFinish (finishOf bytes lent t) (finishOf bytes′ lent t)
-  long-finish d e e′ =
+  long-finish : BLOCK ≤ length (cleared lent) → (d : Drawing) → drawingIn bytes ≡ some d → drawingIn bytes′ ≡ some d → SameFinish (finishOf bytes lent t) (finishOf bytes′ lent t)
+  long-finish l d e e′ =
       go (acceptOf bytes (cleared lent) (replicate limit.SEGMENTS 0) (replicate JOIN-POINTS 0)) (acceptOf bytes′ (cleared lent) (replicate limit.SEGMENTS 0) (replicate JOIN-POINTS 0)) refl refl
-      (any-cleared bytes lent ∙ e) (any-cleared bytes′ lent ∙ e′)
+      (any-cleared bytes lent l ∙ e) (any-cleared bytes′ lent l ∙ e′)
     where
       go : (z z′ : fill.ReadEnd) → acceptOf bytes (cleared lent) (replicate limit.SEGMENTS 0) (replicate JOIN-POINTS 0) ≡ z → acceptOf bytes′ (cleared lent) (replicate limit.SEGMENTS 0) (replicate JOIN-POINTS 0) ≡ z′
           → drawnFrom z ≡ some d → drawnFrom z′ ≡ some d → SameFinish (finishOf bytes lent t) (finishOf bytes′ lent t)
-      go (fill.end (outcome.Ok j) w ss js) (fill.end (outcome.Ok j′) w′ ss′ js′) p p′ f f′ = read-finish j j′ w w′ ss ss′ js js′ p p′ (cc)
+      go (fill.end (outcome.Ok j) w ss js) (fill.end (outcome.Ok j′) w′ ss′ js′) p p′ f f′ = read-finish l j j′ w w′ ss ss′ js js′ p p′ (cc)
       go (fill.end (outcome.Ok j) w ss js) (fill.end (outcome.Refused x) w′ ss′ js′) p p′ f f′ = absurd (let z : _≡_ {A = ℕ} 0 1 = cc in omega arith)
       go (fill.end (outcome.Refused x) w ss js) z′ p p′ f f′ = absurd (let z : _≡_ {A = ℕ} 0 1 = cc in omega arith)
 
@@ -55,4 +55,4 @@ module _ (bytes bytes′ lent t : List ℕ) where
     where
       go : (b : Bool) → ltb (length lent) LENGTH ≡ b → SameFinish (finishOf bytes lent t) (finishOf bytes′ lent t)
       go true h = opened-finish bytes bytes′ lent t (end (Refused refusal.Full) (replicate (length lent) 0)) (end (Refused refusal.Full) (replicate (length lent) 0)) (short-open bytes lent h) (short-open bytes′ lent h) refl
-      go false h = long-finish d e e′
+      go false h = long-finish (cleared-live lent h) d e e′

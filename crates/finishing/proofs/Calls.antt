@@ -5,15 +5,13 @@ use mathlib.Core.Bool.{Bool, true, false}
 use mathlib.Core.List.{List}
 use Rattle.job.specs.declared.refusal.Refusal.{Refusal}
 use Rattle.job.specs.declared.refusal.Refusal.the-variants.{Full, OutOfTurn}
-use Rattle.lone.specs.Forest.{Answer}
 use Rattle.store.specs.Words.{view}
 use Rattle.store.specs.Good.{SoundWords}
 use Rattle.audit.specs.declared.Verdict.{Verdict}
 use Rattle.audit.specs.declared.Verdict.the-variants as verdict
-use Rattle.audit.specs.Handed.{handedOf}
-use Rattle.audit.proofs.Handing.{handed-sound}
-use Rattle.acts.specs.Run as acts
-use Rattle.acts.specs.Step.{outcome, answerS, stepW}
+use Rattle.audit.specs.Handed.{handedOf, Usable}
+use Rattle.audit.proofs.Handing.{handed-sound, handed-usable}
+use Rattle.acts.specs.Step.{outcome, answerS}
 use Rattle.turns.specs.Form.{raised, geometryOf}
 use Rattle.steps.specs.declared.Answer as code
 use Rattle.steps.specs.declared.Answer.the-variants as answers
@@ -25,6 +23,7 @@ use Rattle.paths.specs.Wrote.{wrote, buildPaths64}
 use Rattle.audit.specs.declared.Reply.{Reply}
 use Rattle.audit.specs.declared.Reply.the-variants.{Refused}
 use Rattle.audit.specs.Left.{left}
+use Rattle.boxed_steps.specs.Leaves.{stepLeaves, boxedStep}
 use Rattle.finishing.specs.Step.{steppedAs, stepBy, stepOf}
 use Rattle.finishing.specs.Write.{writeBy, writeOf}
 use Rattle.finishing.proofs.Entering.{handed-step, handed-write}
@@ -33,6 +32,9 @@ use Rattle.finishing.proofs.Entering.{handed-step, handed-write}
 
 pub tested : (w : List ℕ) (v : Verdict) → v ≡ handedOf w → v ≡ verdict.Passed → SoundWords w
 tested w v e p = handed-sound w (sym e ∙ p)
+
+pub usable : (w : List ℕ) (v : Verdict) → v ≡ handedOf w → v ≡ verdict.Passed → Usable w
+usable w v e p = handed-usable w (sym e ∙ p)
 
 -- ---- a step
 
@@ -50,12 +52,15 @@ module _ (w : List ℕ) (i : ℕ) where
   step-passed v r w′ e p h = h ∙ sym (handed-step w i verdict.Passed (sym e ∙ p))
 
   -- the answer by the code's name
-  pub step-carried : (a : code.Answer) (r : Reply) (w′ : List ℕ) → outcome (answerIs a) w′ ≡ acts.stepWords (geometryOf (view w)) raised w i → r ≡ steppedAs (answerIs a) → left r w′ ≡ stepBy verdict.Passed w i
-  unfolding acts.stepWords
-  step-carried a r w′ h e =
-      let p : answerIs a ≡ answerS (geometryOf (view w)) raised (view w) i = cc in
-      let q : w′ ≡ stepW (geometryOf (view w)) raised w i = cc in
-      ap (λ (z : Reply). left z w′) (e ∙ ap steppedAs p) ∙ ap (left (steppedAs (answerS (geometryOf (view w)) raised (view w) i))) q
+  pub step-said : (a : code.Answer) (r : Reply) (w′ : List ℕ) → outcome (answerIs a) w′ ≡ boxedStep w i → r ≡ steppedAs (answerIs a) → left r w′ ≡ stepBy verdict.Passed w i
+  unfolding boxedStep
+  step-said a r w′ h e = ap (λ (x : Reply). left x w′) e ∙ said
+    where
+      said : left (steppedAs (answerIs a)) w′ ≡ stepBy verdict.Passed w i
+      said =
+          let x : answerIs a ≡ answerS (geometryOf (view w)) raised (view w) i = cc in
+          let y : w′ ≡ stepLeaves (answerS (geometryOf (view w)) raised (view w) i) w i = cc in
+          rw (x, y)
 
 -- ---- writing out
 

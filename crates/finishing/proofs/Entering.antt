@@ -4,16 +4,15 @@ use mathlib.Core.Path.{_≡_, refl, ap}
 use mathlib.Core.List.{List}
 use native.Mathlib.Omega.{arith}
 use Rattle.job.specs.declared.refusal.Refusal.{Refusal}
-use Rattle.lone.specs.Lone.{Geo}
 use Rattle.lone.specs.Forest.{Answer, ok, full, outOfTurn}
-use Rattle.geometry.specs.declared.Point.{Point}
 use Rattle.store.specs.Words.{view}
 use Rattle.audit.specs.declared.Verdict.{Verdict}
 use Rattle.audit.specs.declared.Verdict.the-variants as verdict
 use Rattle.audit.specs.Handed.{handedOf}
-use Rattle.acts.specs.Step.{answerS, stepByW, stepW}
+use Rattle.acts.specs.Step.{answerS}
 use Rattle.turns.specs.Form.{raised, geometryOf}
 use Rattle.audit.specs.declared.Reply.the-variants.{Refused}
+use Rattle.boxed_steps.specs.Leaves.{stepLeaves}
 use Rattle.finishing.specs.Step.{steppedAs, stepBy, stepOf}
 use Rattle.finishing.specs.Write.{writeBy, writeOf}
 
@@ -26,14 +25,10 @@ unfolding writeOf
 handed-write w t v e = ap (λ (u : Verdict). writeBy u w t) e
 
 -- refused with 12 or with 10, a step on words leaves them
-refused-words : (G : Geo Point) (w : List ℕ) (i : ℕ) (x : Refusal) → steppedAs (answerS G raised (view w) i) ≡ Refused x → stepW G raised w i ≡ w
-unfolding stepW
-refused-words G w i x e = go (answerS G raised (view w) i) e
-  where
-    go : (a : Answer) → steppedAs a ≡ Refused x → stepByW G raised w i a ≡ w
-    go ok h = let z : _≡_ {A = ℕ} 0 1 = cc in absurd (omega arith)
-    go full h = refl
-    go outOfTurn h = refl
+refused-words : (w : List ℕ) (i : ℕ) (x : Refusal) (a : Answer) → steppedAs a ≡ Refused x → stepLeaves a w i ≡ w
+refused-words w i x ok h = let z : _≡_ {A = ℕ} 0 1 = cc in absurd (omega arith)
+refused-words w i x full h = refl
+refused-words w i x outOfTurn h = refl
 
 -- a refused step leaves every word, on every input
 pub refused-leaves : (w : List ℕ) (i : ℕ) (x : Refusal) → stepOf w i .answer ≡ Refused x → stepOf w i .words ≡ w
@@ -42,4 +37,4 @@ refused-leaves w i x e = go (handedOf w) e
   where
     go : (v : Verdict) → stepBy v w i .answer ≡ Refused x → stepBy v w i .words ≡ w
     go (verdict.Refused r) h = refl
-    go verdict.Passed h = refused-words (geometryOf (view w)) w i x h
+    go verdict.Passed h = refused-words w i x (answerS (geometryOf (view w)) raised (view w) i) h

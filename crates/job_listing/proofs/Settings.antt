@@ -14,8 +14,10 @@ use Rattle.lone.specs.Act.{Act, stay, discard, dropPoint, moveOn, toFirst, doub
 use Rattle.lone.specs.Lone.{Geo}
 use Rattle.lone.specs.Forest.{Answer, ok, full, outOfTurn}
 use Rattle.lone.specs.Rounds.{enough}
-use Rattle.store.specs.Field.{Field, pt, REC, NONE, base, BLOCK}
-use Rattle.store.specs.Words.{Write, view, cell, put, onWords}
+use Rattle.store.specs.Field.{Field, pt, ct, REC, SETTINGS, NONE, base, BLOCK}
+use Rattle.store.specs.Words.{Store, Write, view, cell, put, onWords}
+use Rattle.store.specs.Boxes.{allBoxed}
+use Rattle.bounds.proofs.Beside.{view-all}
 use Rattle.store.specs.Named.{settingsOf, pointsOf, recordsOf, nextOf, recOf, firstOf, setRec}
 use Rattle.store.specs.Value.{reverseSolution}
 use Rattle.store.specs.Sound.{ringAt}
@@ -45,7 +47,7 @@ use Rattle.turns.specs.Form.{raised, geometryOf}
 use Rattle.paths.specs.declared.Written.{Written}
 use Rattle.paths.specs.declared.Written.the-variants.{Paths, Refused}
 use Rattle.paths.specs.Wrote.{buildPaths64}
-use Rattle.finishing.specs.Finish.{finishRings}
+use Rattle.finishing.specs.Finish.{thenBoxed, finishRings}
 use Rattle.finishing.specs.InOneCall.{Finished, afterWriting, afterSteps, afterOpening, finishOf}
 use Rattle.job_listing.specs.Cutlist.{pathsAt, listedAs, cutlistOf}
 use Rattle.job_listing.specs.Setting.{settingsIn, reverseIn, JobsSetting}
@@ -227,6 +229,9 @@ module _ (x : ℕ) where
   has-started zero w h = h
   has-started (suc i) w h = has-writes (startTo i w) (startWrites i (firstOf (startTo i w) i)) (omega arith, (omega arith, (omega arith, (omega arith, tt)))) (has-started i w h)
 
+  has-boxes : (w : List ℕ) → Has w → Has (allBoxed w)
+  has-boxes w h = ap (λ (s : Store). s (ct SETTINGS) 0) (view-all w) ∙ h
+
   -- ---- stage by stage
 
   abbrev HasEnd : End → Type 0
@@ -234,7 +239,7 @@ module _ (x : ℕ) where
 
   has-afterjoins : (t : join.JoinEnd) → HasJoin t → HasEnd (afterJoins t)
   unfolding startRings
-  has-afterjoins (join.end joined.Done u) h = has-started (recordsOf u) u h
+  has-afterjoins (join.end joined.Done u) h = has-boxes (startTo (recordsOf u) u) (has-started (recordsOf u) u h)
   has-afterjoins (join.end joined.Knot u) h = h
   has-afterjoins (join.end joined.Full u) h = h
 
@@ -340,9 +345,9 @@ module _ (x : ℕ) where
   unfolding finishRings finishW
   has-finished w h = go (finishFromW (geometryOf (view w)) raised limit.RECORDS w 0) (has-rings (geometryOf (view w)) raised limit.RECORDS w 0 h)
     where
-      go : (r : RingsEnd) → HasRings (geometryOf (view w)) raised r → HasDone r
-      go (ringsDone u) g = g
-      go (ringsFull u) g = g
+      go : (r : RingsEnd) → HasRings (geometryOf (view w)) raised r → HasDone (thenBoxed r)
+      go (ringsDone u) g = has-boxes u g
+      go (ringsFull u) g = has-boxes u g
 
 -- ---- of a job
 

@@ -23,6 +23,7 @@ use Rattle.opening.specs.Open.{end, openOf}
 use Rattle.opening.specs.After.{AfterOpening}
 use Rattle.opening.proofs.Accepted.{after-opening}
 use Rattle.finishing.specs.Start.{Start}
+use Rattle.finishing.proofs.Starting.{start-usable}
 use Rattle.finishing.proofs.InOneCall.{opening-left}
 use Rattle.audit.specs.declared.Reply.the-variants.{Done}
 use Rattle.audit.specs.Left.{Left, left}
@@ -57,7 +58,7 @@ module _ (w : List ℕ) (a : AfterOpening w) where
   none-stepped = all-none (recs (view w)) (isStepped (view w)) fresh-record
 
 passes : (w : List ℕ) → Start w → testedOf w ≡ Passed
-passes w o = says-tested w (testedOf w) (o .long) refl ∙ usable-handed w (record { long = o .long; sound = o .sound; apart = o .apart })
+passes w o = says-tested w (testedOf w) (o .long) refl ∙ usable-handed w (start-usable w o)
 
 module _ (bytes bytes′ lent lent′ w v : List ℕ) (e : openOf bytes lent ≡ end Accepted w) (f : openOf bytes′ lent′ ≡ end Accepted v) (s : settingsByte (view w) ≡ settingsByte (view v)) (fit : BothFit (view w) (view v)) where
   pub jobs-together : layOf w v ≡ left Done (pooledWords w v)

@@ -7,20 +7,19 @@ use native.Mathlib.Nat.{add-zero, add-suc, zero-add, suc-add}
 use native.Mathlib.Omega.{arith}
 use native.Mathlib.Decide.{decLt}
 use lib.Dec.{eqb}
-use Rattle.rings.specs.Count.{occ, table}
+use Rattle.rings.specs.Count.{table}
 use Rattle.rings.specs.Progress.{Ring, atStart}
-use Rattle.rings.proofs.Counting.{one-here}
 use Rattle.lone.specs.Forest.{Fed, leftRingless, leftOpen, leftClosed}
-use Rattle.store.specs.Field.{rc, pt, X, Y, Z, FLAGS, FIRST, MARK, CUT}
+use Rattle.store.specs.Field.{rc, FLAGS, FIRST, MARK, CUT}
 use Rattle.job.specs.Limits.{NONE}
 use Rattle.store.specs.Words.{Store}
-use Rattle.store.specs.Sound.{pts, recs, ringless, ringAt, isOpen}
+use Rattle.store.specs.Sound.{recs, ringless, ringAt, isOpen}
 use Rattle.store.specs.Good.{Sound}
 use Rattle.acts.specs.Opened.{Fresh, openedAt, records}
 use Rattle.acts.specs.Value.{value}
 use Rattle.laying.specs.Pooled.{raise, pooled}
-use Rattle.laying.proofs.Raising.{raise-high, up, map-up}
-use Rattle.laying.proofs.Pooling.{BothFit, point-before, record-before, record-after, plain-point, first-rings, ringless-up, open-up, mark-up, on-low, second-rings}
+use Rattle.laying.proofs.Raising.{raise-high}
+use Rattle.laying.proofs.Pooling.{BothFit, record-before, record-after, ringless-up, open-up, mark-up, first-values, second-values}
 
 -- ---- tables
 
@@ -35,10 +34,6 @@ table-same g h k l (suc n) e =
     let b : table g (suc k) n ≡ table h (suc l) n = table-same g h (suc k) (suc l) n (λ i p. ap g (suc-add k i ∙ sym (add-suc k i)) ∙ e (suc i) (omega arith) ∙ ap h (add-suc l i ∙ sym (suc-add l i))) in
     cc
 
-map-same : {A : Type 0} (f g : ℕ → A) (l : List ℕ) → ((k : ℕ) → 0 < occ k l → f k ≡ g k) → map f l ≡ map g l
-map-same f g [] h = refl
-map-same f g (x ∷ l) h = cc (h x (omega (arith, one-here x)), map-same f g l (λ k o. h k (omega arith)))
-
 -- ---- the records of the pooled store
 
 module _ {P : Type 0} (of : ℕ → ℕ → ℕ → P) where
@@ -50,26 +45,15 @@ module _ {P : Type 0} (of : ℕ → ℕ → ℕ → P) where
   shown-same a a′ b b′ c c′ e f g = rw (e, f, g)
 
   module _ (s t : Store) where
-    -- "by value unchanged"
-    pub first-values : Sound s → (j : ℕ) → j < recs s → map (value of (pooled s t)) (ringAt (pooled s t) j) ≡ map (value of s) (ringAt s j)
-    first-values a j l =
-        ap (map (value of (pooled s t))) (first-rings s t a j l)
-        ∙ map-same (value of (pooled s t)) (value of s) (ringAt s j) (λ k o. let h : k < pts s = a .good j l .points-in k o .below in cc (point-before s t X k h, point-before s t Y k h, point-before s t Z k h))
-
-    pub second-values : Sound t → BothFit s t → (j : ℕ) → j < recs t → map (value of (pooled s t)) (ringAt (pooled s t) (recs s + j)) ≡ map (value of t) (ringAt t j)
-    second-values b fit j l =
-        ap (map (value of (pooled s t))) (second-rings s t b fit j l)
-        ∙ map-up (pts s) (value of (pooled s t)) (value of t) (ringAt t j) (λ k o. let h : k < pts t = on-low s t b fit j l k o in cc (plain-point s t X k refl h, plain-point s t Y k refl h, plain-point s t Z k refl h))
-
     first-opened : Sound s → (j : ℕ) → j < recs s → openedAt of (pooled s t) j ≡ openedAt of s j
     first-opened a j l =
         shown-same (ringless (pooled s t) j) (ringless s j) (isOpen (pooled s t) j) (isOpen s j) (map (value of (pooled s t)) (ringAt (pooled s t) j)) (map (value of s) (ringAt s j))
-        (ap (λ (n : ℕ). eqb n NONE) (record-before s t FIRST j l)) (ap (λ (n : ℕ). eqb (n % 2) 1) (record-before s t FLAGS j l)) (first-values a j l)
+        (ap (λ (n : ℕ). eqb n NONE) (record-before s t FIRST j l)) (ap (λ (n : ℕ). eqb (n % 2) 1) (record-before s t FLAGS j l)) (first-values of s t a j l)
 
     second-opened : Sound t → BothFit s t → (j : ℕ) → j < recs t → openedAt of (pooled s t) (recs s + j) ≡ openedAt of t j
     second-opened b fit j l =
         shown-same (ringless (pooled s t) (recs s + j)) (ringless t j) (isOpen (pooled s t) (recs s + j)) (isOpen t j) (map (value of (pooled s t)) (ringAt (pooled s t) (recs s + j))) (map (value of t) (ringAt t j))
-        (ringless-up s t b fit j l) (open-up s t b fit j l) (second-values b fit j l)
+        (ringless-up s t b fit j l) (open-up s t b fit j l) (second-values of s t b fit j l)
 
     -- the two lists one after the other
     pub pooled-records : Sound s → Sound t → BothFit s t → records of (pooled s t) ≡ records of s ++ records of t

@@ -14,6 +14,7 @@ use Rattle.store.specs.Field.{rc, ct, FIRST, MARK, PRESENT, CUT, SETTINGS, NONE
 use Rattle.store.specs.Words.{Store, view}
 use Rattle.store.specs.Sound.{pts, recs, ringless, isOpen}
 use Rattle.store.specs.Good.{Sound}
+use Rattle.store.specs.Boxes.{Boxed}
 use Rattle.store.specs.States.{BYTES, Apart}
 use Rattle.audit.specs.declared.Verdict.the-variants as verdict
 use Rattle.audit.specs.declared.Reply.the-variants.{Done}
@@ -30,6 +31,7 @@ use Rattle.laying.proofs.Pooling.{BothFit, pooled-sound}
 use Rattle.laid.proofs.Records.{pooled-records, pooled-fresh}
 use Rattle.laying.proofs.Deciding.{Together, together}
 use Rattle.laying.proofs.Laying.{pooled-view, pooled-length, pooled-behind}
+use Rattle.laying.proofs.Boxing.{pooled-boxed}
 
 -- ---- a record that row 12 lets pass is at its start
 
@@ -78,6 +80,8 @@ module _ (w v : List ℕ) where
     pub long-second : LENGTH ≤ length v
     pub sound : Sound (view w)
     pub sound-second : Sound (view v)
+    pub boxed : (i : ℕ) → i < recs (view w) → Boxed w i
+    pub boxed-second : (i : ℕ) → i < recs (view v) → Boxed v i
     pub apart : Apart w
     pub apart-second : Apart v
     pub settings : settingsByte (view w) ≡ settingsByte (view v)
@@ -94,6 +98,8 @@ module _ (w v : List ℕ) where
         long-second = t .second .long;
         sound = t .first .sound;
         sound-second = t .second .sound;
+        boxed = t .first .boxed;
+        boxed-second = t .second .boxed;
         apart = t .first .apart;
         apart-second = t .second .apart;
         settings = t .settings;
@@ -121,16 +127,17 @@ module _ (w v : List ℕ) (L : Lies w v) where
   behind = pooled-behind w v (omega (arith, L .long)) (L .fit)
 
   pub first-start : Start w
-  first-start = record { long = L .long; sound = L .sound; apart = L .apart; fresh = L .fresh }
+  first-start = record { long = L .long; sound = L .sound; boxed = L .boxed; apart = L .apart; fresh = L .fresh }
 
   pub second-start : Start v
-  second-start = record { long = L .long-second; sound = L .sound-second; apart = L .apart-second; fresh = L .fresh-second }
+  second-start = record { long = L .long-second; sound = L .sound-second; boxed = L .boxed-second; apart = L .apart-second; fresh = L .fresh-second }
 
   pub pooled-start : Start u
   pooled-start =
       record {
         long = omega (arith, L .long, pooled-length w v);
         sound = subst Sound (sym view-is) (pooled-sound (view w) (view v) (L .sound) (L .sound-second) (L .fit));
+        boxed = pooled-boxed w v (omega (arith, L .long)) (L .sound) (L .sound-second) (L .fit) (L .boxed) (L .boxed-second);
         apart = same-apart w u (behind-names w u behind) (L .apart);
         fresh = subst (λ (s : Store). (i : ℕ) → i < recs s → Fresh s i) (sym view-is) (pooled-fresh (view w) (view v) (L .sound-second) (L .fit) (L .fresh) (L .fresh-second));
       }

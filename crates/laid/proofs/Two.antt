@@ -37,9 +37,8 @@ use Rattle.laying.specs.Words.{pooledWords}
 use Rattle.laid.specs.Trees.{EachOwn}
 use Rattle.laying.proofs.Raising.{raise-low}
 use Rattle.laying.proofs.Deciding.{refused-leaves}
-use Rattle.laying.proofs.Pooling.{record-before, record-after, plain-record, ringless-up, open-up}
+use Rattle.laying.proofs.Pooling.{record-before, record-after, plain-record, ringless-up, open-up, first-values, second-values}
 use Rattle.laid.specs.Two.{closedAfter, openAfter, raisedReason, OwnOf, OfTwo, TwoDrawings}
-use Rattle.laid.proofs.Records.{first-values, second-values}
 use Rattle.laid.proofs.Reasons.{own-record, own-offcuts}
 use Rattle.laid.proofs.Forests.{each-own, first-alone, second-alone}
 use Rattle.laid.proofs.Outlines.{own-closed, own-open}

@@ -26,7 +26,7 @@ use Rattle.audit.specs.declared.Reply.the-variants.{Done, Refused}
 use Rattle.audit.proofs.Handing.{says-tested, handed-sound}
 use Rattle.laying.specs.declared.Used.{Used}
 use Rattle.laying.specs.Pooled.{raise, usedIn}
-use Rattle.laying.specs.Words.{layColumn, pointColumns, givenColumns, progressColumns, reasonColumns, layPoints, layRecords, layAll}
+use Rattle.laying.specs.Words.{layColumn, laySides, pointColumns, givenColumns, progressColumns, reasonColumns, recordColumns, layPoints, layRecords, layAll}
 use Rattle.laying.proofs.Raising.{raise-low, raise-high}
 use Rattle.laying.specs.Needs.{RoomForBoth, CountsOf}
 use Rattle.laying.specs.Lay.{settingsByte, isStepped, anyStepped, layRoom, layTested, laySecond, layBy, layOf}
@@ -200,15 +200,21 @@ module _ (a b : Used) (v w w₁ w₂ w₃ : List ℕ) where
       → w₆ ≡ layPoints a b v pointColumns w
   points-laid w₄ w₅ w₆ e f g h k l = rw (l, k, h, g, f, e)
 
-  pub all-laid : (w₄ w₅ w₆ : List ℕ) (p r : ℕ)
+  pub columns-laid : (w₄ : List ℕ)
       → w₁ ≡ layPoints a b v pointColumns w
       → w₂ ≡ layRecords a b v givenColumns w₁
       → w₃ ≡ layRecords a b v progressColumns w₂
       → w₄ ≡ layRecords a b v reasonColumns w₃
+      → w₄ ≡ layRecords a b v recordColumns (layPoints a b v pointColumns w)
+  columns-laid w₄ e f g l = rw (l, g, f, e)
+
+  pub all-laid : (w₄ : List ℕ) (p r : ℕ)
+      → w₁ ≡ layRecords a b v recordColumns (layPoints a b v pointColumns w)
+      → w₂ ≡ laySides (a .records) (b .records) v w₁
       → p ≡ a .points + b .points
       → r ≡ a .records + b .records
-      → w₅ ≡ put (ct POINTS) w₄ 0 p
-      → w₆ ≡ put (ct RECORDS) w₅ 0 r
-      → w₆ ≡ layAll a b v w
+      → w₃ ≡ put (ct POINTS) w₂ 0 p
+      → w₄ ≡ put (ct RECORDS) w₃ 0 r
+      → w₄ ≡ layAll a b v w
   unfolding layAll
-  all-laid w₄ w₅ w₆ p r e f g l i j h k = rw (k, h, j, i, l, g, f, e)
+  all-laid w₄ p r e f i j h k = rw (k, h, j, i, f, e)

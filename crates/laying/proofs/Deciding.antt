@@ -1,5 +1,5 @@
 -- What an answer of laying together says: a refusal leaves every word; else all tests were passed, and the pooled words are left.
-use Prim.Native.Nat.{ℕ, _+_, _≤_}
+use Prim.Native.Nat.{ℕ, _+_, _≤_, _<_}
 use mathlib.Core.Path.{_≡_, refl, ap, _∙_, sym}
 use mathlib.Core.Bool.{Bool, true, false, cond, not, _||_}
 use mathlib.Core.List.{List, _++_}
@@ -13,6 +13,7 @@ use Rattle.job.specs.declared.refusal.Refusal.the-variants.{Full, OutOfTurn, Se
 use Rattle.store.specs.Field.{BLOCK, LENGTH}
 use Rattle.store.specs.Words.{Store, view}
 use Rattle.store.specs.Sound.{pts, recs}
+use Rattle.store.specs.Boxes.{sidesAt}
 use Rattle.store.specs.States.{blockOf}
 use Rattle.audit.specs.declared.Verdict.{Verdict}
 use Rattle.audit.specs.declared.Verdict.the-variants as verdict
@@ -168,7 +169,7 @@ module _ (w v : List ℕ) where
   pub lay-behind : drop BLOCK (layOf w v .words) ≡ drop BLOCK w
   lay-behind = lay-keeps (layOf w v .answer) refl
 
--- ---- words m past the first: the answer is the one without them, and they are left; past the second they are not read
+-- ---- words m past the first: the answer is the one without them, and they are left
 
 module _ (w v m : List ℕ) (long : LENGTH ≤ length w) (longer : LENGTH ≤ length (w ++ m)) (shows : view (w ++ m) ≡ view w) (passes : testedOf (w ++ m) ≡ testedOf w) where
   same-asked : asked (w ++ m) v ≡ asked w v
@@ -191,14 +192,25 @@ module _ (w v m : List ℕ) (long : LENGTH ≤ length w) (longer : LENGTH ≤ le
       by (Refused x) e = refl
       by Done e = ap (left Done) (pooled-more (no-crowd-fits w v (asked-passed w v e .no-crowd)))
 
-pub lay-second : (w v v′ : List ℕ) → LENGTH ≤ length v → LENGTH ≤ length v′ → view v ≡ view v′ → testedOf v ≡ testedOf v′ → layOf w v ≡ layOf w v′
-lay-second w v v′ l k shows passes =
-    lay-is w v
-    ∙ ap (leftBy (asked w v) w) (ap (λ (s : Store). layAll (usedIn (view w)) (usedIn s) v w) shows ∙ all-same (usedIn (view w)) (usedIn (view v′)) v v′ shows w)
-    ∙ ap (λ (b : Bool). leftBy (answerBy (ltb (length w) LENGTH) b (testedOf w) (testedOf v) (tested w v)) w (pooledWords w v′)) (le-ltb (length v) LENGTH l ∙ sym (le-ltb (length v′) LENGTH k))
-    ∙ ap (λ (y : Verdict). leftBy (answerBy (ltb (length w) LENGTH) (ltb (length v′) LENGTH) (testedOf w) y (tested w v)) w (pooledWords w v′)) passes
-    ∙ ap (λ (s : Store). leftBy (answerBy (ltb (length w) LENGTH) (ltb (length v′) LENGTH) (testedOf w) (testedOf v′) (thenBy (settingsDiffer (view w) s) (anyStepped (view w) || anyStepped s) (crowd (view w) s))) w (pooledWords w v′)) shows
-    ∙ sym (lay-is w v′)
+-- of the second the store and the boxes are read
+module _ (w v v′ : List ℕ) (l : LENGTH ≤ length v) (k : LENGTH ≤ length v′) (shows : view v ≡ view v′) (boxes : (j : ℕ) → j < limit.RECORDS → sidesAt v j ≡ sidesAt v′ j) (passes : testedOf v ≡ testedOf v′) where
+  second-asked : asked w v ≡ asked w v′
+  second-asked =
+      ap (λ (b : Bool). answerBy (ltb (length w) LENGTH) b (testedOf w) (testedOf v) (tested w v)) (le-ltb (length v) LENGTH l ∙ sym (le-ltb (length v′) LENGTH k))
+      ∙ ap (λ (y : Verdict). answerBy (ltb (length w) LENGTH) (ltb (length v′) LENGTH) (testedOf w) y (tested w v)) passes
+      ∙ ap (λ (s : Store). answerBy (ltb (length w) LENGTH) (ltb (length v′) LENGTH) (testedOf w) (testedOf v′) (thenBy (settingsDiffer (view w) s) (anyStepped (view w) || anyStepped s) (crowd (view w) s))) shows
+
+  second-pooled : BothFit (view w) (view v) → pooledWords w v ≡ pooledWords w v′
+  second-pooled h =
+      ap (λ (s : Store). layAll (usedIn (view w)) (usedIn s) v w) shows
+      ∙ all-same (usedIn (view w)) (usedIn (view v′)) v v′ shows (λ j f. boxes j (omega (arith, h .fit-records, ap recs shows))) w
+
+  pub lay-second : layOf w v ≡ layOf w v′
+  lay-second = lay-is w v ∙ by (asked w v) refl ∙ ap (λ (r : Reply). leftBy r w (pooledWords w v′)) second-asked ∙ sym (lay-is w v′)
+    where
+      by : (r : Reply) → asked w v ≡ r → leftBy r w (pooledWords w v) ≡ leftBy r w (pooledWords w v′)
+      by (Refused x) e = refl
+      by Done e = ap (left Done) (second-pooled (no-crowd-fits w v (asked-passed w v e .no-crowd)))
 
 -- ---- two work spaces with one live block
 

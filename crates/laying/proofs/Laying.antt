@@ -14,14 +14,16 @@ use borrow.Author.Tests.{eq-eqb, ne-eqb}
 use Rattle.job.specs.Limits as limit
 use Rattle.store.specs.Field.{Field, PointCol, RecordCol, pt, rc, ct, X, Y, NEXT, PREV, REC, Z, FLAGS, OWNER, FIRST, MARK, PRESENT, START, CUT, REASON, TAKER, SETTINGS, POINTS, RECORDS, size, base, same, BLOCK}
 use Rattle.store.specs.Words.{Store, cell, put, view}
+use Rattle.store.specs.Boxes.{sidesAt}
 use Rattle.store.specs.States.{blockOf}
 use Rattle.store.specs.Stores.{upd}
 use Rattle.store.proofs.Storing.{ends, view-put, length-put}
 use Rattle.laying.specs.declared.Used.{Used}
 use Rattle.laying.specs.Pooled.{pointKind, recordKind, usedIn, raiseAs, followed, pooled}
-use Rattle.laying.specs.Words.{layColumn, pointColumns, recordColumns, layPoints, layRecords, layCounts, layAll, pooledWords}
+use Rattle.laying.specs.Words.{layColumn, laySides, pointColumns, recordColumns, layPoints, layRecords, layCounts, layAll, pooledWords}
 use Rattle.laying.proofs.Raising.{before, after, past}
 use Rattle.laying.proofs.Pooling.{BothFit}
+use Rattle.laying.proofs.Sides.{view-boxes, length-boxes, boxes-more, boxes-same}
 
 -- ---- one column
 
@@ -89,11 +91,11 @@ module _ (a b : Used) (v : List ℕ) where
   onRecords [] s = s
   onRecords (f ∷ fs) s = onRecords fs (andLaid s (rc f) (a .records) (b .records) (λ k. raiseAs (recordKind f) a b (cell (rc f) v k)))
 
-  length-points : (fs : List PointCol) (w : List ℕ) → length (layPoints a b v fs w) ≡ length w
+  pub length-points : (fs : List PointCol) (w : List ℕ) → length (layPoints a b v fs w) ≡ length w
   length-points [] w = refl
   length-points (f ∷ fs) w = length-points fs (layColumn (pt f) (raiseAs (pointKind f) a b) (a .points) (b .points) v w) ∙ length-lay (pt f) (raiseAs (pointKind f) a b) (a .points) (b .points) v w
 
-  length-records : (fs : List RecordCol) (w : List ℕ) → length (layRecords a b v fs w) ≡ length w
+  pub length-records : (fs : List RecordCol) (w : List ℕ) → length (layRecords a b v fs w) ≡ length w
   length-records [] w = refl
   length-records (f ∷ fs) w = length-records fs (layColumn (rc f) (raiseAs (recordKind f) a b) (a .records) (b .records) v w) ∙ length-lay (rc f) (raiseAs (recordKind f) a b) (a .records) (b .records) v w
 
@@ -117,8 +119,10 @@ module _ (a b : Used) (v : List ℕ) where
   length-all w =
       let w₁ : List ℕ = layPoints a b v pointColumns w in
       let w₂ : List ℕ = layRecords a b v recordColumns w₁ in
-      length-put (ct RECORDS) (put (ct POINTS) w₂ 0 (a .points + b .points)) 0 (a .records + b .records)
-      ∙ length-put (ct POINTS) w₂ 0 (a .points + b .points)
+      let w₃ : List ℕ = laySides (a .records) (b .records) v w₂ in
+      length-put (ct RECORDS) (put (ct POINTS) w₃ 0 (a .points + b .points)) 0 (a .records + b .records)
+      ∙ length-put (ct POINTS) w₃ 0 (a .points + b .points)
+      ∙ length-boxes (a .records) v w₂ (b .records)
       ∙ length-records recordColumns w₁
       ∙ length-points pointColumns w
 
@@ -129,9 +133,11 @@ module _ (a b : Used) (v : List ℕ) where
       let w₁ : List ℕ = layPoints a b v pointColumns w in
       let w₂ : List ℕ = layRecords a b v recordColumns w₁ in
       let l₁ : BLOCK ≤ length w₁ = omega (arith, length-points pointColumns w) in
-      let l₂ : BLOCK ≤ length w₂ = omega (arith, length-records recordColumns w₁) in
-      view-put (put (ct POINTS) w₂ 0 (a .points + b .points)) (omega (arith, length-put (ct POINTS) w₂ 0 (a .points + b .points))) (ct RECORDS) 0 (a .records + b .records) (omega arith)
-      ∙ ap (λ (s : Store). upd s (ct RECORDS) 0 (a .records + b .records)) (view-put w₂ l₂ (ct POINTS) 0 (a .points + b .points) (omega arith))
+      let w₃ : List ℕ = laySides (a .records) (b .records) v w₂ in
+      let l₃ : BLOCK ≤ length w₃ = omega (arith, length-boxes (a .records) v w₂ (b .records), length-records recordColumns w₁) in
+      view-put (put (ct POINTS) w₃ 0 (a .points + b .points)) (omega (arith, length-put (ct POINTS) w₃ 0 (a .points + b .points))) (ct RECORDS) 0 (a .records + b .records) (omega arith)
+      ∙ ap (λ (s : Store). upd s (ct RECORDS) 0 (a .records + b .records)) (view-put w₃ l₃ (ct POINTS) 0 (a .points + b .points) (omega arith))
+      ∙ ap onCounts (view-boxes (a .records) v w₂ (b .records))
       ∙ ap onCounts (view-records recordColumns w₁ l₁ k)
       ∙ ap (λ (s : Store). onCounts (onRecords recordColumns s)) (view-points pointColumns w l h)
 
@@ -198,10 +204,13 @@ module _ (a b : Used) (v m : List ℕ) where
       let x₂ : List ℕ = layRecords a b v recordColumns x₁ in
       let l₁ : BLOCK ≤ length x₁ = omega (arith, length-points a b v pointColumns x) in
       let l₂ : BLOCK ≤ length x₂ = omega (arith, length-records a b v recordColumns x₁) in
-      ap (λ (w : List ℕ). layCounts a b v (layRecords a b v recordColumns w)) (points-more pointColumns x l h)
-      ∙ ap (layCounts a b v) (records-more recordColumns x₁ l₁ k)
-      ∙ ap (λ (w : List ℕ). put (ct RECORDS) w 0 (a .records + b .records)) (put-more (ct POINTS) x₂ m 0 (a .points + b .points) l₂ (omega arith))
-      ∙ put-more (ct RECORDS) (put (ct POINTS) x₂ 0 (a .points + b .points)) m 0 (a .records + b .records) (omega (arith, length-put (ct POINTS) x₂ 0 (a .points + b .points))) (omega arith)
+      let x₃ : List ℕ = laySides (a .records) (b .records) v x₂ in
+      let l₃ : BLOCK ≤ length x₃ = omega (arith, length-boxes (a .records) v x₂ (b .records)) in
+      ap (λ (w : List ℕ). layCounts a b v (laySides (a .records) (b .records) v (layRecords a b v recordColumns w))) (points-more pointColumns x l h)
+      ∙ ap (λ (w : List ℕ). layCounts a b v (laySides (a .records) (b .records) v w)) (records-more recordColumns x₁ l₁ k)
+      ∙ ap (layCounts a b v) (boxes-more (a .records) v x₂ l₂ m (b .records) k)
+      ∙ ap (λ (w : List ℕ). put (ct RECORDS) w 0 (a .records + b .records)) (put-more (ct POINTS) x₃ m 0 (a .points + b .points) l₃ (omega arith))
+      ∙ put-more (ct RECORDS) (put (ct POINTS) x₃ 0 (a .points + b .points)) m 0 (a .records + b .records) (omega (arith, length-put (ct POINTS) x₃ 0 (a .points + b .points))) (omega arith)
 
 module _ (w v : List ℕ) (l : BLOCK ≤ length w) (h : BothFit (view w) (view v)) where
   abbrev onBlock : List ℕ
@@ -222,7 +231,7 @@ module _ (w v : List ℕ) (l : BLOCK ≤ length w) (h : BothFit (view w) (view v
   pub pooled-behind : drop BLOCK (pooledWords w v) ≡ drop BLOCK w
   pooled-behind = ap (drop BLOCK) parts ∙ drop-at onBlock (drop BLOCK w) BLOCK block-size
 
--- ---- of the second only the store is read
+-- ---- of the second only the store and the boxes are read
 
 lay-same : (f : Field) (g : ℕ → ℕ) (m n : ℕ) (v v′ w : List ℕ) → view v ≡ view v′ → layColumn f g m n v w ≡ layColumn f g m n v′ w
 unfolding layColumn
@@ -240,8 +249,10 @@ module _ (a b : Used) (v v′ : List ℕ) (e : view v ≡ view v′) where
   records-same [] w = refl
   records-same (f ∷ fs) w = ap (layRecords a b v fs) (lay-same (rc f) (raiseAs (recordKind f) a b) (a .records) (b .records) v v′ w e) ∙ records-same fs (layColumn (rc f) (raiseAs (recordKind f) a b) (a .records) (b .records) v′ w)
 
-  pub all-same : (w : List ℕ) → layAll a b v w ≡ layAll a b v′ w
+  pub all-same : ((j : ℕ) → j < b .records → sidesAt v j ≡ sidesAt v′ j) → (w : List ℕ) → layAll a b v w ≡ layAll a b v′ w
   unfolding layAll
-  all-same w =
-      ap (λ (u : List ℕ). layCounts a b v (layRecords a b v recordColumns u)) (points-same pointColumns w)
-      ∙ ap (layCounts a b v) (records-same recordColumns (layPoints a b v′ pointColumns w))
+  all-same f w =
+      let w₁ : List ℕ = layPoints a b v′ pointColumns w in
+      ap (λ (u : List ℕ). layCounts a b v (laySides (a .records) (b .records) v (layRecords a b v recordColumns u))) (points-same pointColumns w)
+      ∙ ap (λ (u : List ℕ). layCounts a b v (laySides (a .records) (b .records) v u)) (records-same recordColumns w₁)
+      ∙ ap (layCounts a b v) (boxes-same (a .records) (b .records) v v′ (layRecords a b v′ recordColumns w₁) f)

@@ -11,7 +11,7 @@ use borrow.Author.Tests.{eq-eqb, ne-eqb, eqb-true, eqb-false}
 use Rattle.job.specs.Limits as limit
 use Rattle.rings.specs.Count.{sumTo, occ}
 use Rattle.rings.specs.Walk.{walk}
-use Rattle.rings.proofs.Counting.{sum-same}
+use Rattle.rings.proofs.Counting.{sum-same, one-here}
 use Rattle.store.specs.Field.{PointCol, RecordCol, pt, rc, X, Y, Z, NEXT, PREV, REC, FLAGS, OWNER, FIRST, MARK, PRESENT, REASON, TAKER}
 use Rattle.job.specs.Limits.{NONE}
 use Rattle.store.specs.Words.{Store}
@@ -22,7 +22,7 @@ use Rattle.store.proofs.Soundness.{whole, first-on, from-first}
 use Rattle.store.proofs.Keeping.{Kept, ring-other, good-other, past}
 use Rattle.rings.proofs.Members.{next-on, prev-on}
 use Rattle.laying.specs.Pooled.{plain, pointKind, recordKind, raise, usedIn, raiseAs, pooled}
-use Rattle.laying.proofs.Raising.{raise-low, raise-high, before, after, sum-split, sum-none, up, occ-up, occ-low, run-up, linked-up}
+use Rattle.laying.proofs.Raising.{raise-low, raise-high, before, after, sum-split, sum-none, up, occ-up, occ-low, run-up, linked-up, map-up}
 use Rattle.laying.proofs.Raising as raising
 
 -- there is room for both
@@ -172,6 +172,26 @@ module _ (s t : Store) (b : Sound t) (fit : BothFit s t) where
                     omega (arith, record-after s t TAKER j l, raise-low (recs s) (recs t) (t (rc TAKER) j) h);
               };
         }
+
+-- ---- by value the same; `of`: what a point is, by its three words
+
+map-same : {A : Type 0} (f g : ℕ → A) (l : List ℕ) → ((k : ℕ) → 0 < occ k l → f k ≡ g k) → map f l ≡ map g l
+map-same f g [] h = refl
+map-same f g (x ∷ l) h = cc (h x (omega (arith, one-here x)), map-same f g l (λ k o. h k (omega arith)))
+
+module _ {P : Type 0} (of : ℕ → ℕ → ℕ → P) (s t : Store) where
+  abbrev value : Store → ℕ → P
+  value r k = of (r (pt X) k) (r (pt Y) k) (r (pt Z) k)
+
+  pub first-values : Sound s → (j : ℕ) → j < recs s → map (value (pooled s t)) (ringAt (pooled s t) j) ≡ map (value s) (ringAt s j)
+  first-values a j l =
+      ap (map (value (pooled s t))) (first-rings s t a j l)
+      ∙ map-same (value (pooled s t)) (value s) (ringAt s j) (λ k o. let h : k < pts s = a .good j l .points-in k o .below in cc (point-before s t X k h, point-before s t Y k h, point-before s t Z k h))
+
+  pub second-values : Sound t → BothFit s t → (j : ℕ) → j < recs t → map (value (pooled s t)) (ringAt (pooled s t) (recs s + j)) ≡ map (value t) (ringAt t j)
+  second-values b fit j l =
+      ap (map (value (pooled s t))) (second-rings s t b fit j l)
+      ∙ map-up (pts s) (value (pooled s t)) (value t) (ringAt t j) (λ k o. let h : k < pts t = on-low s t b fit j l k o in cc (plain-point s t X k refl h, plain-point s t Y k refl h, plain-point s t Z k refl h))
 
 -- ---- together
 

@@ -1,5 +1,5 @@
 -- Two drawings on one table, as a store: document 02, Ask 11, "Laying them together puts the second's points and records after the first's, in the first's work space, with numbers raised to fit, none staying none".
--- A new column says here what its numbers name, and nothing else changes.
+-- A new column says here what its numbers name, and nothing else changes. The boxes, behind the columns, name nothing (Words, `laySides`).
 use Prim.Native.Nat.{ℕ, zero, suc, _+_, _-_}
 use mathlib.Core.Bool.{cond}
 use lib.Dec.{ltb}

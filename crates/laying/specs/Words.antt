@@ -1,8 +1,9 @@
--- Two drawings on one table, as words: column after column, then the counts. Every other word of the first's work space stays.
+-- Two drawings on one table, as words: column after column, then the boxes and the counts. Every other word of the first's work space stays.
 use Prim.Native.Nat.{ℕ, zero, suc, _+_}
 use mathlib.Core.List.{List, [], _∷_, _++_}
 use Rattle.store.specs.Field.{Field, PointCol, RecordCol, pt, rc, ct, X, Y, NEXT, PREV, REC, Z, FLAGS, OWNER, FIRST, MARK, PRESENT, START, CUT, REASON, TAKER, POINTS, RECORDS}
 use Rattle.store.specs.Words.{cell, put, view}
+use Rattle.store.specs.Boxes.{sidesAt, setSides}
 use Rattle.laying.specs.declared.Used.{Used}
 use Rattle.laying.specs.Pooled.{pointKind, recordKind, raiseAs, usedIn}
 
@@ -10,6 +11,11 @@ use Rattle.laying.specs.Pooled.{pointKind, recordKind, raiseAs, usedIn}
 unfoldable pub layColumn : Field → (ℕ → ℕ) → ℕ → ℕ → List ℕ → List ℕ → List ℕ
 layColumn f g m zero v w = w
 layColumn f g m (suc n) v w = put f (layColumn f g m n v w) (m + n) (g (cell f v n))
+
+-- the boxes of v's first n records, word for word, as the boxes of w's records from number m on; a record without a ring has its four words, too
+unfoldable pub laySides : ℕ → ℕ → List ℕ → List ℕ → List ℕ
+laySides m zero v w = w
+laySides m (suc n) v w = setSides (laySides m n v w) (m + n) (sidesAt v n)
 
 -- the columns, in the layout's order
 abbrev pub pointColumns : List PointCol
@@ -44,7 +50,7 @@ module _ (a b : Used) (v : List ℕ) where
   layCounts w = put (ct RECORDS) (put (ct POINTS) w 0 (a .points + b .points)) 0 (a .records + b .records)
 
   unfoldable pub layAll : List ℕ → List ℕ
-  layAll w = layCounts (layRecords recordColumns (layPoints pointColumns w))
+  layAll w = layCounts (laySides (a .records) (b .records) v (layRecords recordColumns (layPoints pointColumns w)))
 
 -- the second's drawing v laid into the first's work space w
 abbrev pub pooledWords : List ℕ → List ℕ → List ℕ

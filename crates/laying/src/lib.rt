@@ -8,6 +8,8 @@ use store::Col;
 use store::JOINED;
 use store::LENGTH;
 use store::NONE;
+use store::boxed::set_sides;
+use store::boxed::sides_of;
 use store::get;
 use store::read;
 use store::set;
@@ -23,7 +25,7 @@ ghost use Rattle.store.specs.Words.{view};
 ghost use Rattle.audit.specs.declared.Verdict.the-variants.{Passed};
 ghost use Rattle.audit.specs.Left.{left};
 ghost use Rattle.laying.specs.Pooled.{raise};
-ghost use Rattle.laying.specs.Words.{layColumn, pointColumns, givenColumns, progressColumns, reasonColumns, layPoints, layRecords, layAll};
+ghost use Rattle.laying.specs.Words.{layColumn, pointColumns, givenColumns, progressColumns, reasonColumns, recordColumns, laySides, layPoints, layRecords, layAll};
 ghost use Rattle.laying.specs.Needs.{RoomForBoth, CountsOf};
 ghost use Rattle.laying.specs.Lay.{settingsByte, isStepped, anyStepped, layRoom, layTested, layBy, layOf};
 
@@ -114,15 +116,37 @@ fn lay_reasons(first: &mut [u32], second: &[u32], a: Used, b: Used)
     lay_column(first, second, Col::Taker, m, n, m, n);
 }
 
-// All columns, and the counts.
-fn lay_all(first: &mut [u32], second: &[u32], a: Used, b: Used)
+// All columns.
+fn lay_columns(first: &mut [u32], second: &[u32], a: Used, b: Used)
     requires { ⌜ RoomForBoth (now first) (now second) a b ⌝ }
-    ensures { λ _. ⌜ now (first .exit) ≡ layAll a b (now (second .entry)) (now (first .entry)) ⌝ }
+    ensures { λ _. ⌜ now (first .exit) ≡ layRecords a b (now (second .entry)) recordColumns (layPoints a b (now (second .entry)) pointColumns (now (first .entry))) ⌝ }
 {
     lay_points(first, second, a, b);
     lay_records(first, second, a, b);
     lay_progress(first, second, a, b);
     lay_reasons(first, second, a, b);
+}
+
+// The boxes of the second's n records after those of the first's m, as they are.
+fn lay_boxes(first: &mut [u32], second: &[u32], m: usize, n: usize)
+    requires { ⌜ (layout.BLOCK ≤ length (now first)) × (layout.BLOCK ≤ length (now second)) × (m + n ≤ limit.RECORDS) ⌝ }
+    ensures { λ _. ⌜ now (first .exit) ≡ laySides m n (now (second .entry)) (now (first .entry)) ⌝ }
+{
+    let mut i: usize = 0;
+    while i < n {
+        let b = sides_of(second, i);
+        set_sides(first, m + i, b);
+        i += 1;
+    }
+}
+
+// The columns, the boxes, and the counts.
+fn lay_all(first: &mut [u32], second: &[u32], a: Used, b: Used)
+    requires { ⌜ RoomForBoth (now first) (now second) a b ⌝ }
+    ensures { λ _. ⌜ now (first .exit) ≡ layAll a b (now (second .entry)) (now (first .entry)) ⌝ }
+{
+    lay_columns(first, second, a, b);
+    lay_boxes(first, second, a.records, b.records);
     let p = a.points + b.points;
     let r = a.records + b.records;
     set(first, Col::Points, 0, p);

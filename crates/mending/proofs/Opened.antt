@@ -1,17 +1,17 @@
 -- A mended job opens without meeting row 6, in a work space of any length.
-use mathlib.Core.Path.{_≡_, subst}
+use mathlib.Core.Path.{_≡_, refl, subst}
 use mathlib.Core.Logic.{_≢_}
 use mathlib.Core.Bool.{Bool, true, false, cond, false≢true}
 use mathlib.Core.List.{List}
 use Prim.Native.Nat.{ℕ}
 use native.Mathlib.Omega.{arith}
 use lib.Dec.{ltb}
-use lib.ListN.{length, replicate, drop, length-replicate, length-append}
+use lib.ListN.{length, replicate, length-replicate}
 use Rattle.job.specs.Limits as limit
 use Rattle.job.specs.Refusal.{numberOf}
 use Rattle.job.specs.declared.refusal.Refusal.{Refusal}
 use Rattle.job.specs.declared.refusal.Refusal.the-variants.{Loose, Knot, Full}
-use Rattle.store.specs.Field.{KEPT, LENGTH}
+use Rattle.store.specs.Field.{LENGTH}
 use Rattle.reading.specs.declared.fill.Outcome.the-variants as outcome
 use Rattle.reading.specs.Fill as fill
 use Rattle.reading.specs.Needs.{Space}
@@ -24,6 +24,7 @@ use Rattle.joins.specs.Join as join
 use Rattle.joins.specs.Join.{processHorzJoins}
 use Rattle.opening.specs.declared.open.Opened.the-variants.{Accepted, Refused}
 use Rattle.opening.specs.Open.{End, end, afterJoins, afterSegments, afterRows, JOIN-POINTS, stagesOf, settled, cleared, openOf}
+use Rattle.opening.proofs.Clearing.{cleared-live}
 use Rattle.audit.specs.declared.Reply.the-variants.{Done}
 use Rattle.mending.specs.Mend.{mendOf}
 use Rattle.mending.specs.Mends.{outcomeOf, passesRows}
@@ -59,14 +60,14 @@ module _ (bytes : List ℕ) (e : mendOf bytes .answer ≡ Done) where
 
   pub opens-tight : (lent words : List ℕ) → openOf out lent ≢ end (Refused Loose) words
   unfolding openOf stagesOf
-  opens-tight lent words = go (ltb (length lent) LENGTH)
+  opens-tight lent words = go (ltb (length lent) LENGTH) refl
     where
-      go : (t : Bool) → cond t (end (Refused Full) (replicate (length lent) 0)) (settled (length lent) (stagesOf out (cleared lent))) ≢ end (Refused Loose) words
-      go true = λ d. let z : _≡_ {A = ℕ} 0 1 = cc in omega arith
-      go false =
+      go : (t : Bool) → ltb (length lent) LENGTH ≡ t → cond t (end (Refused Full) (replicate (length lent) 0)) (settled (length lent) (stagesOf out (cleared lent))) ≢ end (Refused Loose) words
+      go true h = λ d. let z : _≡_ {A = ℕ} 0 1 = cc in omega arith
+      go false h =
           let s : Space (cleared lent) (replicate limit.SEGMENTS 0) (replicate JOIN-POINTS 0) =
           record {
-            words = omega (arith, length-append (replicate {A = ℕ} KEPT 0) (drop KEPT lent), length-replicate {A = ℕ} KEPT 0);
+            words = cleared-live lent h;
             segments = omega (arith, length-replicate {A = ℕ} limit.SEGMENTS 0);
             joins = omega (arith, length-replicate {A = ℕ} JOIN-POINTS 0);
           }

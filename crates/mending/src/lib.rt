@@ -158,7 +158,7 @@ fn check(bytes: &[u8], w: &mut [u32]) -> Verdict
     }
 }
 
-// Sets each point's prev to the one point whose next it is; every other byte is kept. A refused job is left as it was. Its words are its own, so it takes some 80 kB of stack.
+// Sets each point's prev to the one point whose next it is; every other byte is kept. A refused job is left as it was. Its words are its own, so it takes some 90 kB of stack.
 pub fn mend(job: &mut [u8]) -> Reply
     ensures { λ r. ⌜ mended r (now (job .exit)) ≡ mendOf (now (job .entry)) ⌝ }
 {

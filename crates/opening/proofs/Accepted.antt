@@ -5,13 +5,13 @@ use mathlib.Core.Bool.{Bool, true, false, cond, _&&_}
 use mathlib.Core.List.{List}
 use native.Mathlib.Omega.{arith}
 use lib.Dec.{ltb}
-use lib.ListN.{length, getD, drop, replicate, length-append, length-replicate}
-use borrow.Author.Tests.{ltb-false, lt-ltb}
+use lib.ListN.{length, getD, replicate}
+use borrow.Author.Tests.{lt-ltb}
 use Rattle.rings.specs.Count.{occ}
 use Rattle.job.specs.Limits as limit
 use Rattle.job.specs.declared.Job.{Job}
 use Rattle.job.specs.declared.refusal.Refusal.the-variants as refusal
-use Rattle.store.specs.Field.{rc, X, Y, Z, FLAGS, BLOCK, KEPT, LENGTH}
+use Rattle.store.specs.Field.{rc, X, Y, Z, FLAGS, BLOCK, LENGTH}
 use Rattle.store.specs.Words.{Store, view}
 use Rattle.store.specs.Named.{recordsOf}
 use Rattle.store.specs.Sound.{recs, ringAt, isOpen}
@@ -40,8 +40,9 @@ use Rattle.opening.specs.declared.open.Opened.the-variants.{Accepted, Re
 use Rattle.opening.specs.Start.{startRings}
 use Rattle.opening.specs.Open.{JOIN-POINTS, End, end, afterJoins, afterSegments, afterRows, stagesOf, settled, cleared, openOf}
 use Rattle.opening.specs.After.{AfterOpening, OpenAsGiven}
+use Rattle.opening.proofs.Clearing.{cleared-live}
 use Rattle.opening.proofs.Passing.{passed, converting, may-join, made-ready}
-use Rattle.opening.proofs.Starting.{Begun, begun-all, recs-same, pts-same, first-same, ring-same, open-same, start-ready, start-sound, start-fresh}
+use Rattle.opening.proofs.Starting.{Begun, begun-all, recs-same, pts-same, first-same, ring-same, open-same, boxes-start, start-ready, start-sound, start-fresh}
 
 -- ---- the last stage
 
@@ -50,6 +51,7 @@ started w r =
     record {
       ready = start-ready w r;
       sound = start-sound w r;
+      boxes = boxes-start w (r .long) (r .resolved .few-records);
       fresh = start-fresh w r;
       marks = λ i h. b .marks i (omega (arith, recs-same (view w) (view (startRings w)) b));
       present = λ i h. b .presents i (omega (arith, recs-same (view w) (view (startRings w)) b)) ∙ sym (first-same (view w) (view (startRings w)) b i);
@@ -130,7 +132,7 @@ module _ (y : List ℕ) where
     where
       by : (t : Bool) → ltb (length lent) LENGTH ≡ t → cond t (end (Refused refusal.Full) (replicate (length lent) 0)) (settled (length lent) (afterRows (acceptOf bytes (cleared lent) (replicate limit.SEGMENTS 0) (replicate JOIN-POINTS 0)))) ≡ end Accepted y → (BLOCK ≤ length (cleared lent)) × (afterRows (acceptOf bytes (cleared lent) (replicate limit.SEGMENTS 0) (replicate JOIN-POINTS 0)) ≡ end Accepted y)
       by true e d = absurd (let z : _≡_ {A = ℕ} 0 1 = cc in omega arith)
-      by false e d = (omega (arith, length-append (replicate {A = ℕ} KEPT 0) (drop KEPT lent), length-replicate {A = ℕ} KEPT 0), by-stages (length lent) (afterRows (acceptOf bytes (cleared lent) (replicate limit.SEGMENTS 0) (replicate JOIN-POINTS 0))) d)
+      by false e d = (cleared-live lent e, by-stages (length lent) (afterRows (acceptOf bytes (cleared lent) (replicate limit.SEGMENTS 0) (replicate JOIN-POINTS 0))) d)
 
   module _ (bytes lent : List ℕ) (f : openOf bytes lent ≡ end Accepted y) where
     by-read : (T : fill.ReadEnd) → acceptOf bytes (cleared lent) (replicate limit.SEGMENTS 0) (replicate JOIN-POINTS 0) ≡ T → afterRows T ≡ end Accepted y → AfterOpening y

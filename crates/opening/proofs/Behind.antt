@@ -3,11 +3,11 @@ use Prim.Native.Nat.{ℕ, zero, suc, _+_, _-_, _*_, _≤_, _<_}
 use mathlib.Core.Path.{_≡_, refl, ap, _∙_, sym, subst}
 use mathlib.Core.Logic.{_≢_}
 use mathlib.Core.Bool.{Bool, true, false, cond}
-use mathlib.Core.List.{List, [], _∷_, _++_, map, append-assoc}
+use mathlib.Core.List.{List, [], _∷_, _++_, map}
 use native.Mathlib.Omega.{arith}
 use lib.Dec.{ltb, eqb}
-use lib.ListN.{length, getD, set, take, drop, replicate, length-append, length-drop, length-replicate, replicate-append-replicate, List·getD-append}
-use lib.Seq.{drop-set-lt, drop-at, getD-drop}
+use lib.ListN.{length, getD, set, take, drop, replicate, length-append, length-drop, length-replicate, List·getD-append}
+use lib.Seq.{drop-set-lt, getD-drop}
 use borrow.Author.Tests.{ltb-true, ltb-false, eqb-true, eqb-false}
 use Rattle.job.specs.Limits as limit
 use Rattle.job.specs.Field.{fieldOf}
@@ -22,16 +22,18 @@ use Rattle.job.proofs.Accepted.{accepted}
 use Rattle.rings.specs.Links.{All}
 use Rattle.rings.proofs.Counting.{all-in}
 use Rattle.rings.proofs.Walking.{ring-is}
-use Rattle.store.specs.Field.{Field, pt, rc, ct, X, Y, Z, NEXT, PREV, REC, FLAGS, OWNER, FIRST, SETTINGS, POINTS, RECORDS, NONE, size, base, BLOCK, STATES, NAMES, KEPT, LENGTH}
-use Rattle.store.specs.States.{isName, nameAt, keptBlock, Apart}
+use Rattle.store.specs.Field.{Field, pt, ct, X, Y, Z, NEXT, PREV, REC, SETTINGS, POINTS, RECORDS, NONE, size, base, BLOCK, STATES, KEPT, LENGTH}
+use Rattle.store.specs.States.{isName, nameAt, Apart}
 use Rattle.store.specs.Words.{Write, write, put, view, onWords}
 use Rattle.store.specs.Stores.{Within}
 use Rattle.store.specs.Named.{nextOf, prevOf, recOf, firstOf, pointsOf, recordsOf, setRec, ringOf}
 use Rattle.store.specs.Sound.{ringAt}
+use Rattle.store.specs.Boxes.{Boxed}
 use Rattle.store.specs.declared.points.Room.the-variants as room
 use Rattle.store.specs.Primitive.{Taken, taken, afterWrites, beforeWrites, duplicateOp}
 use Rattle.store.specs.Beside.{Beside}
 use Rattle.store.proofs.Storing.{ends}
+use Rattle.bounds.proofs.Beside.{behind-all, set-boxed}
 use Rattle.audit.proofs.Handing.{usable-handed}
 use Rattle.reading.specs.declared.fill.Outcome.the-variants as outcome
 use Rattle.reading.specs.Fill as fill
@@ -45,6 +47,7 @@ use Rattle.joins.specs.Join.{relinkWrites, madeWrites, emptyWrites, firstWrites
 use Rattle.joins.specs.Needs as need
 use Rattle.joins.specs.Needs.{Points, Four, Ringed, Unknotted}
 use Rattle.joins.specs.Resolve.{homeOf}
+use Rattle.joins.specs.Resolved.{Ready}
 use Rattle.joins.proofs.Turns.{Still, words, pair-four, pair-low-one, pair-low-two, pair-same, points-pair, split-ring-new, join-kept}
 use Rattle.converting.specs.declared.pairs.Converted.the-variants as converted
 use Rattle.converting.specs.Make.{Made, made, secondAt, firstAt, makeJoin, Out, out, withLefts, madeOf, apartOf, firstOne, secondOne, joinPair, movedPair, pairOf, andThen, innerFrom, outerFrom, sortedSegments, pairsOf, convertHorzSegsToJoins}
@@ -60,8 +63,9 @@ use Rattle.opening.specs.Start.{startWrites, startRing, startTo, startRi
 use Rattle.opening.specs.Open.{JOIN-POINTS, End, end, afterJoins, afterSegments, afterRows, stagesOf, settled, cleared, openOf}
 use Rattle.opening.specs.After.{OpenedOver}
 use Rattle.opening.proofs.Accepted.{after-opening}
-use Rattle.opening.proofs.Passing.{converting, may-join, made-few}
-use Rattle.opening.proofs.Staging.{cleared-long}
+use Rattle.opening.proofs.Clearing.{cleared-rest, cleared-live}
+use Rattle.opening.proofs.Passing.{converting, may-join, made-ready}
+use Rattle.opening.proofs.Starting.{set-long, set-few}
 
 -- the words behind the live block are `rest`
 module _ (rest : List ℕ) where
@@ -334,9 +338,12 @@ module _ (rest : List ℕ) where
       let l : i < limit.RECORDS = omega arith in
       writes-behind (startTo i w) (startWrites i (firstOf (startTo i w) i)) (l, (l, (l, (l, tt)))) (start-behind w i (omega arith) z)
 
-  started : (w : List ℕ) → recordsOf w ≤ limit.RECORDS → RestSame w → RestSame (startRings w)
+  started : (w : List ℕ) → Ready w → RestSame w → RestSame (startRings w)
   unfolding startRings
-  started w h z = start-behind w (recordsOf w) h z
+  started w r z =
+      let h : recordsOf w ≤ limit.RECORDS = r .resolved .few-records in
+      let u : List ℕ = startTo (recordsOf w) w in
+      behind-all u (set-long w (r .long) h u refl) (set-few w (r .long) h u refl) ∙ start-behind w (recordsOf w) h z
 
   -- ---- stage by stage
 
@@ -347,7 +354,7 @@ module _ (rest : List ℕ) where
   by-joins k js w g z = go (processHorzJoins k js w) refl (list-behind k 0 k js w g (omega arith) z)
     where
       go : (T : join.JoinEnd) → T ≡ processHorzJoins k js w → RestSame (words T) → EndBehind (afterJoins T)
-      go (join.end joined.Done x) e q = started x (made-few k js w x joined.Done g e) q
+      go (join.end joined.Done x) e q = started x (made-ready k js w x joined.Done g e) q
       go (join.end joined.Knot x) e q = q
       go (join.end joined.Full x) e q = q
 
@@ -380,7 +387,7 @@ module _ (bytes lent w : List ℕ) (e : openOf bytes lent ≡ end Accepted w) wh
     where
       by : (t : Bool) → ltb (length lent) LENGTH ≡ t → cond t (end (Refused refusal.Full) (replicate (length lent) 0)) (settled (length lent) (stagesOf bytes (cleared lent))) ≡ end Accepted w → drop BLOCK w ≡ drop BLOCK (cleared lent)
       by true h f = absurd (let z : _≡_ {A = ℕ} 0 1 = cc in omega arith)
-      by false h f = settles (drop BLOCK (cleared lent)) (length lent) (stagesOf bytes (cleared lent)) w (by-rows (drop BLOCK (cleared lent)) bytes (cleared lent) (omega (arith, ltb-false (length lent) LENGTH h, cleared-long lent (ltb-false (length lent) LENGTH h))) refl) f
+      by false h f = settles (drop BLOCK (cleared lent)) (length lent) (stagesOf bytes (cleared lent)) w (by-rows (drop BLOCK (cleared lent)) bytes (cleared lent) (cleared-live lent h) refl) f
 
   lent-long : LENGTH ≤ length lent
   unfolding openOf
@@ -391,11 +398,7 @@ module _ (bytes lent w : List ℕ) (e : openOf bytes lent ≡ end Accepted w) wh
       by false h f = ltb-false (length lent) LENGTH h
 
   pub open-rest : drop BLOCK w ≡ replicate STATES 0 ++ drop KEPT lent
-  open-rest =
-      open-behind
-      ∙ ap (λ (l : List ℕ). drop BLOCK (l ++ drop KEPT lent)) (sym (replicate-append-replicate {A = ℕ} BLOCK STATES 0))
-      ∙ ap (drop BLOCK) (append-assoc (replicate BLOCK 0) (replicate STATES 0) (drop KEPT lent))
-      ∙ drop-at (replicate BLOCK 0) (replicate STATES 0 ++ drop KEPT lent) BLOCK (length-replicate {A = ℕ} BLOCK 0)
+  open-rest = open-behind ∙ cleared-rest lent (omega (arith, lent-long))
 
   pub open-length : length w ≡ length lent
   open-length =
@@ -423,6 +426,9 @@ module _ (bytes lent w : List ℕ) (e : openOf bytes lent ≡ end Accepted w) wh
   pub open-apart : Apart w
   open-apart = record { differ = λ p q l h n. absurd (let a = open-free p (omega arith) in let z : isName 0 ≡ true = sym (ap isName a) ∙ n in let y : _≡_ {A = ℕ} 0 1 = cc in omega arith) }
 
+  pub open-boxed : (i : ℕ) → i < recordsOf w → Boxed w i
+  open-boxed i l = set-boxed w i (after-opening w bytes lent e .boxes i l)
+
   -- THE LAW, of every word
   pub opened-over : OpenedOver lent w
   opened-over =
@@ -431,5 +437,5 @@ module _ (bytes lent w : List ℕ) (e : openOf bytes lent ≡ end Accepted w) wh
         long = open-length;
         rest = open-rest;
         no-name = λ p l. ap isName (open-free p l);
-        tests = usable-handed w (record { long = open-long; sound = after-opening w bytes lent e .sound; apart = open-apart });
+        tests = usable-handed w (record { long = open-long; sound = after-opening w bytes lent e .sound; boxed = open-boxed; apart = open-apart });
       }

@@ -1,9 +1,11 @@
--- Laws of opening: words of zeros, rings at their start, what a stage gives the next, a joins list with more places, the stages put together, what holds after an accepted opening.
+-- Laws of opening: words of zeros, the cleared work space, rings at their start, what a stage gives the next, a joins list with more places, the stages put together, what holds after an accepted opening, words without boxes yet.
 -- Accepted: `after-opening`, `open-as-given`. Behind: `opened-over`, `open-rest` (behind the names every word is as found).
 pub mod Blanking
+pub mod Clearing
 pub mod Starting
 pub mod Passing
 pub mod Growing
 pub mod Staging
 pub mod Accepted
+pub mod Unboxed
 pub mod Behind

@@ -17,6 +17,8 @@ use Rattle.store.specs.Stores.{onStore}
 use Rattle.store.specs.Named.{firstOf, recordsOf}
 use Rattle.store.specs.Sound.{pts, recs, ringless, ringAt, isOpen}
 use Rattle.store.specs.Good.{total, Sound}
+use Rattle.store.specs.Boxes.{sidesAt, sidesOf, ringBox}
+use Rattle.bounds.proofs.Beside.{view-all, length-all, all-here}
 use Rattle.store.proofs.Storing.{length-writes, view-writes, hit, miss}
 use Rattle.store.proofs.Soundness.{first-on}
 use Rattle.joins.specs.Paths.{Resolves}
@@ -105,9 +107,30 @@ pub start-next : (w w₁ w₂ : List ℕ) (i : ℕ) → w₁ ≡ startTo i w →
 unfolding startTo
 start-next w w₁ w₂ i e f = rw add-one (f ∙ ap (λ (x : List ℕ). startRing x i) e)
 
-pub start-done : (w w₁ : List ℕ) (n i : ℕ) → n ≡ recordsOf w → n ≤ i → i ≤ n → w₁ ≡ startTo i w → w₁ ≡ startRings w
-unfolding startRings
+pub start-done : (w w₁ : List ℕ) (n i : ℕ) → n ≡ recordsOf w → n ≤ i → i ≤ n → w₁ ≡ startTo i w → w₁ ≡ startTo (recordsOf w) w
 start-done w w₁ n i e h k f = let d : i ≡ recordsOf w = omega arith in f ∙ ap (λ (j : ℕ). startTo j w) d
+
+-- ---- and then the boxes
+
+module _ (w : List ℕ) (long : BLOCK ≤ length w) (few : recordsOf w ≤ limit.RECORDS) where
+  pub set-long : (w₁ : List ℕ) → w₁ ≡ startTo (recordsOf w) w → BLOCK ≤ length w₁
+  set-long w₁ e = omega (arith, ap length e, length-start w (recordsOf w))
+
+  same-records : recordsOf (startTo (recordsOf w) w) ≡ recordsOf w
+  same-records = ap (λ (c : ℕ → ℕ). c 0) (begun w long (recordsOf w) few .counts RECORDS)
+
+  pub set-few : (w₁ : List ℕ) → w₁ ≡ startTo (recordsOf w) w → recordsOf w₁ ≤ limit.RECORDS
+  set-few w₁ e = omega (arith, ap recordsOf e, same-records)
+
+  view-starts : view (startRings w) ≡ view (startTo (recordsOf w) w)
+  unfolding startRings
+  view-starts = view-all (startTo (recordsOf w) w)
+
+  pub boxes-start : (i : ℕ) → i < recordsOf (startRings w) → sidesAt (startRings w) i ≡ sidesOf (ringBox (view (startRings w)) i)
+  unfolding startRings
+  boxes-start i h =
+      all-here (startTo (recordsOf w) w) (set-long (startTo (recordsOf w) w) refl) (set-few (startTo (recordsOf w) w) refl) i (omega (arith, ap (λ (s : Store). s (ct RECORDS) 0) (view-all (startTo (recordsOf w) w))))
+      ∙ ap (λ (s : Store). sidesOf (ringBox s i)) (sym (view-all (startTo (recordsOf w) w)))
 
 -- ---- sound and fresh
 
@@ -183,12 +206,13 @@ module _ (s s′ : Store) (b : Begun s s′ (recs s)) where
 
 module _ (w : List ℕ) (r : Ready w) where
   pub begun-all : Begun (view w) (view (startRings w)) (recs (view w))
-  unfolding startRings
-  begun-all = begun w (r .long) (recordsOf w) (r .resolved .few-records)
+  begun-all =
+      subst (λ (s : Store). Begun (view w) s (recs (view w))) (sym (view-starts w (r .long) (r .resolved .few-records)))
+      (begun w (r .long) (recordsOf w) (r .resolved .few-records))
 
   pub start-long : BLOCK ≤ length (startRings w)
   unfolding startRings
-  start-long = omega (arith, length-start w (recordsOf w), r .long)
+  start-long = omega (arith, length-all (startTo (recordsOf w) w), length-start w (recordsOf w), r .long)
 
   pub start-ready : Ready (startRings w)
   start-ready = record { long = start-long; resolved = resolved (view w) (view (startRings w)) begun-all (r .resolved) }

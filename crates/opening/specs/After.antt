@@ -9,6 +9,7 @@ use Rattle.store.specs.Words.{Store, view}
 use Rattle.store.specs.Named.{progressOf, presentOf, firstOf, recordsOf}
 use Rattle.store.specs.Sound.{pts, recs, ringAt, isOpen}
 use Rattle.store.specs.Good.{Sound}
+use Rattle.store.specs.Boxes.{sidesAt, sidesOf, ringBox}
 use Rattle.store.specs.States.{isName, nameAt}
 use Rattle.audit.specs.declared.Verdict.the-variants as audit
 use Rattle.audit.specs.Handed.{handedOf}
@@ -21,6 +22,8 @@ pub record AfterOpening (w : List ℕ) : Type 0 where
   pub ready : Ready w
   -- rings linked both ways, no two records sharing one
   pub sound : Sound (view w)
+  -- each ring's box stands beside it, open rings' too; zeros beside a record without a ring
+  pub boxes : (i : ℕ) → i < recordsOf w → sidesAt w i ≡ sidesOf (ringBox (view w) i)
   -- "at its start, the validity test", cut from none
   pub fresh : (i : ℕ) → i < recordsOf w → Fresh (view w) i
   -- and of every record, with a ring or without: its mark, and "with its first point as present place", and as its start

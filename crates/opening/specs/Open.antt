@@ -1,15 +1,15 @@
 -- Opening a job: document 01, "Opening a job reads and joins it". The stages in the table's order, each handing its words on.
-use Prim.Native.Nat.{ℕ, _+_, _*_}
+use Prim.Native.Nat.{ℕ, _+_, _-_, _*_}
 use mathlib.Core.Bool.{cond}
 use mathlib.Core.Logic.{_⊎_, inl, inr}
 use mathlib.Core.List.{List, _++_}
 use mathlib.Core.Option.{Option, none, some}
 use lib.Dec.{ltb}
-use lib.ListN.{length, drop, replicate}
+use lib.ListN.{length, take, drop, replicate}
 use Rattle.job.specs.Limits as limit
 use Rattle.job.specs.declared.refusal.Refusal.{Refusal}
 use Rattle.job.specs.declared.refusal.Refusal.the-variants as refusal
-use Rattle.store.specs.Field.{KEPT, LENGTH}
+use Rattle.store.specs.Field.{BOXES, BLOCK, STATES, KEPT, LENGTH}
 use Rattle.reading.specs.declared.fill.Outcome.the-variants as outcome
 use Rattle.reading.specs.Fill as fill
 use Rattle.accepting.specs.Accept.{acceptOf}
@@ -58,7 +58,7 @@ afterRows (fill.end (outcome.Refused r) w ss js) = end (Refused r) w
 abbrev pub JOIN-POINTS : ℕ
 JOIN-POINTS = 2 * limit.JOINS + limit.POINTS
 
--- all stages, over a live block of zeros; the two lists are the stage's own
+-- all stages, over a live block that holds zeros; the two lists are the stage's own
 unfoldable pub stagesOf : List ℕ → List ℕ → End
 stagesOf bytes w = afterRows (acceptOf bytes w (replicate limit.SEGMENTS 0) (replicate JOIN-POINTS 0))
 
@@ -67,9 +67,10 @@ abbrev pub settled : ℕ → End → End
 settled n (end Accepted w) = end Accepted w
 settled n (end (Refused r) w) = end (Refused r) (replicate n 0)
 
--- the live block and the names are zero, so that no name is kept; the words behind them, where copies of kept states stand, are as found
+-- every column is zero, and so are the names, so that none is kept. The words of boxes are as found: those of records in use are written, and no others are read. So are the words behind the names, where copies of kept
+-- states stand
 abbrev pub cleared : List ℕ → List ℕ
-cleared w = replicate KEPT 0 ++ drop KEPT w
+cleared w = replicate BOXES 0 ++ (take (BLOCK - BOXES) (drop BOXES w) ++ (replicate STATES 0 ++ drop KEPT w))
 
 -- opening, by the job's bytes and the lent work space: row 10, "tested first of all", then the stages
 unfoldable pub openOf : List ℕ → List ℕ → End

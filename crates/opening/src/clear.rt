@@ -1,9 +1,14 @@
 // A work space of zeros. What a small job left is nearly all zeros, and to read a zero costs less than to write one: a block is written only where another word is in it.
+use store::BOXES;
+use store::KEPT;
+use store::NAMES;
 ghost use mathlib.Core.Path.{_≡_};
 ghost use mathlib.Core.List.{_++_};
-ghost use Prim.Native.Nat.{_+_, _≤_};
-ghost use lib.ListN.{length, drop, replicate};
+ghost use Prim.Native.Nat.{_+_, _-_, _≤_};
+ghost use lib.ListN.{length, take, drop, replicate};
+ghost use Rattle.store.specs.Field as field;
 ghost use Rattle.opening.specs.Blank.{CHUNK, ZeroTo, IsBlank};
+ghost use Rattle.opening.specs.Open.{cleared};
 
 // How many words are looked at together.
 const CHUNK: usize = 128;
@@ -22,10 +27,10 @@ fn is_blank(t: &[u32], at: usize) -> bool
     !found
 }
 
-// Writes zeros from `at` up to `to`; the words before `at` are zero already.
+// Writes zeros from `at` up to `to`.
 fn write_zeros(t: &mut [u32], at: usize, to: usize)
-    requires { ⌜ (at ≤ to) × (to ≤ length (now t)) × ZeroTo at (now t) ⌝ }
-    ensures { λ _. ⌜ now (t .exit) ≡ replicate to 0 ++ drop to (now (t .entry)) ⌝ }
+    requires { ⌜ (at ≤ to) × (to ≤ length (now t)) ⌝ }
+    ensures { λ _. ⌜ now (t .exit) ≡ take at (now (t .entry)) ++ (replicate (to - at) 0 ++ drop to (now (t .entry))) ⌝ }
 {
     let mut k = at;
     while k < to {
@@ -47,7 +52,7 @@ fn clear_block(t: &mut [u32], at: usize)
 }
 
 // The first n words are zero.
-pub(crate) fn clear_to(work: &mut [u32], n: usize)
+fn clear_to(work: &mut [u32], n: usize)
     requires { ⌜ n ≤ length (now work) ⌝ }
     ensures { λ _. ⌜ now (work .exit) ≡ replicate n 0 ++ drop n (now (work .entry)) ⌝ }
 {
@@ -65,4 +70,14 @@ pub fn clear(work: &mut [u32])
 {
     let n = work.len();
     clear_to(work, n);
+}
+
+// Zeros for a job that is read: in every column, and for the names. The boxes between them are not read before they are written, and the copies of kept states behind are many words: zeros there would cost a small job
+// several times what the rest of it does.
+pub(crate) fn clear_live(work: &mut [u32])
+    requires { ⌜ field.KEPT ≤ length (now work) ⌝ }
+    ensures { λ _. ⌜ now (work .exit) ≡ cleared (now (work .entry)) ⌝ }
+{
+    clear_to(work, BOXES);
+    write_zeros(work, NAMES, KEPT);
 }

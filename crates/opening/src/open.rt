@@ -1,8 +1,9 @@
-// Opening a job: its stages, one function for each, and zeros on a refusal.
+// Opening a job: its stages, one function for each, and zeros on a refusal. The stages write no boxes: whoever opens a job writes them once, when its rings are as they are to be left.
 use crate::clear::clear;
-use crate::clear::clear_to;
+use crate::clear::clear_live;
 use crate::start::start_rings;
 use accepting::accept;
+use bounds::box_records;
 use converting::convert::convert_horz_segs_to_joins;
 use converting::pairs::Converted;
 use job::Job;
@@ -10,7 +11,6 @@ use job::refusal::Refusal;
 use joins::Joined;
 use joins::process_horz_joins;
 use reading::fill::Outcome;
-use store::KEPT;
 use store::LENGTH;
 ghost use mathlib.Core.Path.{_≡_};
 ghost use Prim.Native.Nat.{_*_, _≤_};
@@ -23,6 +23,7 @@ ghost use Rattle.converting.specs.Needs.{Converting};
 ghost use Rattle.joins.specs.Join.{processHorzJoins};
 ghost use Rattle.joins.specs.Needs.{Joins};
 ghost use Rattle.opening.specs.Open.{end, afterJoins, afterSegments, stagesOf, settled, openOf};
+ghost use Rattle.opening.specs.Unboxed.{boxedEnd};
 
 // What opening answers.
 pub enum Opened {
@@ -33,7 +34,7 @@ pub enum Opened {
 // k joins are made, and every ring is set at its start.
 fn make_joins(work: &mut [u32], joins: &[u32], k: usize) -> Opened
     requires { ⌜ Joins (now work) k (now joins) ⌝ }
-    ensures { λ r. ⌜ end r (now (work .exit)) ≡ afterJoins (processHorzJoins k (now (joins .entry)) (now (work .entry))) ⌝ }
+    ensures { λ r. ⌜ boxedEnd (end r (now (work .exit))) ≡ afterJoins (processHorzJoins k (now (joins .entry)) (now (work .entry))) ⌝ }
 {
     let t = process_horz_joins(work, joins, k);
     match t {
@@ -49,7 +50,7 @@ fn make_joins(work: &mut [u32], joins: &[u32], k: usize) -> Opened
 // m segments become joins, after the job's own n.
 fn convert(work: &mut [u32], segments: &[u32], m: usize, joins: &mut [u32], n: usize) -> Opened
     requires { ⌜ Converting (now work) (now segments) m (now joins) n ⌝ }
-    ensures { λ r. ⌜ end r (now (work .exit)) ≡ afterSegments (convertHorzSegsToJoins (now (work .entry)) m (now (segments .entry)) (now (joins .entry)) n) ⌝ }
+    ensures { λ r. ⌜ boxedEnd (end r (now (work .exit))) ≡ afterSegments (convertHorzSegsToJoins (now (work .entry)) m (now (segments .entry)) (now (joins .entry)) n) ⌝ }
 {
     let c = convert_horz_segs_to_joins(work, segments, m, joins, n);
     match c {
@@ -73,7 +74,7 @@ fn lay(list: &[u32], over: &mut [u32])
 // The job's n joins stand in `own`; the joins that are made of its m segments need more places, and fewer than two make none.
 fn join_all(work: &mut [u32], segments: &[u32], m: usize, own: &[u32], n: usize) -> Opened
     requires { ⌜ Converting (now work) (now segments) m (now own ++ replicate limit.POINTS 0) n × (length (now own) ≡ 2 * limit.JOINS) ⌝ }
-    ensures { λ r. ⌜ end r (now (work .exit)) ≡ afterSegments (convertHorzSegsToJoins (now (work .entry)) m (now (segments .entry)) (now (own .entry) ++ replicate limit.POINTS 0) n) ⌝ }
+    ensures { λ r. ⌜ boxedEnd (end r (now (work .exit))) ≡ afterSegments (convertHorzSegsToJoins (now (work .entry)) m (now (segments .entry)) (now (own .entry) ++ replicate limit.POINTS 0) n) ⌝ }
 {
     if m < 2 {
         return make_joins(work, own, n);
@@ -86,7 +87,7 @@ fn join_all(work: &mut [u32], segments: &[u32], m: usize, own: &[u32], n: usize)
 // Rows 1 to 8, and then the joins. Segments and joins stand in local arrays.
 fn stages(bytes: &[u8], work: &mut [u32]) -> Opened
     requires { ⌜ BLOCK ≤ length (now work) ⌝ }
-    ensures { λ r. ⌜ end r (now (work .exit)) ≡ stagesOf (now (bytes .entry)) (now (work .entry)) ⌝ }
+    ensures { λ r. ⌜ boxedEnd (end r (now (work .exit))) ≡ stagesOf (now (bytes .entry)) (now (work .entry)) ⌝ }
 {
     let mut segments = [0u32; Job::SEGMENTS];
     let mut own = [0u32; 2 * Job::JOINS];
@@ -110,16 +111,29 @@ fn settle(a: Opened, work: &mut [u32]) -> Opened
     }
 }
 
-// Opens a job: it is read into the work space, tested, and joined; every ring is then at its start. The live block and the names are zeroed first, and no more: zeros in the copies of kept states, too, would cost a
-// small job several times what the rest of it does.
-pub fn open(bytes: &[u8], work: &mut [u32]) -> Opened
-    ensures { λ r. ⌜ end r (now (work .exit)) ≡ openOf (now (bytes .entry)) (now (work .entry)) ⌝ }
+// Opens a job, without the boxes beside its rings: it is read into the work space, tested, and joined; every ring is then at its start.
+pub fn open_unboxed(bytes: &[u8], work: &mut [u32]) -> Opened
+    ensures { λ r. ⌜ boxedEnd (end r (now (work .exit))) ≡ openOf (now (bytes .entry)) (now (work .entry)) ⌝ }
 {
     if work.len() < LENGTH {
         clear(work);
         return Opened::Refused(Refusal::Full);
     }
-    clear_to(work, KEPT);
+    clear_live(work);
     let a = stages(bytes, work);
     settle(a, work)
+}
+
+// Opens a job, with the boxes.
+pub fn open(bytes: &[u8], work: &mut [u32]) -> Opened
+    ensures { λ r. ⌜ end r (now (work .exit)) ≡ openOf (now (bytes .entry)) (now (work .entry)) ⌝ }
+{
+    let a = open_unboxed(bytes, work);
+    match a {
+        Opened::Accepted => {
+            box_records(work);
+            Opened::Accepted
+        }
+        Opened::Refused(x) => Opened::Refused(x),
+    }
 }

@@ -9,7 +9,7 @@ ghost use lib.ListN.{length};
 ghost use Rattle.job.specs.Limits as limit;
 ghost use Rattle.store.specs.Field.{BLOCK};
 ghost use Rattle.store.specs.Named.{recordsOf};
-ghost use Rattle.opening.specs.Start.{startRing, startRings};
+ghost use Rattle.opening.specs.Start.{startRing, startTo};
 
 // Record i is at its start: the validity test is due, its first point is its present place, and it was cut from none.
 fn start_ring(w: &mut [u32], i: usize)
@@ -26,7 +26,7 @@ fn start_ring(w: &mut [u32], i: usize)
 // Every record is at its start.
 pub(crate) fn start_rings(w: &mut [u32])
     requires { ⌜ (BLOCK ≤ length (now w)) × (recordsOf (now w) ≤ limit.RECORDS) ⌝ }
-    ensures { λ _. ⌜ now (w .exit) ≡ startRings (now (w .entry)) ⌝ }
+    ensures { λ _. ⌜ now (w .exit) ≡ startTo (recordsOf (now (w .entry))) (now (w .entry)) ⌝ }
 {
     let n = get(w, Col::Records, 0);
     let mut i: usize = 0;

@@ -2,6 +2,8 @@
 use mathlib.Core.Path.{_≡_, refl}
 use Rattle.rings.specs.Walk as walk
 use Rattle.job.specs.Field.{bodyOf, fieldOf}
+use Rattle.geometry.specs.Box.{widen}
+use Rattle.store.specs.Boxes.{setSides, ringBox, boxedAt, boxedTo, allBoxed}
 use Rattle.store.specs.Words.{cell, put}
 use Rattle.store.specs.Primitive.{duplicateOp}
 use Rattle.audit.specs.Tests.{anyBelow}
@@ -24,7 +26,7 @@ use Rattle.opening_bench.specs.Bench.{result, RowsHold, bench, knotted, 
 
 -- the definitions that a row computes with: `unfolding computing` opens them all
 unfoldable computing : Unit {0}
-unfolding result openOf stagesOf acceptOf readOf fillOf run turnOf fieldOf bodyOf rowsOf endsIn findIn anyIn walk.run anyBelow cell put duplicateOp alongOf until atWall atStop atLimit wallRun stopRun limitRun sorted oneOf twoOf walledEnds freeEnds endsOf headed segmentThrough claimOf updateFrom segmentsOf makeJoin apartOf joinPair firstOne secondOne movedPair pairOf innerFrom outerFrom sortedSegments pairsOf convertHorzSegsToJoins relinkOf newOutRec nameAll fixOutrecPts moveFirst splitRing splitOf mergeOf byRecords joinOf joinsFrom startRing startTo startRings
+unfolding result openOf stagesOf acceptOf readOf fillOf run turnOf fieldOf bodyOf rowsOf endsIn findIn anyIn walk.run anyBelow cell put duplicateOp alongOf until atWall atStop atLimit wallRun stopRun limitRun sorted oneOf twoOf walledEnds freeEnds endsOf headed segmentThrough claimOf updateFrom segmentsOf makeJoin apartOf joinPair firstOne secondOne movedPair pairOf innerFrom outerFrom sortedSegments pairsOf convertHorzSegsToJoins relinkOf newOutRec nameAll fixOutrecPts moveFirst splitRing splitOf mergeOf byRecords joinOf joinsFrom startRing startTo startRings allBoxed boxedTo boxedAt ringBox setSides widen
 computing = tt
 
 knotted-holds : result knotted ≡ knotted .answer

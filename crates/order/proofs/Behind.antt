@@ -14,24 +14,27 @@ use Rattle.store.specs.Field.{pt, rc, ct, X, Y, NEXT, PREV, REC, OWNER, FIRST, 
 use Rattle.store.specs.States.{wordOfName, isName, nameAt, sameName, copyAt, keptBlock}
 use Rattle.store.specs.Reason.{JOINED, isKept}
 use Rattle.store.specs.Sound.{recs, ringless, ringAt, isOpen}
-use Rattle.store.specs.Value.{preserveCollinear}
+use Rattle.store.specs.declared.boxed.Sides.{Sides}
 use Rattle.store.specs.Words.{Store, view}
+use Rattle.store.specs.Named.{recordsOf}
+use Rattle.store.specs.Boxes.{sideAt, sidesAt, rectOf, ringBox, differs, misboxed}
 use Rattle.audit.specs.declared.Verdict.{Verdict}
 use Rattle.audit.specs.declared.Verdict.the-variants as verdict
 use Rattle.audit.specs.Tests.{isIn, anyBelow, reach, reachedBy, namesNothing, testsOf}
-use Rattle.audit.specs.Handed.{keptTwice, namesTested, testedOf, handedOf}
+use Rattle.audit.specs.Handed.{anyMisboxed, boxesTested, keptTwice, namesTested, testedOf, handedOf}
+use Rattle.audit.proofs.Agreeing.{passed-sound}
 use Rattle.audit.proofs.Handing.{handed-sound}
 use Rattle.laying.specs.Lay.{layOf}
 use Rattle.laying.proofs.Deciding.{lay-more, lay-second, lay-behind}
-use Rattle.acts.proofs.Beyond.{view-more, step-more}
-use Rattle.acts.specs.Step.{answerS, stepW}
+use Rattle.acts.proofs.Beyond.{view-more}
+use Rattle.acts.specs.Step.{answerS}
 use Rattle.paths.specs.declared.Written.the-variants as written
 use Rattle.paths.specs.Wrote.{wrote, buildPaths64}
 use Rattle.turns.specs.Form.{raised, geometryOf}
-use Rattle.turns.proofs.Ready.{laws}
 use Rattle.audit.specs.declared.Reply.{Reply}
 use Rattle.audit.specs.declared.Reply.the-variants.{Done, Refused}
 use Rattle.audit.specs.Left.{Left, left}
+use Rattle.boxed_steps.specs.Leaves.{stepLeaves}
 use Rattle.finishing.specs.Step.{steppedAs, stepBy, stepOf}
 use Rattle.steps.specs.Live.{anyLive}
 use Rattle.finishing.specs.Write.{writeBy, writeOf}
@@ -39,7 +42,7 @@ use Rattle.opening.proofs.Behind.{open-rest}
 use Rattle.telling.specs.declared.Told.the-variants as told
 use Rattle.telling.specs.Telling.{reasonAt, reasonBy, reasonOf}
 use Rattle.finishing.proofs.Entering.{handed-step, handed-write}
-use Rattle.finishing.proofs.Blocks.{call-behind}
+use Rattle.finishing.proofs.Blocks.{leaves-more, call-behind}
 use Rattle.states.specs.Places.{keepsName, isFree, placeOf, freePlace, keepPlace}
 use Rattle.states.specs.Calls.{stored, restored, freed, keepAt, backAt, dropAt, keepBy, backBy, dropBy, keepOf, goBackOf, dropOf}
 use Rattle.states.proofs.Lowest.{first-same}
@@ -80,7 +83,7 @@ tests-same w v e =
     ∙ ap (testsIn (view v)) (fun-ext (reached-same w v e))
     ∙ sym (tests-are v)
 
--- ---- and the names
+-- ---- and the boxes and names
 
 any-same : (n : ℕ) (q r : ℕ → Bool) → ((k : ℕ) → k < n → q k ≡ r k) → anyBelow n q ≡ anyBelow n r
 unfolding anyBelow
@@ -111,9 +114,28 @@ module _ (v m : List ℕ) (n : length v ≡ LENGTH) where
   names-same (verdict.Refused r) = refl
   names-same verdict.Passed = ap (λ (b : Bool). cond b (verdict.Refused Muddled) verdict.Passed) same-twice
 
+  -- the boxes
+  same-sides : (i : ℕ) → i < limit.RECORDS → sidesAt (v ++ m) i ≡ sidesAt v i
+  same-sides i h =
+      rw (List·getD-append v m 0 (sideAt 0 i) (omega arith), List·getD-append v m 0 (sideAt 1 i) (omega arith), List·getD-append v m 0 (sideAt 2 i) (omega arith), List·getD-append v m 0 (sideAt 3 i) (omega arith))
+
+  same-boxes : recordsOf v ≤ limit.RECORDS → anyMisboxed (v ++ m) ≡ anyMisboxed v
+  unfolding anyMisboxed misboxed
+  same-boxes few =
+      ap (λ (s : Store). anyBelow (s (ct RECORDS) 0) (λ (i : ℕ). differs (ringBox s i) (rectOf (sidesAt (v ++ m) i)))) (view-more m v block-long)
+      ∙ any-same (recordsOf v) (λ (i : ℕ). differs (ringBox (view v) i) (rectOf (sidesAt (v ++ m) i))) (λ (i : ℕ). differs (ringBox (view v) i) (rectOf (sidesAt v i)))
+      (λ i l. ap (λ (b : Sides). differs (ringBox (view v) i) (rectOf b)) (same-sides i (omega arith)))
+
+  boxes-same : (x : Verdict) → testsOf v ≡ x → boxesTested (v ++ m) x ≡ boxesTested v x
+  boxes-same (verdict.Refused r) e = refl
+  boxes-same verdict.Passed e = ap (λ (b : Bool). cond b (verdict.Refused Muddled) verdict.Passed) (same-boxes (passed-sound v e .few-records))
+
   same-tested : testedOf (v ++ m) ≡ testedOf v
   unfolding testedOf
-  same-tested = names-same (testsOf (v ++ m)) ∙ ap (namesTested v) (tests-same (v ++ m) v (view-more m v block-long))
+  same-tested =
+      names-same (boxesTested (v ++ m) (testsOf (v ++ m)))
+      ∙ ap (λ (x : Verdict). namesTested v (boxesTested (v ++ m) x)) (tests-same (v ++ m) v (view-more m v block-long))
+      ∙ ap (namesTested v) (boxes-same (testsOf v) refl)
 
   same-handed : handedOf (v ++ m) ≡ handedOf v
   unfolding handedOf
@@ -128,8 +150,8 @@ module _ (v m : List ℕ) (n : length v ≡ LENGTH) where
       by : (t : Verdict) → handedOf v ≡ t → stepBy t (v ++ m) i ≡ left (stepBy t v i .answer) (stepBy t v i .words ++ m)
       by (verdict.Refused r) e = refl
       by verdict.Passed e =
-          ap (λ (s : Store). left (steppedAs (answerS (geometryOf s) raised s i)) (stepW (geometryOf s) raised (v ++ m) i)) (view-more m v block-long)
-          ∙ ap (left (steppedAs (answerS (geometryOf (view v)) raised (view v) i))) (step-more m raised v block-long i (geometryOf (view v)) (laws (preserveCollinear (view v))) (handed-sound v e .sound))
+          ap (λ (s : Store). left (steppedAs (answerS (geometryOf s) raised s i)) (stepLeaves (answerS (geometryOf s) raised s i) (v ++ m) i)) (view-more m v block-long)
+          ∙ ap (left (steppedAs (answerS (geometryOf (view v)) raised (view v) i))) (leaves-more v block-long (handed-sound v e .sound) i m (answerS (geometryOf (view v)) raised (view v) i))
 
   writings : (t : List ℕ) → writeOf (v ++ m) t ≡ writeOf v t
   writings t =
@@ -218,7 +240,7 @@ module _ (v m : List ℕ) (n : length v ≡ LENGTH) where
   layings x = lay-more v x m long longer (view-more m v block-long) same-tested
 
   second-ones : (w : List ℕ) → layOf w (v ++ m) ≡ layOf w v
-  second-ones w = lay-second w (v ++ m) v longer long (view-more m v block-long) same-tested
+  second-ones w = lay-second w (v ++ m) v longer long (view-more m v block-long) same-sides same-tested
 
 pub behind : Behind
 behind =

@@ -1,6 +1,6 @@
 -- Finishing in one call leaves the names free and the words behind them as found: opening does, and a step leaves every word behind the live block.
 use Prim.Native.Nat.{ℕ, zero, suc, _≤_}
-use mathlib.Core.Path.{_≡_, refl, _∙_}
+use mathlib.Core.Path.{_≡_, refl, _∙_, sym, subst}
 use mathlib.Core.List.{List, _++_}
 use native.Mathlib.Omega.{arith}
 use lib.ListN.{length, drop, replicate}
@@ -13,6 +13,8 @@ use Rattle.store.specs.Field.{BLOCK, STATES, KEPT}
 use Rattle.store.specs.Good.{Sound}
 use Rattle.store.specs.Value.{preserveCollinear}
 use Rattle.store.specs.Words.{view}
+use Rattle.store.specs.Boxes.{allBoxed}
+use Rattle.bounds.proofs.Beside.{view-all, length-all, behind-all}
 use Rattle.acts.specs.Apply.{Coding}
 use Rattle.acts.specs.Finish.{RingsEnd, ringsDone, ringsFull, andThen, stepsByW, finishRecord, finishFromW, finishW}
 use Rattle.acts.specs.Laws.{Laws}
@@ -28,7 +30,7 @@ use Rattle.opening.specs.declared.open.Opened.the-variants.{Accepted, Refused}
 use Rattle.opening.specs.Open.{End, end, openOf}
 use Rattle.opening.proofs.Accepted.{after-opening}
 use Rattle.opening.proofs.Behind.{open-rest}
-use Rattle.finishing.specs.Finish.{finishRings}
+use Rattle.finishing.specs.Finish.{thenBoxed, finishRings}
 use Rattle.finishing.specs.InOneCall.{afterWriting, afterSteps, afterOpening, finishOf}
 use Rattle.finishing.proofs.Blocks.{step-behind}
 
@@ -67,9 +69,18 @@ module _ {P : Type 0} (G : Geo P) (f : Coding P) (Λ : Laws G f) (rest : List �
       go (outcome full x) d r = d
       go (outcome outOfTurn x) d r = r x d
 
+-- and the boxes
+all-clean : (rest w : List ℕ) → Clean rest w → Clean rest (allBoxed w)
+all-clean rest w c =
+    record { long = omega (arith, c .long, length-all w); sound = subst Sound (sym (view-all w)) (c .sound); behind = behind-all w (c .long) (c .sound .few-records) ∙ c .behind }
+
+boxed-clean : (rest : List ℕ) (T : RingsEnd) → EndClean rest T → EndClean rest (thenBoxed T)
+boxed-clean rest (ringsDone w) c = all-clean rest w c
+boxed-clean rest (ringsFull w) c = all-clean rest w c
+
 rings-clean : (rest w : List ℕ) → Clean rest w → EndClean rest (finishRings w)
 unfolding finishRings finishW
-rings-clean rest w c = from-clean (geometryOf (view w)) raised (laws (preserveCollinear (view w))) rest RECORDS w 0 c
+rings-clean rest w c = boxed-clean rest (finishW (geometryOf (view w)) raised w) (from-clean (geometryOf (view w)) raised (laws (preserveCollinear (view w))) rest RECORDS w 0 c)
 
 -- ---- writing out, and the whole
 

@@ -3,11 +3,13 @@ use mathlib.Core.Path.{_≡_, refl}
 use mathlib.Core.List.{map}
 use lib.Ieee.{toSigned, add, ofInt, mul}
 use Rattle.geometry.specs.Plane.{samePoint, isCollinear, dotProductThreePoints, areaTriangle, areaOutpt, ptsReallyClose, isVerySmallTriangle, removable, strictlyWithin, segmentsIntersect}
+use Rattle.geometry.specs.Box.{widen}
 use Rattle.geometry.specs.Crossing.{fractionOf, crossing, coordinateAt, getSegmentIntersectPt}
 use Rattle.job.specs.Field.{bodyOf, fieldOf}
 use Rattle.rings.specs.Walk as walk
 use Rattle.lone.specs.Lone.{removalTurn, doSplitOp, splitTurn, decide, actOf}
 use Rattle.lone.specs.Path.{buildPath64FromOutpt}
+use Rattle.store.specs.Boxes.{setSides, ringBox, boxedAt, boxedTo, allBoxed}
 use Rattle.store.specs.Words.{cell, put}
 use Rattle.store.specs.Value.{wordOf}
 use Rattle.audit.specs.Tests.{anyBelow}
@@ -36,7 +38,7 @@ use Rattle.order_bench.specs.Bench.{settingsOnly, empty, square, inLine,
 
 -- the definitions that a row computes with: `unfolding computing` opens them all
 unfoldable computing : Unit {0}
-unfolding result expected finishOf openOf stagesOf acceptOf readOf fillOf run turnOf fieldOf bodyOf rowsOf endsIn findIn anyIn walk.run anyBelow cell put convertHorzSegsToJoins pairsOf sortedSegments segmentsOf updateFrom sorted swapAt sinkRows outerFrom joinsFrom joinOf byRecords splitOf splitRing moveFirst fixOutrecPts nameAll newOutRec relinkOf startRings startTo startRing finishRings finishW finishRecord answerS stepW wordOf samePoint isCollinear dotProductThreePoints areaTriangle areaOutpt ptsReallyClose isVerySmallTriangle removable strictlyWithin segmentsIntersect fractionOf crossing coordinateAt getSegmentIntersectPt removalTurn doSplitOp splitTurn decide actOf buildPath64FromOutpt pointAt pathAt pathIf pointBytes pathField fieldsOf buildPaths64 toSigned add ofInt mul
+unfolding result expected finishOf openOf stagesOf acceptOf readOf fillOf run turnOf fieldOf bodyOf rowsOf endsIn findIn anyIn walk.run anyBelow cell put convertHorzSegsToJoins pairsOf sortedSegments segmentsOf updateFrom sorted swapAt sinkRows outerFrom joinsFrom joinOf byRecords splitOf splitRing moveFirst fixOutrecPts nameAll newOutRec relinkOf startRings startTo startRing allBoxed boxedTo boxedAt ringBox setSides widen finishRings finishW finishRecord answerS stepW wordOf samePoint isCollinear dotProductThreePoints areaTriangle areaOutpt ptsReallyClose isVerySmallTriangle removable strictlyWithin segmentsIntersect fractionOf crossing coordinateAt getSegmentIntersectPt removalTurn doSplitOp splitTurn decide actOf buildPath64FromOutpt pointAt pathAt pathIf pointBytes pathField fieldsOf buildPaths64 toSigned add ofInt mul
 computing = tt
 
 settings-only : result settingsOnly ≡ expected settingsOnly

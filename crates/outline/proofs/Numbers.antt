@@ -5,7 +5,12 @@ use mathlib.Core.Logic.{_≢_}
 use mathlib.Core.Bool.{Bool, true, false, cond}
 use mathlib.Core.List.{List}
 use native.Mathlib.Omega.{arith}
+use lib.IntN.{ℤ}
 use lib.ListN.{length}
+use mir.Syntax.{w32}
+use mir.Val.{SFits}
+use mir.Facts.{toZ-ofZ}
+use Rattle.exact.proofs.Words.{i32}
 use Rattle.job.specs.Limits as limit
 use Rattle.audit.specs.declared.Reply.{Reply}
 use Rattle.audit.specs.Left.{left}
@@ -40,7 +45,12 @@ use Rattle.telling.proofs.Within.{told-within}
 use Rattle.states.specs.Calls.{keepOf, goBackOf, dropOf}
 use Rattle.laying.specs.Lay.{layOf}
 use Rattle.mending.specs.Mend.{mended, mendOf}
-use Rattle.outline.specs.Calls.{openedNumber, replyNumber, writtenNumber, listedBytes, rewrittenNumber, reasonWord, toldNumber, rateFrom, textShort, worked, wrote, finished, listing, pairs, asOpened, asReplied, asWritten, asFinished, asListed, asContained, asRewritten, asMended, openC, stepC, keepC, backC, dropC, layC, writeC, finishC, listC, rewriteC, reasonC, containedC, mendedJob, mendC}
+use Rattle.windows.specs.declared.Found.{Found}
+use Rattle.windows.specs.declared.Found.the-variants.{Records}
+use Rattle.windows.specs.RecordsIn.{FoundIn, found, recordsIn}
+use Rattle.windows.specs.Within.{FoundWithin}
+use Rattle.windows.proofs.Within.{found-within}
+use Rattle.outline.specs.Calls.{openedNumber, replyNumber, writtenNumber, listedBytes, rewrittenNumber, reasonWord, toldNumber, foundNumber, rateFrom, textShort, worked, wrote, finished, listing, pairs, asOpened, asReplied, asWritten, asFinished, asListed, asContained, asRewritten, asMended, openC, stepC, keepC, backC, dropC, layC, writeC, finishC, listC, rewriteC, reasonC, containedC, mendedJob, mendC, foundIn, window, asFound, recordsC}
 
 pub as-opened : (bytes lent : List ℕ) (k : ℕ) (a : Opened) (w : List ℕ) → end a w ≡ openOf bytes lent → k ≡ openedNumber a → worked k w ≡ openC bytes lent
 unfolding openC
@@ -145,3 +155,23 @@ module _ (bytes w t : List ℕ) (rate : ℕ) (s : List ℕ) (b : Bool) (d : b �
 pub as-contained : (bytes lent t : List ℕ) (m k : ℕ) (a : Written) (w u v : List ℕ) → contained a w u v ≡ containedOf bytes lent t m → k ≡ writtenNumber a → pairs k w u v ≡ containedC bytes lent t m
 unfolding containedC
 as-contained bytes lent t m k a w u v e h = ap (λ (z : ℕ). pairs z w u v) h ∙ ap asContained e
+
+-- ---- the records in a window
+
+pub found-fits : (a : Found) (k : ℕ) → FoundWithin a → a ≡ Records k → 4294967296 * k < 2 ^ 64
+found-fits a k h e = let l : k ≤ limit.RECORDS = subst FoundWithin e h in omega arith
+
+pub found-is : (a : Found) (k : ℕ) → a ≡ Records k → 4294967296 * k ≡ foundNumber a
+found-is a k e = rw e
+
+module _ {left top right bottom : ℤ} (h : SFits w32 left) (i : SFits w32 top) (j : SFits w32 right) (m : SFits w32 bottom) (w l l′ : List ℕ) (a : Found)
+    (e : found a l′ ≡ recordsIn w (window (i32 left) (i32 top) (i32 right) (i32 bottom)) l) where
+  as-window : found a l′ ≡ recordsIn w (window left top right bottom) l
+  as-window = e ∙ rw (toZ-ofZ h, toZ-ofZ i, toZ-ofZ j, toZ-ofZ m)
+
+  pub found-here : FoundWithin a
+  found-here = subst (λ (x : FoundIn). FoundWithin (x .answer)) (sym as-window) (found-within w (window left top right bottom) l)
+
+  pub as-found : (k : ℕ) → k ≡ foundNumber a → foundIn k l′ ≡ recordsC w (window left top right bottom) l
+  unfolding recordsC
+  as-found k f = ap (λ (z : ℕ). foundIn z l′) f ∙ ap asFound as-window

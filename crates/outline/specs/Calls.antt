@@ -3,6 +3,7 @@ use Prim.Native.Nat.{ℕ, zero, suc, _+_, _*_, _^_}
 use mathlib.Core.Bool.{Bool, cond, _&&_}
 use mathlib.Core.List.{List}
 use lib.Dec.{leb, ltb}
+use lib.IntN.{ℤ}
 use lib.ListN.{length}
 use Rattle.rates.specs.declared.Rate.{Rate}
 use Rattle.rates.specs.declared.Rate.the-variants.{NoRate, Cents}
@@ -39,6 +40,10 @@ use Rattle.telling.specs.declared.Reason.the-variants as reason
 use Rattle.telling.specs.declared.Told.{Told}
 use Rattle.telling.specs.declared.Told.the-variants as told
 use Rattle.telling.specs.Telling.{reasonOf}
+use Rattle.geometry.specs.declared.Rect.{Rect}
+use Rattle.windows.specs.declared.Found.{Found}
+use Rattle.windows.specs.declared.Found.the-variants as windows
+use Rattle.windows.specs.RecordsIn.{FoundIn, recordsIn}
 
 -- ---- numbers of answers: no refusal is 0
 
@@ -79,6 +84,11 @@ reasonWord (reason.Written o place) = 8 + 256 * tagOf o + 65536 * place
 abbrev pub toldNumber : Told → ℕ
 toldNumber (told.Because x) = 2 ^ 32 * reasonWord x
 toldNumber (told.Refused x) = numberOf x
+
+-- in the low half 0 or the refusal's number, in the high half how many records were found
+abbrev pub foundNumber : Found → ℕ
+foundNumber (windows.Records n) = 2 ^ 32 * n
+foundNumber (windows.Refused x) = numberOf x
 
 -- ---- a number handed over as a rate: 0 for none
 
@@ -140,6 +150,18 @@ pub record MendedJob : Type 0 where
 
 abbrev pub mendedJob : ℕ → List ℕ → MendedJob
 mendedJob n s = record { number = n; job = s }
+
+-- a call that changes the list only
+pub record Records : Type 0 where
+  pub number : ℕ
+  pub list : List ℕ
+
+abbrev pub foundIn : ℕ → List ℕ → Records
+foundIn n l = record { number = n; list = l }
+
+-- a window handed over side by side; as in core.rs, top is the least y
+abbrev pub window : ℤ → ℤ → ℤ → ℤ → Rect
+window l t r b = record { left = l; top = t; right = r; bottom = b }
 
 -- ---- the calls
 
@@ -220,3 +242,10 @@ containedC bytes lent t k = asContained (containedOf bytes lent t k)
 -- `outline_mend`
 unfoldable pub mendC : List ℕ → MendedJob
 mendC bytes = asMended (mendOf bytes)
+
+abbrev pub asFound : FoundIn → Records
+asFound a = foundIn (foundNumber (a .answer)) (a .list)
+
+-- `outline_records_in`
+unfoldable pub recordsC : List ℕ → Rect → List ℕ → Records
+recordsC w v l = asFound (recordsIn w v l)

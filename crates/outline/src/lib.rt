@@ -1,10 +1,11 @@
-// The entry points for C and Rust: the same calls, answering 0 or the refusal's number; the listing; rewriting; laying two drawings together; telling a record's reason; which shape lies in which; and mending a job's backward links.
+// The entry points for C and Rust: the same calls, answering 0 or the refusal's number; the listing; rewriting; laying two drawings together; telling a record's reason; which shape lies in which; mending a job's backward links; and the records in a window.
 use audit::Reply;
 use containment::contained;
 use finishing::finish::finish;
 use finishing::open;
 use finishing::step;
 use finishing::write_out;
+use geometry::Rect;
 use job_listing::list_job;
 use laying::lay_together;
 use listing::Listed;
@@ -23,6 +24,8 @@ use store::LENGTH;
 use telling::Reason;
 use telling::Told;
 use telling::reason_of;
+use windows::Found;
+use windows::records_in;
 ghost use mathlib.Core.Path.{_≡_};
 ghost use Prim.Native.Nat.{_+_, _*_, _^_, _<_, _≤_};
 ghost use lib.ListN.{length};
@@ -32,7 +35,8 @@ ghost use Rattle.prefix.specs.Decides.{LONGEST};
 ghost use Rattle.rewriting.specs.Answers.{BytesWithin};
 ghost use Rattle.paths.specs.Tray.{tagOf};
 ghost use Rattle.telling.specs.Within.{NumberWithin, ToldWithin};
-ghost use Rattle.outline.specs.Calls.{openedNumber, replyNumber, writtenNumber, listedBytes, rewrittenNumber, reasonWord, toldNumber, rateFrom, textShort, worked, wrote, finished, listing, pairs, openC, stepC, keepC, backC, dropC, layC, writeC, finishC, listC, rewriteC, reasonC, containedC, mendedJob, mendC};
+ghost use Rattle.windows.specs.Within.{FoundWithin};
+ghost use Rattle.outline.specs.Calls.{openedNumber, replyNumber, writtenNumber, listedBytes, rewrittenNumber, reasonWord, toldNumber, foundNumber, rateFrom, textShort, worked, wrote, finished, listing, pairs, foundIn, window, openC, stepC, keepC, backC, dropC, layC, writeC, finishC, listC, rewriteC, reasonC, containedC, mendedJob, mendC, recordsC};
 
 // ---- the numbers of answers
 
@@ -128,6 +132,17 @@ fn told_number(a: Told) -> u64
         Told::Refused(x) => {
             return x.number() as u64;
         }
+    }
+}
+
+// In the low half 0 or the refusal's number, in the high half how many records were found.
+fn found_number(a: Found) -> u64
+    requires { ⌜ FoundWithin a ⌝ }
+    ensures { λ r. ⌜ r ≡ foundNumber a ⌝ }
+{
+    match a {
+        Found::Records(n) => 4294967296 * n as u64,
+        Found::Refused(x) => x.number() as u64,
     }
 }
 
@@ -297,4 +312,26 @@ pub extern "C" fn outline_mend(job: &mut [u8]) -> u32
 {
     let a = mend(job);
     reply_number(a)
+}
+
+// The records whose boxes meet a window, into the list. The work space is only read.
+#[no_mangle]
+pub extern "C" fn outline_records_in(
+    work: &[u32],
+    left: i32,
+    top: i32,
+    right: i32,
+    bottom: i32,
+    list: &mut [u32],
+) -> u64
+    ensures { λ r. ⌜ foundIn r (now (list .exit)) ≡ recordsC (now (work .entry)) (window left top right bottom) (now (list .entry)) ⌝ }
+{
+    let v = Rect {
+        left,
+        top,
+        right,
+        bottom,
+    };
+    let a = records_in(work, v, list);
+    found_number(a)
 }

@@ -11,3 +11,4 @@ pub mod Rounds
 pub mod Homes
 pub mod Judging
 pub mod Readiness
+pub mod Pointing

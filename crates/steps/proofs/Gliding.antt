@@ -13,7 +13,6 @@ use Rattle.rings.specs.Progress.{Due, removal, triangle, split, done, isDone, w
 use Rattle.rings.proofs.Counting.{occ-head}
 use Rattle.rings.proofs.Members.{prev-next}
 use Rattle.geometry.specs.declared.Point.{Point}
-use Rattle.geometry.specs.declared.Edges.{Edges}
 use Rattle.geometry.specs.Plane.{isCollinear, removable, segmentsIntersect}
 use Rattle.lone.specs.Act.{Act, dropPoint, discard, moveOn}
 use Rattle.lone.specs.Forest.{ok}
@@ -39,7 +38,7 @@ use Rattle.steps.specs.declared.glide.WalkEnd.{WalkEnd}
 use Rattle.steps.specs.declared.glide.WalkEnd.the-variants.{At, Gone, Past}
 use Rattle.turns.specs.Code.{dueIs}
 use Rattle.turns.specs.Form.{raised, geometryOf}
-use Rattle.turns.specs.Reads.{Steps, Going, Found, Valued, Three, Four, EdgesAt}
+use Rattle.turns.specs.Reads.{Steps, Going, Found, Valued, Three}
 use Rattle.turns.specs.Decide.{removeAt, validWithout, removalAt, splitAt, decideDue, decideAt}
 use Rattle.steps.specs.Expects.{Expects, comingIf}
 use Rattle.steps.specs.Glide.{Glided, still, onward, Glides, DueAt, leaves, placeOf, comingBy, GlidesTo}
@@ -263,12 +262,10 @@ module _ (w : List ℕ) (i p x : ℕ) (A : GlidingAt removal w i p x) where
     removal-ends q = ended removal w i p x A n N triangle (removal-is true (eq-eqb n (cell (rc START) w i) (q ∙ es)))
 
 -- ---- the split loop
-module _ (w : List ℕ) (p x y z : ℕ) (T : Three w p x y) (Z : Found w (cell (pt NEXT) w y) z) where
-  pub all-four : Four w p x y z
-  all-four = record { one = T .one; two = T .two; three = T .three; four = Z .on }
-
-  pub hit-is : (e : Edges) → EdgesAt w p x y z e → (t : Bool) → t ≡ segmentsIntersect (e .a) (e .b) (e .c) (e .d) → t ≡ segmentsIntersect (pointOf w p) (pointOf w x) (pointOf w y) (pointOf w (cell (pt NEXT) w y))
-  hit-is e E t et = rw (← Z .is) (rw (← E .prev-is, ← E .pt-is, ← E .next-is, ← E .after-is) et)
+pub hit-is :
+    (w : List ℕ) (p x y z : ℕ) (a b c d : Point) → Valued w p a → Valued w x b → Valued w y c → Found w (cell (pt NEXT) w y) z → Valued w z d →
+    (t : Bool) → t ≡ segmentsIntersect a b c d → t ≡ segmentsIntersect (pointOf w p) (pointOf w x) (pointOf w y) (pointOf w (cell (pt NEXT) w y))
+hit-is w p x y z a b c d A B C Z D t e = rw (← Z .is) (rw (← A .is, ← B .is, ← C .is, ← D .is) e)
 
 module _ (w : List ℕ) (i p x : ℕ) (A : GlidingAt split w i p x) where
   pub split-stops : GlidesTo done w i (At x)

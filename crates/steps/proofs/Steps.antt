@@ -11,9 +11,10 @@ use Rattle.rings.specs.Progress.{Due, isDone}
 use Rattle.geometry.specs.declared.Point.{Point}
 use Rattle.lone.specs.Act.{Act, cut, takesPoints}
 use Rattle.lone.specs.Forest.{ok, full, outOfTurn}
-use Rattle.store.specs.Field.{rc, ct, FLAGS, FIRST, MARK, POINTS, RECORDS}
+use Rattle.store.specs.Field.{rc, ct, FLAGS, FIRST, MARK, PRESENT, POINTS, RECORDS}
 use Rattle.store.specs.Words.{Store, view, cell}
 use Rattle.store.specs.Sound.{pts, recs, dueOf, dueAt}
+use Rattle.store.specs.Boxes.{sidesAt}
 use Rattle.store.specs.Good.{Sound, SoundWords}
 use Rattle.store.specs.Value.{preserveCollinear}
 use Rattle.acts.specs.Apply.{takesRecord, afterW}
@@ -27,8 +28,11 @@ use Rattle.turns.specs.declared.Act.the-variants.{Cut}
 use Rattle.turns.specs.declared.Due as due
 use Rattle.turns.specs.Code.{dueIs, actIs}
 use Rattle.turns.specs.Form.{raised, geometryOf}
-use Rattle.turns.specs.Reads.{Steps}
-use Rattle.turns.proofs.Ready.{laws, in-codes}
+use Rattle.turns.specs.Reads.{Steps, Going}
+use Rattle.turns.proofs.Ready.{laws, in-codes, going}
+use Rattle.boxes.specs.AtHand.{changesAt}
+use Rattle.steps.specs.declared.Answer.the-variants.{Ok, Full}
+use Rattle.steps.specs.Foretold.{Foretold}
 use Rattle.steps.specs.Applies.{NewIn, Applies}
 use Rattle.steps.proofs.Applying.{reach}
 
@@ -94,6 +98,18 @@ module _ (w : List ℕ) (i : ℕ) (s : Steps w i) (act : Act Point) (e : act ≡
   pub no-room : room ≡ false → outcome full w ≡ stepWords (geometryOf (view w)) raised w i
   unfolding stepWords stepW answerS
   no-room h = rw (is-live, ← e, sym er ∙ h)
+
+-- ---- what it tells of the box
+
+module _ (w : List ℕ) (i : ℕ) where
+  pub foretold : (act : Act Point) (changes : Bool) → act ≡ actAt (geometryOf (view w)) raised (view w) i → changes ≡ changesAt (sidesAt w i) (view w) (view w (rc PRESENT) i) act → Foretold w i Ok changes
+  foretold act changes e h = record { told = λ z. h ∙ ap (changesAt (sidesAt w i) (view w) (view w (rc PRESENT) i)) e }
+
+  pub not-told : Foretold w i Full false
+  not-told = record { told = λ z. absurd (let y : _≡_ {A = ℕ} 0 1 = cc in omega arith) }
+
+  pub goes : Steps w i → Going w i
+  goes s = going w i s
 
 -- ---- a record number that may be any
 module _ (w : List ℕ) (i : ℕ) where

@@ -4,3 +4,4 @@ pub mod Expects
 pub mod Glide
 pub mod Applies
 pub mod Live
+pub mod Foretold

@@ -45,7 +45,8 @@ pub fn step_coming(w: &mut [u32], i: usize, c: Coming) -> Answer
             return Answer::OutOfTurn;
         }
         Coming::Step => {
-            return step_ring(w, i);
+            let s = step_ring(w, i);
+            return s.answer;
         }
         Coming::Drop(x) => {
             return drop_at(w, i, x);

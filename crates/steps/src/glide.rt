@@ -6,7 +6,6 @@ use store::Col;
 use store::get;
 use store::set;
 use turns::Due;
-use turns::decide::edges_at;
 use turns::decide::present_of;
 use turns::decide::removable_at;
 use turns::ring::due_at;
@@ -80,9 +79,12 @@ fn crosses_at(w: &[u32], p: usize, x: usize, y: usize) -> bool
     requires { ⌜ Three (now w) p x y ⌝ }
     ensures { λ r. ⌜ r ≡ segmentsIntersect (pointOf (now (w .entry)) p) (pointOf (now (w .entry)) x) (pointOf (now (w .entry)) y) (pointOf (now (w .entry)) (cell (pt NEXT) (now (w .entry)) y)) ⌝ }
 {
+    let a = point_at(w, p);
+    let b = point_at(w, x);
+    let c = point_at(w, y);
     let z = next_of(w, y);
-    let e = edges_at(w, p, x, y, z);
-    geometry::segments_intersect(e)
+    let d = point_at(w, z);
+    crosses::edges_cross(a, b, c, d)
 }
 
 // The split loop, up to a crossing or past its end.

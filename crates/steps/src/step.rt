@@ -1,6 +1,7 @@
 // One step on a record: decided, tested for places, applied.
 use crate::Answer;
 use crate::apply::apply;
+use changes::may_change;
 use job::Job;
 use store::Col;
 use store::NONE;
@@ -21,6 +22,7 @@ ghost use Rattle.turns.specs.Code.{actIs};
 ghost use Rattle.turns.specs.Form.{raised, geometryOf};
 ghost use Rattle.turns.specs.Reads.{Steps};
 ghost use Rattle.steps.specs.Code.{answerIs};
+ghost use Rattle.steps.specs.Foretold.{Foretold};
 ghost use Rattle.steps.specs.Live.{anyLive};
 
 // How many points an act takes.
@@ -81,18 +83,31 @@ fn has_room(w: &[u32], act: Act) -> bool
     (p + a <= Job::POINTS) & (r + b <= Job::RECORDS)
 }
 
+// What a step answers; and, where it is carried out, whether it may have changed its ring's box.
+pub struct Stepped {
+    pub answer: Answer,
+    pub changes: bool,
+}
+
 // A step on an unfinished closed ring.
-pub fn step_ring(w: &mut [u32], i: usize) -> Answer
+pub fn step_ring(w: &mut [u32], i: usize) -> Stepped
     requires { ⌜ Steps (now w) i ⌝ }
-    ensures { λ r. ⌜ outcome (answerIs r) (now (w .exit)) ≡ stepWords (geometryOf (view (now (w .entry)))) raised (now (w .entry)) i ⌝ }
+    ensures { λ r. ⌜ (outcome (answerIs (r .answer)) (now (w .exit)) ≡ stepWords (geometryOf (view (now (w .entry)))) raised (now (w .entry)) i) × Foretold (now (w .entry)) i (r .answer) (r .changes) ⌝ }
 {
     let act = decide(w, i);
     let room = has_room(w, act);
     if room {
+        let changes = may_change(w, i, act);
         apply(w, i, act);
-        return Answer::Ok;
+        return Stepped {
+            answer: Answer::Ok,
+            changes: changes,
+        };
     }
-    Answer::Full
+    Stepped {
+        answer: Answer::Full,
+        changes: false,
+    }
 }
 
 // Whether record i is an unfinished closed ring.
@@ -131,16 +146,4 @@ pub fn any_live(w: &[u32]) -> bool
         i += 1;
     }
     false
-}
-
-// A step on any record number.
-pub fn step_record(w: &mut [u32], i: usize) -> Answer
-    requires { ⌜ SoundWords (now w) ⌝ }
-    ensures { λ r. ⌜ outcome (answerIs r) (now (w .exit)) ≡ stepWords (geometryOf (view (now (w .entry)))) raised (now (w .entry)) i ⌝ }
-{
-    let live = is_live(w, i);
-    if live {
-        return step_ring(w, i);
-    }
-    Answer::OutOfTurn
 }

@@ -2,7 +2,7 @@
 use Prim.Native.Nat.{ℕ}
 use mathlib.Core.Path.{_≡_, refl}
 use borrow.Author.Tests.{eq-eqb}
-use Rattle.store.specs.Field.{pt, rc, REC, Z, FLAGS, TAKER, base, BLOCK, LENGTH}
+use Rattle.store.specs.Field.{pt, rc, REC, Z, FLAGS, TAKER, base, BOXES, BLOCK, LENGTH}
 use Rattle.store.specs.Words.{Store}
 use Rattle.store.specs.Stores.{onStore}
 use Rattle.store.specs.Sound.{pts}
@@ -21,10 +21,13 @@ records-at = refl
 takers-at : base (rc TAKER) ≡ 16400
 takers-at = refl
 
-pub block-is : BLOCK ≡ 16912
+boxes-at : BOXES ≡ 16912
+boxes-at = refl
+
+pub block-is : BLOCK ≡ 18960
 block-is = refl
 
-pub length-is : LENGTH ≡ 84564
+pub length-is : LENGTH ≡ 94804
 length-is = refl
 
 module _ (s : Store) (op : ℕ) where

@@ -7,3 +7,4 @@ pub mod Keeping
 pub mod Taking
 pub mod Coordinates
 pub mod Examples
+pub mod Boxing

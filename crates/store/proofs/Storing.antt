@@ -9,7 +9,7 @@ use lib.Dec.{ltb, eqb}
 use lib.ListN.{length, getD, set, length-set}
 use lib.Seq.{getD-set-same, getD-set-other}
 use borrow.Author.Tests.{ltb-true, lt-ltb, le-ltb, eqb-true, eqb-false, eq-eqb, ne-eqb}
-use Rattle.store.specs.Field.{Field, PointCol, RecordCol, Count, pt, rc, ct, X, Y, NEXT, PREV, REC, Z, FLAGS, OWNER, FIRST, MARK, PRESENT, START, CUT, REASON, TAKER, SETTINGS, POINTS, RECORDS, pointRank, recordRank, countRank, size, base, same, BLOCK}
+use Rattle.store.specs.Field.{Field, PointCol, RecordCol, Count, pt, rc, ct, X, Y, NEXT, PREV, REC, Z, FLAGS, OWNER, FIRST, MARK, PRESENT, START, CUT, REASON, TAKER, SETTINGS, POINTS, RECORDS, pointRank, recordRank, countRank, size, base, same, BOXES, BLOCK}
 use Rattle.store.specs.declared.Col.{Col}
 use Rattle.store.specs.Column.{columnOf}
 use Rattle.store.specs.Words.{Store, cell, put, view, Write, write, onWords}
@@ -39,8 +39,8 @@ count-ranks SETTINGS = omega arith
 count-ranks POINTS = omega arith
 count-ranks RECORDS = omega arith
 
--- every column ends within the fixed length
-pub ends : (f : Field) (i : ℕ) → i < size f → base f + i < BLOCK
+-- every column ends before the boxes
+pub ends : (f : Field) (i : ℕ) → i < size f → base f + i < BOXES
 ends (pt f) i h = omega (arith, point-ranks f)
 ends (rc f) i h = omega (arith, record-ranks f)
 ends (ct f) i h = omega (arith, count-ranks f)

@@ -18,7 +18,7 @@ pub data RecordCol : Type 0 where
 pub data Count : Type 0 where
   SETTINGS POINTS RECORDS : Count
 
--- a column; there is no other index into the work space
+-- a column; there is no other index into the words of points and records
 pub data Field : Type 0 where
   pt : PointCol → Field
   rc : RecordCol → Field
@@ -76,9 +76,13 @@ same (ct f) (pt g) = false
 same (ct f) (rc g) = false
 same (ct f) (ct g) = eqb (countRank f) (countRank g)
 
--- the live block: all columns. A work space begins with it
+-- behind the columns, the four words of each record's box: the least x of every record, then the least y, the greatest x, the greatest y
+abbrev pub BOXES : ℕ
+BOXES = HEAD + limit.POINTS * 6 + limit.RECORDS * 9
+
+-- the live block: all columns, and the boxes. A work space begins with it
 abbrev pub BLOCK : ℕ
-BLOCK = HEAD + limit.POINTS * 6 + limit.RECORDS * 9
+BLOCK = BOXES + limit.RECORDS * 4
 
 -- how many states may be kept
 abbrev pub STATES : ℕ

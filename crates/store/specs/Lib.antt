@@ -11,3 +11,5 @@ pub mod Named
 pub mod Value
 pub mod Primitive
 pub mod Beside
+pub mod Boxes
+pub mod Needs

@@ -25,7 +25,7 @@ pub const WHILE_REMOVING: usize = 4;
 
 pub const AT_SPLIT: usize = 5;
 
-// The columns: the only index into the work space.
+// The columns: the only index into the words of points and records.
 pub enum Col {
     X,
     Y,
@@ -52,8 +52,11 @@ const HEAD: usize = 16;
 
 const AFTER: usize = HEAD + Job::POINTS * 6;
 
-// The live block, in words: all columns. A work space begins with it.
-pub const BLOCK: usize = AFTER + Job::RECORDS * 9;
+// Behind the columns, four words for each record: its box.
+pub const BOXES: usize = AFTER + Job::RECORDS * 9;
+
+// The live block, in words: all columns, and the boxes. A work space begins with it.
+pub const BLOCK: usize = BOXES + Job::RECORDS * 4;
 
 // How many states may be kept.
 pub const STATES: usize = 4;
@@ -167,6 +170,7 @@ pub fn set(w: &mut [u32], c: Col, i: usize, v: usize)
 
 // The code's constants are those of the definitions.
 fn constants_agree()
+    ensures { λ _. do ⌜ (← ⟦BOXES⟧ .entry) ≡ field.BOXES ⌝ }
     ensures { λ _. do ⌜ (← ⟦BLOCK⟧ .entry) ≡ field.BLOCK ⌝ }
     ensures { λ _. do ⌜ (← ⟦STATES⟧ .entry) ≡ field.STATES ⌝ }
     ensures { λ _. do ⌜ (← ⟦NAMES⟧ .entry) ≡ field.NAMES ⌝ }
@@ -180,5 +184,6 @@ fn constants_agree()
     ensures { λ _. do ⌜ (← ⟦AT_SPLIT⟧ .entry) ≡ reasonNumber atSplit ⌝ }
 {}
 
+pub mod boxed;
 pub mod names;
 pub mod points;

@@ -8,6 +8,8 @@ use Rattle.rings.specs.Walk as walk
 use Rattle.geometry.specs.Plane.{samePoint}
 use Rattle.lone.specs.Path.{buildPath64FromOutpt}
 use Rattle.store.specs.Field.{LENGTH}
+use Rattle.geometry.specs.Box.{widen}
+use Rattle.store.specs.Boxes.{setSides, ringBox, boxedAt, boxedTo, allBoxed}
 use Rattle.store.specs.Words.{cell, put}
 use Rattle.audit.specs.Tests.{anyBelow}
 use Rattle.reading.specs.Fill.{turnOf, run, fillOf}
@@ -76,7 +78,7 @@ too-short = refl
 
 -- the definitions that finishing computes with here: `unfolding computing` opens them all
 unfoldable computing : Unit {0}
-unfolding finishOf openOf stagesOf acceptOf readOf fillOf run turnOf fieldOf bodyOf rowsOf endsIn findIn anyIn walk.run anyBelow cell put convertHorzSegsToJoins pairsOf sortedSegments segmentsOf updateFrom sorted outerFrom joinsFrom startRings startTo startRing finishRings finishW finishRecord answerS stepW samePoint buildPath64FromOutpt pointAt pathAt pathIf pointBytes pathField fieldsOf buildPaths64
+unfolding finishOf openOf stagesOf acceptOf readOf fillOf run turnOf fieldOf bodyOf rowsOf endsIn findIn anyIn walk.run anyBelow cell put convertHorzSegsToJoins pairsOf sortedSegments segmentsOf updateFrom sorted outerFrom joinsFrom startRings startTo startRing allBoxed boxedTo boxedAt ringBox setSides widen finishRings finishW finishRecord answerS stepW samePoint buildPath64FromOutpt pointAt pathAt pathIf pointBytes pathField fieldsOf buildPaths64
 computing = tt
 
 -- in a tray that holds sevens

@@ -8,6 +8,7 @@ pub mod Converting
 pub mod Reading
 pub mod Opening
 pub mod Finishing
+pub mod Boxes
 pub mod Lists
 pub mod Reasons
 pub mod Theorem

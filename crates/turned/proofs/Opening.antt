@@ -11,6 +11,7 @@ use Rattle.job.specs.declared.refusal.Refusal.the-variants as refusal
 use Rattle.store.specs.Field.{ct, SETTINGS, LENGTH}
 use Rattle.store.specs.Words.{put}
 use Rattle.store.specs.Named.{recordsOf}
+use Rattle.store.specs.Boxes.{allBoxed}
 use Rattle.audit.specs.declared.Verdict.{Verdict}
 use Rattle.audit.specs.declared.Verdict.the-variants as verdict
 use Rattle.rows.specs.Rows.{rowsOf}
@@ -29,6 +30,7 @@ use Rattle.opening.specs.Start.{startRing, startTo, startRings}
 use Rattle.opening.specs.Open.{End, end, afterJoins, afterSegments, afterRows, JOIN-POINTS, stagesOf, settled, cleared, openOf}
 use Rattle.turned.proofs.Settings.{re, cell-re, put-re, re-re}
 use Rattle.turned.proofs.Judging.{rows-re}
+use Rattle.turned.proofs.Boxes.{all-re}
 use Rattle.turned.proofs.Joining.{reEnd, joins-re}
 use Rattle.turned.proofs.Converting.{reMade, convert-re}
 use Rattle.turned.proofs.Reading.{withBits, reRead, fill-bits}
@@ -51,7 +53,7 @@ module _ (b : ℕ) where
 
   rings-re : (w : List ℕ) → startRings (re b w) ≡ re b (startRings w)
   unfolding startRings
-  rings-re w = ap (λ (n : ℕ). startTo n (re b w)) (simp cell-re) ∙ to-re (recordsOf w) w
+  rings-re w = ap (λ (n : ℕ). allBoxed (startTo n (re b w))) (simp cell-re) ∙ ap allBoxed (to-re (recordsOf w) w) ∙ all-re b (startTo (recordsOf w) w)
 
   -- ---- a job that was read
 

@@ -30,7 +30,7 @@ use Rattle.opening.specs.declared.open.Opened.the-variants.{Accepted}
 use Rattle.opening.specs.declared.open.Opened.the-variants as opened
 use Rattle.opening.specs.Open.{End, end, openOf}
 use Rattle.opening.proofs.Accepted.{after-opening}
-use Rattle.finishing.specs.Finish.{finishRings}
+use Rattle.finishing.specs.Finish.{thenBoxed, finishRings}
 use Rattle.finishing.specs.InOneCall.{refused, afterWriting, afterSteps, afterOpening, finishOf}
 use Rattle.finishing.proofs.InOneCall.{done-ready, opening-left}
 use Rattle.opposite.specs.Opposite.{otherBits, turnedOver, allOnGround, opposite}
@@ -48,6 +48,7 @@ use Rattle.turned.proofs.Settings.{re, length-re, settings-re, view-re}
 use Rattle.turned.proofs.Judging.{handed-re}
 use Rattle.turned.proofs.Opening.{settings-put, reOpen, open-re}
 use Rattle.turned.proofs.Lists.{as-many, same-used, areas-other, net-other, size-other, charges-other}
+use Rattle.turned.proofs.Boxes.{then-boxed-re}
 use Rattle.turned.proofs.Finishing.{reRings, recs-re, any-live-re, finish-re}
 use Rattle.turned.proofs.Reasons.{reason-same}
 
@@ -163,11 +164,17 @@ module _ (job lent w t : List ℕ) (e : openOf job lent ≡ end Accepted w) wher
   -- finishing leaves the same words but for the settings, and keeps these
   finish-too : finishRings (re v w) ≡ reRings v (finishRings w)
   unfolding finishRings
-  finish-too = ap (λ (b : Bool). finishW (plane b) raised (re v w)) one-geometry ∙ finish-re v (plane (preserveCollinear (view w))) raised w
+  finish-too =
+      ap (λ (b : Bool). thenBoxed (finishW (plane b) raised (re v w))) one-geometry
+      ∙ ap thenBoxed (finish-re v (plane (preserveCollinear (view w))) raised w)
+      ∙ then-boxed-re v (finishW (plane (preserveCollinear (view w))) raised w)
 
   finish-keeps : finishRings w ≡ reRings k (finishRings w)
   unfolding finishRings
-  finish-keeps = ap (finishW (plane (preserveCollinear (view w))) raised) keeps ∙ finish-re k (plane (preserveCollinear (view w))) raised w
+  finish-keeps =
+      ap (λ (u : List ℕ). thenBoxed (finishW (plane (preserveCollinear (view w))) raised u)) keeps
+      ∙ ap thenBoxed (finish-re k (plane (preserveCollinear (view w))) raised w)
+      ∙ then-boxed-re k (finishW (plane (preserveCollinear (view w))) raised w)
 
   -- writing out
   module _ (u : List ℕ) (h : u ≡ re k u) (l : 0 < length u) where

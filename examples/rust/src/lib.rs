@@ -18,7 +18,7 @@
 //! [`Job`] makes those bytes from rings, and shares rings that are too many for one job out over several.
 //!
 //! Or by steps, in any order: [`open`], [`step`] on each record until it is refused as [`Refused::OUT_OF_TURN`], [`write()`]. On the way a state may be kept under a name, and gone back to:
-//! [`keep`], [`go_back`], [`drop_name`]. Two opened jobs may be laid on one table, and stepped as one: [`lay_together`].
+//! [`keep`], [`go_back`], [`drop_name`]. Two opened jobs may be laid on one table, and stepped as one: [`lay_together`]. Which records a window shows, at any time: [`records_in`].
 //!
 //! A work space is lent by the caller and nothing else is kept between calls, so two threads may use two work spaces at once.
 #![deny(missing_docs)]
@@ -31,6 +31,7 @@ mod reason;
 mod refused;
 mod states;
 mod tray;
+mod windows;
 
 pub use contained::contained;
 pub use job::{Job, Ring};
@@ -40,6 +41,7 @@ pub use reason::Reason;
 pub use refused::Refused;
 pub use states::{drop_name, go_back, keep};
 pub use tray::{paths, Path, Point};
+pub use windows::{records_in, Rect};
 
 /// At most so many points, those made while finishing included.
 pub const POINTS: usize = 2_048;
@@ -54,7 +56,7 @@ pub const COORDINATE: i32 = 1_048_576;
 /// At most so many states are kept, each under a name.
 pub const STATES: usize = 4;
 /// The fixed length of a work space in words: the live block, and a name and a copy of it for each state. A shorter one is refused with 10.
-pub const WORK_WORDS: usize = (1 + STATES) * (16 + 6 * POINTS + 9 * RECORDS) + STATES;
+pub const WORK_WORDS: usize = (1 + STATES) * (16 + 6 * POINTS + 13 * RECORDS) + STATES;
 /// A tray of so many bytes is always long enough.
 pub const TRAY_BYTES: usize = 3 * RECORDS + 12 * POINTS;
 /// The first so many bytes of a job decide what becomes of it: the longest job that is accepted, and one point more.

@@ -9,7 +9,7 @@ mod c {
 
 /// Mends the backward links of a job, in its bytes: if every point is the next of exactly one point, each prev becomes that point, and no other byte changes. A mended job never meets
 /// [`Refused::LOOSE`], and one whose links are sound comes back as it was. Refused as [`open`](crate::open) with 1 to 5, then with [`Refused::PAST_MENDING`]: some point is the next of none or
-/// of more than one. Refused, it leaves every byte as found. It takes some 80 kB of stack.
+/// of more than one. Refused, it leaves every byte as found. It takes some 90 kB of stack.
 ///
 /// ```
 /// # use outline::*;

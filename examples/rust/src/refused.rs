@@ -36,7 +36,7 @@ impl Refused {
     pub const KNOT: Refused = Refused(9);
     /// Finishing, or laying together, needs more points or records than there may be, or a work space is too short.
     pub const FULL: Refused = Refused(10);
-    /// The paths, or the job that is written, need more bytes than the tray has, or the pairs more than the answers have.
+    /// The paths, or the job that is written, need more bytes than the tray has, the pairs more than the answers have, or the records in a window more words than the list has.
     pub const SMALL_TRAY: Refused = Refused(11);
     /// A step on a record that has none to take, the reason of an unknown record, writing out or asking for a reason before every closed ring is done, or laying together what was stepped.
     pub const OUT_OF_TURN: Refused = Refused(12);

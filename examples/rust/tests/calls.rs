@@ -2,6 +2,9 @@
 use outline::*;
 
 const JOB: &[u8] = include_bytes!("../../../samples/depth.job");
+/// The boxes stand behind the columns of the live block, and the block ends with them (docs/WORKSPACE.md).
+const BOXES: usize = 16 + 6 * POINTS + 9 * RECORDS;
+const BLOCK: usize = BOXES + 4 * RECORDS;
 
 fn triangles() -> Vec<Path> {
     let closed = |points: [(i32, i32, i32); 3]| Path { open: false, points: points.map(Point::from).to_vec() };
@@ -152,7 +155,7 @@ fn laid_together() {
     for count in 2..=3 {
         assert_eq!(lay_together(&mut work, &second), Ok(()));
         assert_eq!(work[1..3], [4 * count, count]);
-        assert_eq!(work[16 + 6 * POINTS + 9 * RECORDS..], alone[16 + 6 * POINTS + 9 * RECORDS..]);
+        assert_eq!(work[BLOCK..], alone[BLOCK..]);
     }
     assert_eq!(second, opened(JOB));
     for record in (0..6).rev().chain(3..6) {
@@ -162,7 +165,7 @@ fn laid_together() {
     let [piece, hole] = &triangles()[..] else { panic!("two triangles") };
     assert_eq!(paths(&tray).iter().collect::<Vec<_>>(), [piece, piece, piece, hole, hole, hole]);
     assert_eq!(go_back(&mut work, 7), Ok(()));
-    assert_eq!(work[..16 + 6 * POINTS + 9 * RECORDS], alone[..16 + 6 * POINTS + 9 * RECORDS]);
+    assert_eq!(work[..BLOCK], alone[..BLOCK]);
 }
 
 /// Each refusal in its turn, and both work spaces as found.
@@ -198,4 +201,54 @@ fn refused_laying_leaves_both() {
     // Bytes are compared: what is above them in the word is not.
     assert_eq!(lay_together(&mut altered(&good, 0, 256), &good), Ok(()));
     refuses(altered(&good, 0, 4), good, Refused::SETTINGS_DIFFER);
+}
+
+/// The box beside a record's ring.
+fn box_of(work: &[u32], record: usize) -> [i32; 4] {
+    [0, 1, 2, 3].map(|side| work[BOXES + side * RECORDS + record] as i32 - COORDINATE)
+}
+
+/// After opening, the cut and going back: each ring's box, and the records of windows that just touch it and just miss it.
+#[test]
+fn windows() {
+    let (mut work, mut list) = (opened(JOB), [7; RECORDS]);
+    assert_eq!(keep(&mut work, 7), Ok(()));
+    assert_eq!(box_of(&work, 0), [0, 0, 10, 12]);
+    assert_eq!(records_in(&work, Rect::ALL, &mut list), Ok(&[0][..]));
+    while step(&mut work, 0).is_ok() {}
+    assert_eq!([box_of(&work, 0), box_of(&work, 1)], [[0, 0, 5, 12], [5, 0, 10, 10]]);
+    for ([left, top, right, bottom], records) in [
+        ([5, 11, 5, 11], &[0][..]),
+        ([5, 10, 5, 10], &[0, 1]),
+        ([6, 10, 99, 99], &[1]),
+        ([6, 11, 99, 99], &[]),
+        ([-9, -9, 0, 0], &[0]),
+        ([-9, -9, -1, 99], &[]),
+        ([9, 0, 8, 9], &[]),
+        ([0, 9, 9, 8], &[]),
+    ] {
+        list.fill(7);
+        assert_eq!(records_in(&work, Rect { left, top, right, bottom }, &mut list), Ok(records));
+        assert!(list[records.len()..].iter().all(|word| *word == 0));
+    }
+    assert_eq!(go_back(&mut work, 7), Ok(()));
+    assert_eq!(box_of(&work, 0), [0, 0, 10, 12]);
+}
+
+/// 10 for the length, 7 for a box that is not its ring's, then 11; the list is as found.
+#[test]
+fn refused_windows_leave_the_list() {
+    let (mut work, mut list) = (opened(JOB), [7; RECORDS]);
+    let mut refuses = |work: &[u32], words: usize, refused: Refused| {
+        assert_eq!(records_in(work, Rect::ALL, &mut list[..words]), Err(refused));
+        assert_eq!(list, [7; RECORDS]);
+    };
+    refuses(&work[..WORK_WORDS - 1], 0, Refused::FULL);
+    refuses(&work, 0, Refused::SMALL_TRAY);
+    for side in 0..4 {
+        work[BOXES + side * RECORDS] ^= 1;
+        refuses(&work, 0, Refused::MUDDLED);
+        assert_eq!(step(&mut work, 0), Err(Refused::MUDDLED));
+        work[BOXES + side * RECORDS] ^= 1;
+    }
 }

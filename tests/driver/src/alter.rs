@@ -1,5 +1,6 @@
-// Alterations of a work space, by kind: counts, links, records, first points, progress marks, present places, reasons and takers, coordinates, depths, names, any word;
-// and some that keep it sound but leave it in a state that our own calls never make. For laying together, what it asks.
+// Alterations of a work space, by kind: counts, links, records, first points, progress marks, present places, reasons and takers, coordinates, depths, boxes, names, any word;
+// and some that keep it sound but leave it in a state that our own calls never make. For laying together, what it asks. Whoever alters a ring mostly sets its box too.
+use crate::boxes;
 use crate::words::*;
 use oracle::gen;
 use oracle::rng::Rng;
@@ -34,8 +35,21 @@ fn some_record(rng: &mut Rng, w: &[u32]) -> Option<usize> {
     (held > 0).then_some(record)
 }
 
-/// Alters something and says what.
+/// Alters something and says what: a box; or something else, and boxes that were right follow, but once in eight times.
 pub fn alter(w: &mut [u32], rng: &mut Rng) -> String {
+    if rng.one_in(12) {
+        return a_box(w, rng);
+    }
+    let right = boxes::right(w);
+    let said = some_way(w, rng);
+    if rng.one_in(8) {
+        return said;
+    }
+    boxes::follow(w, &right);
+    said + ", and its box"
+}
+
+fn some_way(w: &mut [u32], rng: &mut Rng) -> String {
     match rng.below(33) {
         0 => count(w, rng),
         1..=4 => point_word(w, rng),
@@ -123,6 +137,31 @@ fn record_word(w: &mut [u32], rng: &mut Rng) -> String {
     }
 }
 
+/// A link of a point on a ring leads to some point on a ring.
+pub fn a_link(w: &mut [u32], rng: &mut Rng) -> String {
+    match (ring_point(rng, w), ring_point(rng, w)) {
+        (Some(p), Some(q)) => put(w, rng.pick(&[NEXT, PREV]) + p, q as u32),
+        _ => "nothing".into(),
+    }
+}
+
+/// A side of a record's box, with a ring or without, is another, or all four are.
+pub fn a_box(w: &mut [u32], rng: &mut Rng) -> String {
+    let Some(r) = some_record(rng, w) else {
+        return "nothing".into();
+    };
+    if rng.one_in(6) {
+        let from = rng.below(records(w).min(MOST_RECORDS));
+        SIDES.into_iter().for_each(|column| w[column + r] = w[column + from]);
+        return format!("record {r} has the box of record {from}");
+    }
+    let at = rng.pick(&SIDES) + r;
+    let held = w[at];
+    let any = rng.bits() as u32;
+    let near = [held.wrapping_add(1), held.wrapping_sub(1), held ^ 65_536, held ^ (1 << 31)];
+    put(w, at, rng.pick(&[near[0], near[0], near[1], near[1], near[2], near[3], 0, 1 << 20, 1 << 21, u32::MAX, any]))
+}
+
 /// A place's word is another: another place's, free in one of two ways, some name.
 pub fn names(w: &mut [u32], rng: &mut Rng) -> String {
     let place = rng.below(STATES);
@@ -135,10 +174,11 @@ pub fn names(w: &mut [u32], rng: &mut Rng) -> String {
     put(w, NAMES + place, word) + &format!(", and word {} is {}", NAMES + other, w[NAMES + other])
 }
 
-/// Names, and beside them a count, a coordinate, a link or nothing, so that the order of the tests shows.
+/// Names, and beside them a count, a coordinate, a link, a box or nothing, so that the order of the tests shows.
 pub fn names_beside(w: &mut [u32], rng: &mut Rng) -> String {
     let said = names(w, rng);
-    let beside = match (rng.below(4), ring_point(rng, w)) {
+    let beside = match (rng.below(5), ring_point(rng, w)) {
+        (4, _) => a_box(w, rng),
         (0, _) => count(w, rng),
         (1, Some(p)) => put(w, rng.pick(&[X, Y]) + p, rng.pick(&[(1 << 21) + 1, u32::MAX])),
         (2, _) => point_word(w, rng),
@@ -340,6 +380,9 @@ pub fn made_up(w: &mut [u32], rng: &mut Rng) -> String {
         w[CUT + r] = NONE;
         w[REASON + r] = if rng.one_in(20) { rng.below(8) as u32 } else { 1 + rng.below(5) as u32 };
         w[TAKER + r] = if rng.one_in(20) { number(rng, records) } else { rng.below(records) as u32 };
+    }
+    if !rng.one_in(12) {
+        (0..records).for_each(|r| boxes::set(w, r));
     }
     format!("made up: {points} points, {records} records")
 }

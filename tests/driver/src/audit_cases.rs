@@ -51,7 +51,7 @@ const EMPTIED: [(u32, u32); 7] =
     [(0, 0), (NO_RING, 2), (JOINED, 0), (JOINED, 2), (AT_SPLIT, 2), (AT_SPLIT + 1, 0), (JOINED, NONE)];
 
 fn line(w: &[u32]) -> String {
-    plain::tests(w).map_or_else(|refusal| format!("refused {refusal:02}\n"), |()| "passed\n".into())
+    plain::rings_tested(w).map_or_else(|refusal| format!("refused {refusal:02}\n"), |()| "passed\n".into())
 }
 
 pub fn lines() -> String {

@@ -1,5 +1,6 @@
 // The proved entry points as liboutline.a exports them. A slice is a pointer and a length.
 // A fault, which only the check of the driver itself switches on, spoils what a call left.
+use crate::boxes;
 use crate::depths;
 use crate::names::stands;
 use crate::plain::kept;
@@ -192,6 +193,8 @@ pub enum Fault {
     LayDiscarded,
     /// The second's work space is emptied.
     LaySecond,
+    /// The second's boxes are not brought.
+    LayBoxes,
     /// Which shape lies in which: the pair is turned round.
     ContainedTurned,
     /// A path is tested against itself too.
@@ -210,6 +213,40 @@ pub enum Fault {
     MendNext,
     /// A job that the mender refuses is altered.
     MendFound,
+    /// Opening sets no box beside an open ring.
+    BoxOpen,
+    /// Opening clears the boxes of no record.
+    BoxUnused,
+    /// A box is not shrunk where a spike is dropped.
+    BoxSpike,
+    /// A box is not shrunk where a part is cut off.
+    BoxCut,
+    /// An offcut has its ring's box.
+    BoxOffcut,
+    /// A ring that a step discards leaves its box.
+    BoxDiscarded,
+    /// A step passes a box that is not its ring's.
+    BoxPasses,
+    /// A step asks the box of a record without a ring.
+    BoxRingless,
+    /// Going back leaves the boxes.
+    BoxBack,
+    /// A box that a window just touches is not listed.
+    WindowEdge,
+    /// A record without a ring is listed by its four zeros.
+    WindowRingless,
+    /// A window turned inside out is turned back.
+    WindowInsideOut,
+    /// A window's side below the table is taken for one above it.
+    WindowWraps,
+    /// The records are listed falling.
+    WindowFalling,
+    /// The word past the records stays.
+    WindowPast,
+    /// A short list is said before a muddled work space.
+    WindowShort,
+    /// A refused call clears the list's first word.
+    WindowFound,
     /// A copy misses a column: the loop's starts stay what they were.
     KeepColumn,
     /// A name that is kept, with three others, is refused with 15.
@@ -318,6 +355,7 @@ pub const FAULTS: &[Fault] = &[
     Fault::LayPresent,
     Fault::LayDiscarded,
     Fault::LaySecond,
+    Fault::LayBoxes,
     Fault::ContainedTurned,
     Fault::ContainedDiagonal,
     Fault::ContainedOnEdge,
@@ -327,6 +365,23 @@ pub const FAULTS: &[Fault] = &[
     Fault::MendOrder,
     Fault::MendNext,
     Fault::MendFound,
+    Fault::BoxOpen,
+    Fault::BoxUnused,
+    Fault::BoxSpike,
+    Fault::BoxCut,
+    Fault::BoxOffcut,
+    Fault::BoxDiscarded,
+    Fault::BoxPasses,
+    Fault::BoxRingless,
+    Fault::BoxBack,
+    Fault::WindowEdge,
+    Fault::WindowRingless,
+    Fault::WindowInsideOut,
+    Fault::WindowWraps,
+    Fault::WindowFalling,
+    Fault::WindowPast,
+    Fault::WindowShort,
+    Fault::WindowFound,
     Fault::KeepColumn,
     Fault::KeepAgain,
     Fault::KeepFifth,
@@ -388,6 +443,7 @@ impl Calls {
                 (0..records(work)).for_each(|r| work[TAKER + r] = in_the_end(work, r) as u32)
             }
             Fault::OpenDepth if answer == 0 => depths::opened(job, work),
+            Fault::BoxOpen | Fault::BoxUnused if answer == 0 => boxes::opened(self.0, work),
             Fault::OpenReason if answer == 0 => {
                 (0..records(work)).for_each(|r| work[REASON + r] &= !NO_RING);
             }
@@ -399,11 +455,13 @@ impl Calls {
     pub fn step(self, work: &mut [u32], record: u32) -> u32 {
         let known = work.len() >= WORDS && (record as usize) < records(work).min(MOST_RECORDS);
         let held = if known { records(work) } else { 0 };
-        let before = depths::of_steps(self.0).then(|| work.to_vec());
+        let before = (depths::of_steps(self.0) || boxes::of_steps(self.0)).then(|| work.to_vec());
         let answer = unsafe { outline_step(work.as_mut_ptr(), work.len(), record) };
         let r = record as usize;
-        if let (Some(before), 0) = (before, answer) {
-            return depths::stepped(self.0, &before, work, r);
+        match before {
+            Some(before) if boxes::of_steps(self.0) => return boxes::stepped(self.0, &before, work, r, answer),
+            Some(before) if answer == 0 => return depths::stepped(self.0, &before, work, r),
+            _ => {}
         }
         match (self.0, answer) {
             (Fault::StepAnswer, 12) if !known => return 5,

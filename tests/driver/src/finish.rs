@@ -1,5 +1,6 @@
 // Kind `finish`: outline_finish against the real Rust: the answer, every byte of the tray, the listing, every word on a refusal,
 // every ring, owner and count on an accepted job.
+use crate::boxes;
 use crate::listed;
 use crate::plain;
 use crate::room::{all_zero, expect, Room, Same, TRAY};
@@ -132,7 +133,7 @@ fn finished(room: &mut Room, settings: u8, state: &State, answer: &Answer) -> Sa
     Ok(())
 }
 
-/// Both counts, and each record: open, front edge, owner, ring by place and by value.
+/// Both counts, and each record: open, front edge, owner, ring by place and by value, and its box; zeros where there is no ring.
 pub fn same_state(w: &[u32], state: &State) -> Same {
     expect(words::points(w) == state.points, || "the count of points".into())?;
     expect(words::records(w) == state.records.len(), || "the count of records".into())?;
@@ -140,12 +141,13 @@ pub fn same_state(w: &[u32], state: &State) -> Same {
         let ring = words::ring(w, r).ok_or("a ring that does not close")?;
         let ours = ring.iter().map(|&p| (p, words::value(w, p)));
         expect(ours.eq(record.ring.iter().copied()), || format!("the ring of record {r}"))?;
+        boxes::same(w, r, &record.ring.iter().map(|(_, value)| *value).collect::<Vec<_>>())?;
         let flags = record.open as u32 + 2 * record.front as u32;
         expect(w[FLAGS + r] == flags, || format!("the flags of record {r}"))?;
         let owner = record.owner.map_or(NONE, |owner| owner as u32);
         expect(w[OWNER + r] == owner, || format!("the owner of record {r}"))?;
     }
-    Ok(())
+    boxes::zeros(w)
 }
 
 /// The paths that a tray holds, read back from its bytes, and the setting they were written under.

@@ -3,6 +3,7 @@
 // the plain readings tell every other answer. All words are held against a shadow, on which the calls are carried out as the plain reading has them.
 use crate::alter::{alter, names, names_beside};
 use crate::altered;
+use crate::boxes;
 use crate::finish::tray_length;
 use crate::listed::TEXT;
 use crate::model::{same_forest, stray};
@@ -172,9 +173,10 @@ impl List {
     }
 }
 
-/// The live block and a history's state: rings, progress, counts, and what ended each record without a ring.
+/// The live block and a history's state: rings, boxes, progress, counts, and what ended each record without a ring.
 pub fn same_state(block: &[u32], history: &History) -> Same {
     same_forest(block, &history.forest)?;
+    boxes::zeros(block)?;
     same_kept(block, history)
 }
 
@@ -217,12 +219,13 @@ fn again(room: &mut Room, rng: &mut Rng, list: &mut List) -> Same {
     }
 }
 
-/// The words after a job that was opened: no name is kept, the words behind the names are as found; after a refused one: zeros.
+/// The words after a job that was opened: no name is kept, the words behind the names, and the boxes of no record, are as found; after a refused one: zeros.
 fn opened_over(room: &mut Room, list: &mut List, start: Option<History>, accepted: &'static str) -> Same {
     let kept = list.keeps_some();
     match start {
         Some(start) => {
             list.trails.open(start);
+            boxes::unused(room.work.get(), |at| list.shadow[at])?;
             list.shadow[NAMES..KEPT].fill(0);
             if kept {
                 room.tally.event(accepted, 1);

@@ -11,6 +11,7 @@ use crate::plain;
 use crate::reasons::ask;
 use crate::room::{expect, Room, Same, TRAY};
 use crate::steps::write_out;
+use crate::windows;
 use crate::words::*;
 use oracle::answer::Answer;
 use oracle::gen;
@@ -255,7 +256,8 @@ fn by_tables(room: &mut Room, first: &mut List, second: &Sheet, told: Result<(),
 /// A call on the first's work space.
 fn call(room: &mut Room, rng: &mut Rng, first: &mut List) -> Same {
     let drawings = |list: &List| list.trails.table().map_or(0, Table::drawings);
-    match rng.below(40) {
+    match rng.below(42) {
+        40 | 41 => windows::look(room, rng, first),
         0..=19 => kept::steps(room, rng, first),
         20..=23 => kept::named(room, rng, first, Named::Keep),
         24..=27 => {
@@ -315,6 +317,9 @@ fn spoil(room: &mut Room, rng: &mut Rng, list: &mut List) {
         if times > 1 {
             said.push(alter::kept(w, rng));
             said.push(if rng.one_in(2) { alter::kept(w, rng) } else { names_beside(w, rng) });
+            if rng.one_in(4) {
+                said.push(alter::a_link(w, rng));
+            }
         }
         said.join("; ")
     });

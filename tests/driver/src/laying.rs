@@ -43,6 +43,11 @@ impl Calls {
                 return 0
             }
             (Fault::LaySecond, 0) => second[RECORDS] = 0,
+            (Fault::LayBoxes, 0) => {
+                for r in at..at + records(second) {
+                    SIDES.into_iter().for_each(|column| first[column + r] = before[column + r]);
+                }
+            }
             (Fault::LayOrder, 3..=7) if plain::tests(second).is_err() => {
                 return plain::tests(second).err().map_or(answer, u32::from);
             }

@@ -2,6 +2,7 @@
 mod alter;
 mod altered;
 mod audit_cases;
+mod boxes;
 mod calls;
 mod canon;
 mod contains;
@@ -29,6 +30,7 @@ mod steps;
 mod tally;
 mod tidied;
 mod turned;
+mod windows;
 mod words;
 
 use calls::{is_of_names, Fault, FAULTS};
@@ -36,7 +38,7 @@ use oracle::text::number;
 use runs::{Kind, Run, KINDS};
 
 const USAGE: &str =
-    "usage: driver finish|large|steps|bytes|altered|canon|reasons|kept|laid|drawn|contains|mended SEED COUNT THREADS [FROM], driver faults SEED COUNT, \
+    "usage: driver finish|large|steps|bytes|altered|canon|reasons|kept|laid|drawn|contains|mended|windows SEED COUNT THREADS [FROM], driver faults SEED COUNT, \
                      driver fault NAME KIND SEED COUNT, driver audit_cases, or driver mended_all";
 
 fn run_of(kind: &str, seed: &str, count: &str, threads: &str, from: u64) -> Result<Run, String> {
@@ -48,13 +50,17 @@ fn run_of(kind: &str, seed: &str, count: &str, threads: &str, from: u64) -> Resu
     Ok(Run { kind, seed, from, to: from + count, threads, fault: Fault::None })
 }
 
-/// Whether a kind is tried with a fault: the kind of its own that a call has; kind `kept` with the faults of names and copies alone, all of which it must find; kind `laid` with those of laying; every other with the rest.
+/// Whether a kind is tried with a fault: the kind of its own that a call has; kind `kept` with the faults of names and copies alone, all of which it must find; kind `laid` with those of laying; kind `windows` with those
+/// of windows and boxes, and of these the kinds of steps with boxes alone; every other with the rest.
 fn is_tried(fault: Fault, kind: Kind) -> bool {
     let name = format!("{fault:?}");
     match () {
         // The same calls as kind `finish`, and slower: one fault shows that it sees.
         _ if kind == Kind::Drawn => fault == Fault::TrayByte,
         _ if kind == Kind::Laid || name.starts_with("Lay") => kind == Kind::Laid && name.starts_with("Lay"),
+        _ if name.starts_with("Window") => kind == Kind::Windows,
+        _ if name.starts_with("Box") => matches!(kind, Kind::Windows | Kind::Steps | Kind::Altered),
+        _ if kind == Kind::Windows => false,
         _ if kind == Kind::Kept => is_of_names(fault),
         _ if kind == Kind::Contains || name.starts_with("Contained") => kind == Kind::Contains && name.starts_with("Contained"),
         _ if kind == Kind::Mended || name.starts_with("Mend") => kind == Kind::Mended && name.starts_with("Mend"),

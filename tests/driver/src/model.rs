@@ -1,4 +1,5 @@
 // The oracle's stepping model against a work space: one record's ring, step due, loop and parent; and which words a step may write.
+use crate::boxes;
 use crate::room::{expect, Same};
 use crate::words::{self, *};
 use oracle::model::forest::{Entry, Forest};
@@ -16,11 +17,12 @@ pub fn same_counts(w: &[u32], forest: &Forest) -> Same {
     expect(records(w) == held, || format!("{} records, {held} in the model", records(w)))
 }
 
-/// A record's ring by value from its first point, whether it is open; of a closed one the step due and what the loop remembers.
+/// A record's ring by value from its first point, its box, whether it is open; of a closed one the step due and what the loop remembers.
 pub fn same_record(w: &[u32], forest: &Forest, r: usize) -> Same {
     let ring = words::ring(w, r).ok_or_else(|| format!("the ring of record {r} does not close"))?;
     let (ours, theirs) = (values(w, &ring), forest.ring(r));
     expect(ours == theirs, || format!("the ring of record {r} is {ours:?}, in the model {theirs:?}"))?;
+    boxes::same(w, r, &theirs)?;
     match &forest.records[r] {
         Entry::Ringless => Ok(()),
         Entry::Open(_) => expect(is_open(w, r), || format!("record {r} is open in the model")),
@@ -83,7 +85,7 @@ pub fn load(w: &[u32]) -> Forest {
 }
 
 /// A word that a step carried out on a record may not have written: all but both counts, the links and record names of its
-/// ring's points, the record's first point, mark and loop, and the places that are new; and, once it is emptied, its reason, which must be that of the mark.
+/// ring's points, the record's first point, mark and loop, its box, and the places that are new; and, once it is emptied, its reason, which must be that of the mark, and its box, which must be zeros.
 pub fn stray(before: &[u32], after: &[u32], record: usize) -> Option<usize> {
     let mut allowed = before.to_vec();
     let mut allow = |at: usize| allowed[at] = after[at];
@@ -97,6 +99,10 @@ pub fn stray(before: &[u32], after: &[u32], record: usize) -> Option<usize> {
     }
     for r in records(before)..records(after).min(MOST_RECORDS) {
         [FLAGS, OWNER, FIRST, MARK, PRESENT, START, CUT].into_iter().for_each(|column| allow(column + r));
+        SIDES.into_iter().for_each(|column| allow(column + r));
+    }
+    for column in SIDES {
+        allowed[column + record] = if after[FIRST + record] == NONE { 0 } else { after[column + record] };
     }
     if let (NONE, Some(reason)) = (after[FIRST + record], discarded_at(before[MARK + record])) {
         allowed[REASON + record] = reason;

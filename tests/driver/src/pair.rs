@@ -62,7 +62,7 @@ fn pooled(first: &[u32], second: &[u32]) -> Vec<u32> {
         w[REC + p + i] = record(second[REC + i]);
     }
     for i in 0..records(second) {
-        [FLAGS, MARK, REASON].into_iter().for_each(|column| w[column + r + i] = second[column + i]);
+        [FLAGS, MARK, REASON].into_iter().chain(SIDES).for_each(|column| w[column + r + i] = second[column + i]);
         [FIRST, PRESENT, START].into_iter().for_each(|column| w[column + r + i] = point(second[column + i]));
         [OWNER, CUT, TAKER].into_iter().for_each(|column| w[column + r + i] = record(second[column + i]));
     }

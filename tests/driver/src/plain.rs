@@ -1,6 +1,8 @@
 // A plain reading of document 01: "A step, or writing out after steps, first tests the work space it is handed".
 // And of document 02, Ask 5: "A ringless record without one of the first five reasons kept meets 7; a taker's number naming nothing meets 5".
-// And of Ask 8: "A work space keeping one name twice meets 7", last of all. Written from these paragraphs and docs/WORKSPACE.md alone.
+// And of Ask 13: "A work space whose box isn't its ring's meets 7". And of Ask 8: "A work space keeping one name twice meets 7", last of all. Written from these paragraphs and
+// docs/WORKSPACE.md alone.
+use crate::boxes;
 use crate::names;
 use crate::words::*;
 
@@ -12,8 +14,17 @@ pub fn tests(w: &[u32]) -> Result<(), u8> {
     tested(w)
 }
 
-/// The tests after the length, of a live block and its names.
+/// The tests after the length, of a live block and its names: of its rings, then of the boxes beside them, then of the names.
 pub fn tested(w: &[u32]) -> Result<(), u8> {
+    rings_tested(w)?;
+    if (0..records(w)).any(|r| boxes::is_other(w, r)) || names::twice(w) {
+        return Err(7);
+    }
+    Ok(())
+}
+
+/// The tests of the rings alone.
+pub fn rings_tested(w: &[u32]) -> Result<(), u8> {
     if points(w) > MOST_POINTS || records(w) > MOST_RECORDS {
         return Err(3);
     }
@@ -29,9 +40,6 @@ pub fn tested(w: &[u32]) -> Result<(), u8> {
         return Err(6);
     }
     if shared(w) || (0..records(w)).any(|r| misplaced(w, r) || untold(w, r)) {
-        return Err(7);
-    }
-    if names::twice(w) {
         return Err(7);
     }
     Ok(())

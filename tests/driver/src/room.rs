@@ -1,5 +1,6 @@
 // What one thread holds from case to case: buffers, the guarded Rust, the tally, and what the present case did so far.
 use crate::altered::Base;
+use crate::boxes;
 use crate::calls::{Calls, Fault};
 use crate::lent::Lent;
 use crate::listed::TEXT;
@@ -86,8 +87,9 @@ impl Room {
         expect(all_are(&self.work.get()[KEPT..], fill), || "a word behind the names is another".into())
     }
 
-    /// A job was opened over words that were filled: no name is kept, and the words behind the names are as they were lent.
+    /// A job was opened over words that were filled: no name is kept, and the words behind the names, and the boxes of no record, are as they were lent.
     pub fn freed(&self, fill: u32) -> Same {
+        boxes::unused(self.work.get(), |_| fill)?;
         expect(all_zero(&self.work.get()[NAMES..KEPT]), || "opening leaves a name".into())?;
         self.behind(fill)
     }

@@ -3,7 +3,10 @@
 use crate::calls::Fault;
 use crate::room::{Room, Same};
 use crate::tally::Tally;
-use crate::{altered, canon, contains, damage, drawn, finish, kept, laid, large, mended, open, pair, reasons, steps, turned};
+use crate::{
+    altered, canon, contains, damage, drawn, finish, kept, laid, large, mended, open, pair, reasons, steps, turned,
+    windows,
+};
 use oracle::gen;
 use oracle::rng::Rng;
 use std::panic::{catch_unwind, AssertUnwindSafe};
@@ -27,6 +30,7 @@ pub enum Kind {
     Drawn,
     Contains,
     Mended,
+    Windows,
 }
 
 pub const KINDS: &[(&str, Kind)] = &[
@@ -42,6 +46,7 @@ pub const KINDS: &[(&str, Kind)] = &[
     ("drawn", Kind::Drawn),
     ("contains", Kind::Contains),
     ("mended", Kind::Mended),
+    ("windows", Kind::Windows),
 ];
 
 impl Kind {
@@ -100,6 +105,7 @@ impl Kind {
                 contains::case(room, &mut rng)
             }
             Kind::Mended => mended::case(room, seed, index, &mut rng),
+            Kind::Windows => windows::case(room, seed, index, &mut rng),
         }
     }
 
@@ -124,16 +130,18 @@ impl Kind {
             Kind::Drawn => vec![("finish", vec![0, 3, 10, 11])],
             Kind::Contains => vec![("contained", (0..=11).collect())],
             Kind::Mended => vec![("mend", (0..=5).chain(17..=17).collect())],
+            Kind::Windows => vec![("records in", vec![0, 3, 4, 5, 6, 7, 10, 11])],
         }
     }
 
-    /// The calls on altered work spaces, whose refusals must have stood in every way to what ringless records keep.
+    /// The calls on altered work spaces, whose refusals must have stood in every way to what ringless records keep, to boxes and to names.
     fn must_test(self) -> &'static [&'static str] {
         match self {
             Kind::Altered => &["step", "write"],
             Kind::Reasons => &["reason"],
             Kind::Kept => &kept::TESTED,
             Kind::Laid => &laid::TESTED,
+            Kind::Windows => &["records in"],
             _ => &[],
         }
     }
@@ -230,6 +238,10 @@ impl Run {
         }
         if self.kind == Kind::Mended {
             lacking.extend(tally.lacking_events(&mended::SEEN));
+        }
+        if self.kind == Kind::Windows {
+            lacking.extend(tally.lacking_events(&oracle::boxes::WINDOWS));
+            lacking.extend(tally.lacking_events(&windows::SEEN));
         }
         lacking.extend(self.kind.must_test().iter().flat_map(|call| tally.lacking_kept(call)));
         if count >= 10_000 && !lacking.is_empty() {

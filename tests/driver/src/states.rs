@@ -64,6 +64,7 @@ impl Calls {
                 let other = (place_of(work, name).unwrap_or(0) + 1) % STATES;
                 Named::GoBack.write(work, other, name);
             }
+            (Fault::BoxBack, 0) => work[BOXES..BLOCK].copy_from_slice(&before[BOXES..BLOCK]),
             (Fault::BackCounts, 0) => work[POINTS..=RECORDS].copy_from_slice(&before[POINTS..=RECORDS]),
             _ => {}
         }

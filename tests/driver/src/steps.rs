@@ -1,4 +1,5 @@
 // Kind `steps`: lists of steps through outline_open, outline_step and outline_write against the oracle's stepping model.
+use crate::boxes;
 use crate::finish::tray_length;
 use crate::model::{same_counts, same_forest, same_record, stray};
 use crate::open::open_job;
@@ -36,7 +37,7 @@ pub fn case(room: &mut Room, rng: &mut Rng) -> Same {
     let done = (0..model.records.len()).all(|r| model.due(r) == Due::Done);
     room.tally.event(if done { "lists until all are done" } else { "lists that end before" }, 1);
     if done && rising {
-        as_in_one_call(room)?;
+        as_in_one_call(room, fill)?;
     }
     write_out(room, rng, &model, WORDS, TRAY)?;
     write_out(room, rng, &model, WORDS, 0)
@@ -73,9 +74,9 @@ fn steps(room: &mut Room, rng: &mut Rng, model: &mut Forest, most: usize) -> Res
     Ok(order == 0)
 }
 
-/// Finishing in one call is the list that steps the rings in rising order: it leaves the same words.
-fn as_in_one_call(room: &mut Room) -> Same {
-    let mut work = vec![0; WORDS];
+/// Finishing in one call is the list that steps the rings in rising order: where the same was found, it leaves the same words.
+fn as_in_one_call(room: &mut Room, fill: u32) -> Same {
+    let mut work = vec![fill; WORDS];
     let answer = room.calls.finish(&room.paper[room.at..], &mut work, room.tray.lend(TRAY, 0));
     expect(answer == 0 && work[..KEPT] == *room.front(), || "finishing in one call leaves other words".into())?;
     room.tally.event("lists in rising order, the words as after finishing in one call", 1);
@@ -129,6 +130,7 @@ fn step(room: &mut Room, rng: &mut Rng, model: &mut Forest, number: u32) -> Resu
     if let Some(at) = stray(&before, w, record) {
         return Err(format!("a step on record {record} writes word {at}"));
     }
+    boxes::zeros(w)?;
     if records(w) > records(&before) {
         new_offcut(w, record)?;
     }

@@ -1,12 +1,12 @@
 // How often each call gave each answer, and each event came up.
-use crate::{names, plain};
+use crate::{boxes, names, plain};
 use std::collections::BTreeMap;
 
 #[derive(Clone, Default)]
 pub struct Tally {
     answers: BTreeMap<(&'static str, u32), u64>,
     events: BTreeMap<&'static str, u64>,
-    /// How a call's refusals stood to what ringless records keep, and to a name that is kept twice.
+    /// How a call's refusals stood to what ringless records keep, to a box that is not its ring's, and to a name that is kept twice.
     kept: BTreeMap<(&'static str, &'static str), u64>,
 }
 
@@ -23,7 +23,8 @@ impl Tally {
     pub fn tested(&mut self, call: &'static str, w: &[u32], answer: u32) {
         self.answer(call, answer);
         let Ok(refusal) = u8::try_from(answer) else { return };
-        for name in plain::kept(w, refusal).into_iter().chain(names::stands(w, refusal)) {
+        let boxed = boxes::stands(w, refusal);
+        for name in plain::kept(w, refusal).into_iter().chain(boxed).chain(names::stands(w, refusal)) {
             *self.kept.entry((call, name)).or_default() += 1;
         }
     }
@@ -51,9 +52,10 @@ impl Tally {
         events.iter().filter(|name| !self.events.contains_key(*name)).map(|name| name.to_string()).collect()
     }
 
-    /// In which ways a call's refusals never stood to what ringless records keep, or to a name that is kept twice.
+    /// In which ways a call's refusals never stood to what ringless records keep, to a box, or to a name that is kept twice.
     pub fn lacking_kept(&self, call: &'static str) -> Vec<String> {
-        let missing = plain::KEPT.iter().chain(&names::TWICE).filter(|name| !self.kept.contains_key(&(call, **name)));
+        let ways = plain::KEPT.iter().chain(&boxes::OTHER).chain(&names::TWICE);
+        let missing = ways.filter(|name| !self.kept.contains_key(&(call, **name)));
         missing.map(|name| format!("{call} {name}")).collect()
     }
 

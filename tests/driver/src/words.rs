@@ -26,8 +26,16 @@ pub const CUT: usize = START + MOST_RECORDS;
 pub const REASON: usize = CUT + MOST_RECORDS;
 pub const TAKER: usize = REASON + MOST_RECORDS;
 
+/// The boxes beside the rings: least x, least y, greatest x, greatest y, raised as coordinates are.
+pub const BOXES: usize = TAKER + MOST_RECORDS;
+pub const LEFT: usize = BOXES;
+pub const TOP: usize = LEFT + MOST_RECORDS;
+pub const RIGHT: usize = TOP + MOST_RECORDS;
+pub const BOTTOM: usize = RIGHT + MOST_RECORDS;
+pub const SIDES: [usize; 4] = [LEFT, TOP, RIGHT, BOTTOM];
+
 /// The live block; behind it a word for each place's name, and a copy of the block for each.
-pub const BLOCK: usize = TAKER + MOST_RECORDS;
+pub const BLOCK: usize = BOTTOM + MOST_RECORDS;
 pub const STATES: usize = 4;
 pub const NAMES: usize = BLOCK;
 pub const KEPT: usize = NAMES + STATES;

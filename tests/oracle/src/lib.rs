@@ -3,6 +3,7 @@ include!(concat!(env!("OUT_DIR"), "/clipper/modules.rs"));
 
 pub mod answer;
 pub mod batch;
+pub mod boxes;
 pub mod canon;
 pub mod canon_cases;
 pub mod cases;

@@ -10,8 +10,8 @@ is-good-spec =
     (tie.spec
     (λ c κs. search needs)
     (λ c. search needs)
-    (λ c κs. (search needs, search few-zeros))
+    (λ c κs. (search needs, search (needs, few-zeros)))
     (λ c. search needs)
     (λ c. search needs)
-    (λ c κs. (search needs, search (needs, all-zeros)))
+    (λ c κs. (search needs, search all-zeros))
     (λ c. search needs))

@@ -1,8 +1,7 @@
--- tests_of meets its contract: at once where nothing fails, else in order.
+-- tests_of meets its contract: the counts, then the rest in order.
 use borrow.Author.Needs.{needs}
 use Rattle.audit.proofs.Testing.{says-crowded}
 use Rattle.audit.proofs.Marking.{counted}
-use Rattle.audit.proofs.Trying.{at-once}
 use Rattle.audit.proofs.tests_of.Statement.{statement}
 use Rattle.audit.proofs.tests_of.Tie as tie
 
@@ -12,7 +11,5 @@ tests-of-spec =
     (tie.spec
     (λ c κs. search needs)
     (λ c. search says-crowded)
-    (λ c κs. search counted)
-    (λ c. search at-once)
     (λ c κs. search counted)
     (λ c. search needs))

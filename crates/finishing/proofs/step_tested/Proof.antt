@@ -1,6 +1,6 @@
 -- `step_tested` meets its contract.
 use borrow.Author.Needs.{needs}
-use Rattle.finishing.proofs.Calls.{step-carried}
+use Rattle.finishing.proofs.Calls.{step-said}
 use Rattle.finishing.proofs.step_tested.Statement.{statement}
 use Rattle.finishing.proofs.step_tested.Tie as tie
 
@@ -11,4 +11,4 @@ step-tested-spec =
     (λ c κs. search needs)
     (λ c κs. search needs)
     (λ c. search needs)
-    (λ c. search step-carried))
+    (λ c. search step-said))

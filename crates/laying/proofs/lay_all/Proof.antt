@@ -1,4 +1,4 @@
--- `laying::lay_all` meets its contract: points, records, counts.
+-- `laying::lay_all` meets its contract: columns, boxes, counts.
 use borrow.Author.Needs.{needs}
 use Rattle.laying.proofs.Calls.{all-laid}
 use Rattle.laying.proofs.lay_all.Statement.{statement}
@@ -8,8 +8,6 @@ pub lay-all-spec : {M : Type 1} → statement M
 lay-all-spec =
     tie.close
     (tie.spec
-    (λ c κs. search needs)
-    (λ c κs. search needs)
     (λ c κs. search needs)
     (λ c κs. search needs)
     (λ c. search needs)

@@ -4,18 +4,17 @@ use mathlib.Core.Path.{_≡_, refl}
 use lib.ListN.{length}
 use Rattle.job.specs.Limits as limit
 use Rattle.store.specs.Named.{pointsOf, nextOf}
-use Rattle.audit.specs.Marks.{markFrom, Tried}
-use Rattle.audit.proofs.Testing.{mark-on}
-use Rattle.audit.proofs.Trying.{tried-none, tried-more, walked-out, walked-met, walked-over}
+use Rattle.audit.specs.Marks.{markFrom}
+use Rattle.audit.proofs.Testing.{mark-out, mark-met, mark-on, mark-over}
 use Rattle.audit.proofs.walks.mark_from.Statement.{statement}
 use Rattle.audit.proofs.walks.mark_from.Tie as tie
 
 abbrev Inv-loop : tie.InvT-loop
-Inv-loop w marks₀ m n a bad₀ p₀ left₀ marks bad p left =
-    (markFrom left (nextOf w) (pointsOf w) marks p ≡ markFrom limit.POINTS (nextOf w) (pointsOf w) marks₀ a) × Tried w marks₀ marks bad × (length marks ≡ length marks₀)
+Inv-loop w marks₀ m a p₀ left₀ marks p left =
+    (markFrom left (nextOf w) (pointsOf w) marks p ≡ markFrom limit.POINTS (nextOf w) (pointsOf w) marks₀ a) × (length marks ≡ length marks₀)
 
 abbrev μ-loop : tie.MeasureT-loop
-μ-loop w marks₀ m n a bad₀ p₀ left₀ marks bad p left = left
+μ-loop w marks₀ m a p₀ left₀ marks p left = left
 
 pub mark-from-spec : {M : Type 1} → statement M
 mark-from-spec =
@@ -23,17 +22,16 @@ mark-from-spec =
     (tie.spec
     Inv-loop
     μ-loop
-    (λ c. (refl, tried-none _ _, refl))
+    (λ c. (refl, refl))
     (λ c. search needs)
-    (λ c. search (needs, walked-out))
+    (λ c. search mark-out)
     (λ c. search needs)
     (λ c. search needs)
-    (λ c. search (needs, walked-met))
+    (λ c. search mark-met)
     (λ c. search needs)
     (λ c κs. search needs)
-    (λ c κs. search needs)
     (λ c. search needs)
     (λ c. search needs)
-    (λ c. (search mark-on, search (needs, tried-more), search needs))
+    (λ c. (search mark-on, search needs))
     (λ c. search needs)
-    (λ c. search (needs, walked-over)))
+    (λ c. search mark-over))

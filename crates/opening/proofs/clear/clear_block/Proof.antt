@@ -1,6 +1,6 @@
 -- `opening::clear::clear_block` meets its contract.
 use borrow.Author.Needs.{needs}
-use Rattle.opening.proofs.Blanking.{block-written}
+use Rattle.opening.proofs.Blanking.{block-written, block-zeros}
 use Rattle.opening.proofs.clear.clear_block.Statement.{statement}
 use Rattle.opening.proofs.clear.clear_block.Tie as tie
 
@@ -14,4 +14,4 @@ clear-block-spec =
     (λ c. search needs)
     (λ c κs. search needs)
     (λ c. search needs)
-    (λ c. search needs))
+    (λ c. search block-zeros))

@@ -7,7 +7,7 @@ use Rattle.opening.proofs.clear.write_zeros.Statement.{statement}
 use Rattle.opening.proofs.clear.write_zeros.Tie as tie
 
 abbrev Inv-loop : tie.InvT-loop
-Inv-loop t₀ at to k₀ t k = Zeroing t₀ to t k
+Inv-loop t₀ at to k₀ t k = Zeroing t₀ at to t k
 
 abbrev μ-loop : tie.MeasureT-loop
 μ-loop t₀ at to k₀ t k = to - k

@@ -1,6 +1,6 @@
--- `opening::open::open` meets its contract: the length, zeros in front, the stages.
+-- `opening::open::open` meets its contract: opened without boxes, and then they are written.
 use borrow.Author.Needs.{needs}
-use Rattle.opening.proofs.Staging.{too-short, opened}
+use Rattle.opening.proofs.Unboxed.{unboxed-long, unboxed-few, boxes-written, no-boxes}
 use Rattle.opening.proofs.open.open.Statement.{statement}
 use Rattle.opening.proofs.open.open.Tie as tie
 
@@ -10,9 +10,9 @@ open-spec =
     (tie.spec
     (λ c κs. search needs)
     (λ c. search needs)
-    (λ c. search too-short)
-    (λ c κs. search needs)
-    (λ c κs. search needs)
-    (λ c κs. search needs)
+    (λ c κs. (search unboxed-long, search unboxed-few))
     (λ c. search needs)
-    (λ c. search (opened, needs)))
+    (λ c. search needs)
+    (λ c. search boxes-written)
+    (λ c. search needs)
+    (λ c. search no-boxes))

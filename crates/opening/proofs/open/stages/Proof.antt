@@ -18,6 +18,6 @@ stages-spec =
     (λ c κs. (may-convert _ _ _ _ _ _ (c .before .before .before .before .before .before .before .before .before .before .before .before .before .before .before .before .pre) _ (with-places _ _ _ _ _ _ (c .before .before .before .before .before .before .before .before .before .before .accept .ensures)) (c .before .before .before .before .o .given .1), search needs))
     (λ c. search needs)
     (λ c. search needs)
-    (λ c. rows-passed _ _ _ _ _ _ (c .before .before .before .before .before .before .before .before .before .before .before .before .before .accept .ensures) _ _ _ (c .before .before .before .before .before .before .before .o .given .1) (c .before .before .join-all .ensures))
+    (λ c. rows-passed _ _ _ _ _ _ (c .before .before .before .before .before .before .before .before .before .before .before .before .before .accept .ensures) _ _ (c .before .before .before .before .before .before .before .o .given .1) (c .before .before .join-all .ensures))
     (λ c. search needs)
     (λ c. rows-refused _ _ _ _ _ _ (c .before .before .before .before .before .before .before .accept .ensures) _ (c .before .o2 .given .1)))

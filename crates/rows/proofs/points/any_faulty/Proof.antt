@@ -11,10 +11,10 @@ use Rattle.rows.proofs.points.any_faulty.Statement.{statement}
 use Rattle.rows.proofs.points.any_faulty.Tie as tie
 
 abbrev Inv-loop : tie.InvT-loop
-Inv-loop w m k₀ k = (k ≤ pointsOf w) × (anyBelow k (faultyPoint w) ≡ false)
+Inv-loop w m n k₀ k = (k ≤ pointsOf w) × (anyBelow k (faultyPoint w) ≡ false)
 
 abbrev μ-loop : tie.MeasureT-loop
-μ-loop w m k₀ k = pointsOf w - k
+μ-loop w m n k₀ k = pointsOf w - k
 
 pub any-faulty-spec : {M : Type 1} → statement M
 any-faulty-spec =
@@ -22,6 +22,7 @@ any-faulty-spec =
     (tie.spec
     Inv-loop
     μ-loop
+    (λ c κs. search needs)
     (λ c κs. search needs)
     (λ c. (search needs, none _))
     (λ c κs. search needs)

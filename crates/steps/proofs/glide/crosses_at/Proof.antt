@@ -1,6 +1,6 @@
 -- `crosses_at` meets its contract.
 use borrow.Author.Needs.{needs}
-use Rattle.steps.proofs.Gliding.{all-four, hit-is}
+use Rattle.steps.proofs.Gliding.{hit-is}
 use Rattle.steps.proofs.glide.crosses_at.Statement.{statement}
 use Rattle.steps.proofs.glide.crosses_at.Tie as tie
 
@@ -9,6 +9,9 @@ crosses-at-spec =
     tie.close
     (tie.spec
     (λ c κs. search needs)
-    (λ c κs. search (all-four, needs))
+    (λ c κs. search needs)
+    (λ c κs. search needs)
+    (λ c κs. search needs)
+    (λ c κs. search needs)
     (λ c κs. search needs)
     (λ c. search hit-is))

@@ -1,6 +1,6 @@
 -- `step_ring` meets its contract.
 use borrow.Author.Needs.{needs}
-use Rattle.steps.proofs.Steps.{applies, went, no-room}
+use Rattle.steps.proofs.Steps.{applies, went, no-room, foretold, not-told, goes}
 use Rattle.steps.proofs.step.step_ring.Statement.{statement}
 use Rattle.steps.proofs.step.step_ring.Tie as tie
 
@@ -10,8 +10,9 @@ step-ring-spec =
     (tie.spec
     (λ c κs. search needs)
     (λ c κs. search needs)
+    (λ c κs. search goes)
     (λ c κs. search (applies, needs))
     (λ c. search needs)
-    (λ c. search (went))
+    (λ c. (search went, search foretold))
     (λ c. search needs)
-    (λ c. search (no-room)))
+    (λ c. (search no-room, not-told _ _)))

@@ -1,0 +1,22 @@
+-- is_bad_ring meets its contract: without a ring nothing is marked; with one, a round came back and its box is the one beside it.
+use borrow.Author.Needs.{needs}
+use Rattle.audit.proofs.Gathering.{ring-bare, ring-same, something}
+use Rattle.audit.proofs.rounds.is_bad_ring.Statement.{statement}
+use Rattle.audit.proofs.rounds.is_bad_ring.Tie as tie
+
+pub is-bad-ring-spec : {M : Type 1} → statement M
+is-bad-ring-spec =
+    tie.close
+    (tie.spec
+    (λ c κs. search needs)
+    (λ c. search ring-bare)
+    (λ c. something)
+    (λ c. search needs)
+    (λ c. something)
+    (λ c κs. search needs)
+    (λ c. search needs)
+    (λ c. something)
+    (λ c κs. search needs)
+    (λ c κs. search needs)
+    (λ c. search needs)
+    (λ c. search ring-same))

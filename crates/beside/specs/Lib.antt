@@ -1,0 +1,2 @@
+-- Words with boxes written beside the records.
+pub mod Sides

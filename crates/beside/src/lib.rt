@@ -1,0 +1,1 @@
+// Boxes beside the rings, through steps: laws. No code.

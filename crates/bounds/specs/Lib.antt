@@ -1,0 +1,2 @@
+-- The box of a ring as the code finds it.
+pub mod Along

@@ -1,0 +1,3 @@
+-- What a step leaves, with the boxes beside the rings; and what its code asks.
+pub mod Leaves
+pub mod Needs

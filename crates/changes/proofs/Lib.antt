@@ -1,0 +1,2 @@
+-- Laws of the test whether an act may change a box.
+pub mod Changing

@@ -1,0 +1,2 @@
+-- Laws of the crossing test over whole numbers.
+pub mod Crossed

@@ -1,0 +1,2 @@
+-- Laying two drawings together, on worked work spaces.
+pub mod Examples

@@ -1,0 +1,1 @@
+// Laying two drawings together, worked: answers and words that are computed. No code.
