@@ -8,6 +8,7 @@ pub mod Saying
 pub mod Ringing
 pub mod Deciding
 pub mod Trying
+pub mod Meeting
 pub mod Gathering
 pub mod Agreeing
 pub mod Handing

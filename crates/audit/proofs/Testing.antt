@@ -2,7 +2,7 @@
 use Prim.Native.Nat.{ℕ, zero, suc, _+_, _-_, _*_, _%_, _≤_, _<_}
 use mathlib.Core.Path.{_≡_, refl, ap, _∙_, sym, subst}
 use mathlib.Core.Logic.{_≢_}
-use mathlib.Core.Bool.{Bool, true, false, not, _&&_, _||_, or-false}
+use mathlib.Core.Bool.{Bool, true, false, not, _&&_, _||_}
 use mathlib.Core.List.{List}
 use native.Mathlib.Omega.{arith}
 use native.Mathlib.Nat.{zero-add}
@@ -22,7 +22,7 @@ use Rattle.audit.specs.declared.Verdict.{Verdict}
 use Rattle.audit.specs.declared.Verdict.the-variants.{Passed, Refused}
 use Rattle.audit.specs.declared.PointTest.the-variants.{Table, Numbers, Links}
 use Rattle.audit.specs.Tests.{isIn, anyBelow, anyRecord, crowded, noSuchOf, misplaced, testsOf, lostTaker, untold}
-use Rattle.audit.specs.Marks.{isMarked, markFrom, marksBy, meets, AllMarked, faulty, faultyOf, anyMarked, linksOf, passesOf}
+use Rattle.audit.specs.Marks.{isMarked, markFrom, marksBy, meets, AllMarked, faulty, anyMarked, linksOf, passesOf}
 
 -- ---- the first number below n that fails
 
@@ -189,22 +189,6 @@ module _ (w : List ℕ) (i f : ℕ) (ef : f ≡ firstOf w i) where
       pub misplaced-else : (p : ℕ) (b : Bool) → d ≤ 4 → d ≢ 4 → p ≡ presentOf w i → b ≡ isIn p (ringOf w f) → not b ≡ misplaced w i
       misplaced-else p b l n ep eb = rw (ringed, shut, le-ltb 4 (progressOf w i) (omega arith), lt-ltb (progressOf w i) 4 (omega arith), eb, ep, ef)
 
--- ---- a record, all tests at once
-
-module _ (w : List ℕ) (i : ℕ) (a : Bool) (ea : a ≡ noSuchOf w i) where
-  pub record-unnamed : a ≡ true → true ≡ faultyOf w i
-  record-unnamed h = rw (sym ea ∙ h)
-
-  module _ (ha : a ≡ false) (f : ℕ) (ef : f ≡ firstOf w i) (r : Bool) where
-    pub record-bare : f ≡ NONE → r ≡ (lostTaker w i || untold w i) → r ≡ faultyOf w i
-    record-bare h e = rw (sym ea ∙ ha, eq-eqb (firstOf w i) NONE (sym ef ∙ h)) (rw (eq-eqb (firstOf w i) NONE (sym ef ∙ h)) at e)
-
-    pub record-ringed : f ≢ NONE → r ≡ misplaced w i → r ≡ faultyOf w i
-    record-ringed h e = rw (sym ea ∙ ha) (e ∙ sym (unkept (misplaced w i) (ne-eqb (firstOf w i) NONE (λ z. h (ef ∙ z)))))
-      where
-        unkept : (b : Bool) → eqb (firstOf w i) NONE ≡ false → (lostTaker w i || (b || untold w i)) ≡ b
-        unkept b z = rw z (or-false b)
-
 -- ---- the tests together
 
 module _ (w ms : List ℕ) (s a : Bool) (ea : a ≡ (anyMarked w ms Numbers || (anyRecord w (noSuchOf w) || anyRecord w (lostTaker w)))) where
@@ -235,3 +219,6 @@ says-links w ms s a r e h g = rw (sym e ∙ h) g
 pub says-crowded : (w : List ℕ) (b : Bool) → b ≡ crowded w → b ≡ true → Refused Crowded ≡ testsOf w
 unfolding testsOf
 says-crowded w b e h = rw (sym e ∙ h)
+
+pub says-crowd : (w : List ℕ) (m n : ℕ) → m ≡ pointsOf w → n ≡ recordsOf w → (ltb limit.POINTS m || ltb limit.RECORDS n) ≡ crowded w
+says-crowd w m n em en = rw (em, en)

@@ -14,9 +14,9 @@ use Rattle.rings.proofs.Counting.{occ-head}
 use Rattle.rings.proofs.Members.{prev-on, next-prev}
 use Rattle.store.specs.Named.{pointsOf, recordsOf, nextOf, prevOf, recOf}
 use Rattle.audit.specs.declared.Verdict.the-variants.{Passed}
-use Rattle.audit.specs.Tests.{reachedBy, anyRecord, offTable, noSuch, loose, noSuchOf, lostTaker, misplaced, untold, testsOf}
+use Rattle.audit.specs.Tests.{reachedBy, offTable, noSuch, loose, noSuchOf, lostTaker, misplaced, untold, testsOf}
 use Rattle.audit.specs.Handed.{anyMisboxed}
-use Rattle.audit.specs.Marks.{Counted, Clear, isMarked, faulty, faultyOf, Tried, Unless, RingsPassed, Looked}
+use Rattle.audit.specs.Marks.{Counted, Clear, isMarked, faulty, faultyOf, Tried, Unless, RecordsPassed, Looked}
 use Rattle.audit.proofs.Reaching.{in-true}
 use Rattle.audit.proofs.Ringing.{RingAt, ring-at}
 use Rattle.audit.proofs.Saying.{none-of, all-none, none-reached, such-not, tied-not, passed}
@@ -71,7 +71,7 @@ tested w k e =
 pub goes-on : (w : List ℕ) (p m q : ℕ) (b : Bool) → b ≡ faulty w p → b ≡ false → m ≡ pointsOf w → q ≡ nextOf w p → q < m
 goes-on w p m q b e h em eq = omega (arith, tested w p (sym e ∙ h) .next)
 
-module _ (w ms ms′ : List ℕ) (h : Counted w) (c : Clear w ms) (a : RingsPassed w ms (recordsOf w) ms′) where
+module _ (w ms ms′ : List ℕ) (h : Counted w) (c : Clear w ms) (a : RecordsPassed w ms (recordsOf w) ms′) where
   good : (k : ℕ) → 0 < occ k (reachedBy w (recordsOf w)) → Tested w k
   good k o = tested w k (a .tried .good k (ap (λ (l : List ℕ). isMarked l k) (a .marks) ∙ marks-are w ms c (recordsOf w) .is k ∙ in-true k (reachedBy w (recordsOf w)) o) (c .none k))
 
@@ -85,35 +85,31 @@ module _ (w ms ms′ : List ℕ) (h : Counted w) (c : Clear w ms) (a : RingsPass
     linked : loose w k ≡ false
     linked = tied-not w k (next-prev (nextOf w) (prevOf w) (pointsOf w) (k ∷ g .others) (g .ring) k (occ-head k (g .others))) (good k o .back)
 
-  module _ (f : Bool) (ef : f ≡ anyRecord w (faultyOf w)) (ff : f ≡ false) where
-    parts : (i : ℕ) → i < recordsOf w → (noSuchOf w i ≡ false) × (lostTaker w i ≡ false) × (misplaced w i ≡ false) × (untold w i ≡ false)
-    parts i l =
-        let x = or-parts (noSuchOf w i) (lostTaker w i || (misplaced w i || untold w i)) (none-of (recordsOf w) (faultyOf w) (sym ef ∙ ff) i l) in
-        let y = or-parts (lostTaker w i) (misplaced w i || untold w i) (x .1) in
-        let z = or-parts (misplaced w i) (untold w i) (y .1) in
-        (x .0, y .0, z .0, z .1)
+  parts : (i : ℕ) → i < recordsOf w → (noSuchOf w i ≡ false) × (lostTaker w i ≡ false) × (misplaced w i ≡ false) × (untold w i ≡ false)
+  parts i l =
+      let x = or-parts (noSuchOf w i) (lostTaker w i || (misplaced w i || untold w i)) (none-of (recordsOf w) (faultyOf w) (a .fit) i l) in
+      let y = or-parts (lostTaker w i) (misplaced w i || untold w i) (x .1) in
+      let z = or-parts (misplaced w i) (untold w i) (y .1) in
+      (x .0, y .0, z .0, z .1)
 
-    nothing : testsOf w ≡ Passed
-    nothing =
-        passed w (record {
-          points = h .points;
-          records = h .records;
-          placed = none-reached w (offTable w) (λ k o. good k o .table);
-          numbered = none-reached w (noSuch w) numbered;
-          owned = all-none (recordsOf w) (noSuchOf w) (λ i l. parts i l .0);
-          taken = all-none (recordsOf w) (lostTaker w) (λ i l. parts i l .1);
-          tied = none-reached w (loose w) linked;
-          apart = sym (meets-is w ms c) ∙ a .apart;
-          meant = all-none (recordsOf w) (misplaced w) (λ i l. parts i l .2);
-          explained-all = all-none (recordsOf w) (untold w) (λ i l. parts i l .3);
-        })
+  nothing : testsOf w ≡ Passed
+  nothing =
+      passed w (record {
+        points = h .points;
+        records = h .records;
+        placed = none-reached w (offTable w) (λ k o. good k o .table);
+        numbered = none-reached w (noSuch w) numbered;
+        owned = all-none (recordsOf w) (noSuchOf w) (λ i l. parts i l .0);
+        taken = all-none (recordsOf w) (lostTaker w) (λ i l. parts i l .1);
+        tied = none-reached w (loose w) linked;
+        apart = sym (meets-is w ms c) ∙ a .apart;
+        meant = all-none (recordsOf w) (misplaced w) (λ i l. parts i l .2);
+        explained-all = all-none (recordsOf w) (untold w) (λ i l. parts i l .3);
+      })
 
   nowhere : anyMisboxed w ≡ false
   unfolding anyMisboxed
   nowhere = a .boxed
 
-pub looked : (w ms ms′ : List ℕ) (b f : Bool) → Counted w → Clear w ms → Unless b (RingsPassed w ms (recordsOf w) ms′) → b ≡ false → f ≡ anyRecord w (faultyOf w) → Looked w (not f)
-looked w ms ms′ b f h c u z ef = record { passes = λ t. nothing w ms ms′ h c (u .none z) f ef (not-true f t); boxed = λ t. nowhere w ms ms′ h c (u .none z) }
-
-pub found : (w : List ℕ) → Looked w false
-found w = record { passes = λ h. clash h refl; boxed = λ h. clash h refl }
+pub looked : (w ms ms′ : List ℕ) (b : Bool) → Counted w → Clear w ms → Unless b (RecordsPassed w ms (recordsOf w) ms′) → Looked w (not b)
+looked w ms ms′ b h c u = record { passes = λ t. nothing w ms ms′ h c (u .none (not-true b t)); boxed = λ t. nowhere w ms ms′ h c (u .none (not-true b t)) }

@@ -13,11 +13,12 @@ use Rattle.audit.specs.declared.Verdict.the-variants.{Passed, Refused}
 use Rattle.store.specs.declared.boxed.Sides.{Sides}
 use Rattle.store.specs.Field.{BLOCK}
 use Rattle.store.specs.Words.{view}
+use Rattle.store.specs.Sound.{isOpen}
 use Rattle.store.specs.Boxes.{rectOf, misboxed}
-use Rattle.store.specs.Named.{pointsOf, recordsOf, nextOf, prevOf, recOf, firstOf}
+use Rattle.store.specs.Named.{pointsOf, recordsOf, nextOf, prevOf, recOf, firstOf, progressOf, ringOf}
 use Rattle.bounds.specs.Along.{boxFrom}
 use Rattle.audit.specs.Handed.{anyMisboxed}
-use Rattle.audit.specs.Tests.{anyBelow, anyRecord, offTable, noSuch, loose, noSuchOf, lostTaker, misplaced, untold, testsOf}
+use Rattle.audit.specs.Tests.{isIn, anyBelow, anyRecord, offTable, noSuch, loose, noSuchOf, lostTaker, misplaced, untold, testsOf}
 use Rattle.audit.specs.declared.PointTest.{PointTest}
 use Rattle.audit.specs.declared.PointTest.the-variants.{Table, Numbers, Links}
 use Rattle.audit.specs.declared.RecordTest.{RecordTest}
@@ -77,24 +78,42 @@ pub record Tried (w ms ms′ : List ℕ) : Type 0 where
 pub record Unless (found : Bool) (P : Type 0) : Type 0 where
   pub none : found ≡ false → P
 
--- what a round from a comes to: its points are marked and pass, and b is the box of the ring that starts there
-pub record Rounded (w ms : List ℕ) (a : ℕ) (ms′ : List ℕ) (b : Sides) : Type 0 where
+-- `misplaced` of a record with a ring, where it is known whether its present place is on it
+abbrev pub misplacedIf : List ℕ → ℕ → Bool → Bool
+misplacedIf w i on = not (isOpen (view w) i) && (ltb 4 (progressOf w i) || (ltb (progressOf w i) 4 && not on))
+
+-- a record fails one of its four
+abbrev pub faultyOf : List ℕ → ℕ → Bool
+faultyOf w i = noSuchOf w i || (lostTaker w i || (misplaced w i || untold w i))
+
+-- what a round from a that looks for k comes to: its points are marked and pass, e is whether k is on the ring that starts there, and b is its box
+pub record Rounded (w ms : List ℕ) (a k : ℕ) (ms′ : List ℕ) (e : Bool) (b : Sides) : Type 0 where
   pub marks : ms′ ≡ markFrom limit.POINTS (nextOf w) (pointsOf w) ms a
   pub tried : Tried w ms ms′
+  pub met : e ≡ isIn k (ringOf w a)
   pub box : boxFrom (view w) a ≡ some (rectOf b)
 
--- record i's ring is no earlier record's, its points pass, and its box stands beside it
+-- the points of record i's ring pass, its progress has a meaning, and its box stands beside it
 pub record RingPassed (w ms : List ℕ) (i : ℕ) (ms′ : List ℕ) : Type 0 where
+  pub marks : ms′ ≡ markFrom limit.POINTS (nextOf w) (pointsOf w) ms (firstOf w i)
+  pub tried : Tried w ms ms′
+  pub placed : misplaced w i ≡ false
+  pub boxed : misboxed w i ≡ false
+
+-- record i passes, and its ring is no earlier record's
+pub record RecordPassed (w ms : List ℕ) (i : ℕ) (ms′ : List ℕ) : Type 0 where
   pub marks : ms′ ≡ markFrom limit.POINTS (nextOf w) (pointsOf w) ms (firstOf w i)
   pub apart : isMarked ms (firstOf w i) ≡ false
   pub tried : Tried w ms ms′
+  pub fit : faultyOf w i ≡ false
   pub boxed : misboxed w i ≡ false
 
 -- so of the records below i
-pub record RingsPassed (w ms : List ℕ) (i : ℕ) (ms′ : List ℕ) : Type 0 where
+pub record RecordsPassed (w ms : List ℕ) (i : ℕ) (ms′ : List ℕ) : Type 0 where
   pub marks : ms′ ≡ marksBy w ms i
   pub apart : anyBelow i (meets w ms) ≡ false
   pub tried : Tried w ms ms′
+  pub fit : anyBelow i (faultyOf w) ≡ false
   pub boxed : anyBelow i (misboxed w) ≡ false
 
 abbrev pub failsOf : RecordTest → List ℕ → ℕ → Bool
@@ -102,10 +121,6 @@ failsOf Named w i = noSuchOf w i
 failsOf Taken w i = lostTaker w i
 failsOf Placed w i = misplaced w i
 failsOf Explained w i = untold w i
-
--- a record fails one of its four
-abbrev pub faultyOf : List ℕ → ℕ → Bool
-faultyOf w i = noSuchOf w i || (lostTaker w i || (misplaced w i || untold w i))
 
 -- a marked point fails the test
 abbrev pub anyMarked : List ℕ → List ℕ → PointTest → Bool

@@ -11,12 +11,11 @@ use crate::names::names_tested;
 use crate::points::loose;
 use crate::points::no_such;
 use crate::points::off_table;
-use crate::records::any_faulty;
 use crate::records::lost_taker;
 use crate::records::misplaced;
 use crate::records::no_such_of;
 use crate::records::untold;
-use crate::rounds::any_bad_ring;
+use crate::rounds::any_bad_record;
 use crate::walks::any_marked;
 use crate::walks::mark_all;
 use job::Job;
@@ -213,17 +212,13 @@ pub fn tests_of(w: &[u32]) -> Verdict
 
 // ---- all tests at once
 
-// Whether neither the rounds nor a turn through the records find anything that fails.
+// Whether no record has anything that fails.
 fn none_found(w: &[u32], marks: &mut [u8]) -> bool
     requires { ⌜ Counted (now w) × Clear (now w) (now marks) ⌝ }
     ensures { λ r. ⌜ Looked (now (w .entry)) r ⌝ }
 {
-    let bad = any_bad_ring(w, marks);
-    if bad {
-        return false;
-    }
-    let faulty = any_faulty(w);
-    !faulty
+    let bad = any_bad_record(w, marks);
+    !bad
 }
 
 // The same, with marks of its own.

@@ -1,4 +1,4 @@
-// The tests of a record, one by one, and all of them at once.
+// The tests of a record, one by one.
 use job::Job;
 use store::AT_SPLIT;
 use store::Col;
@@ -15,10 +15,9 @@ ghost use lib.ListN.{length};
 ghost use Rattle.store.specs.Field as field;
 ghost use Rattle.store.specs.Field.{BLOCK};
 ghost use Rattle.store.specs.Named.{firstOf, ringOf};
-ghost use Rattle.audit.specs.Tests.{isIn, anyRecord, namesNothing, noSuchOf, lostTaker, misplaced, untold};
-ghost use Rattle.audit.specs.Marks.{faultyOf};
+ghost use Rattle.audit.specs.Tests.{isIn, namesNothing, noSuchOf, lostTaker, misplaced, untold};
 
-fn names_nothing(n: usize, v: usize) -> bool
+pub fn names_nothing(n: usize, v: usize) -> bool
     ensures { λ r. ⌜ r ≡ namesNothing n v ⌝ }
 {
     !(v == NONE) & !(v < n)
@@ -109,47 +108,12 @@ pub fn misplaced(w: &[u32], i: usize) -> bool
     misplaced_on(w, i, f)
 }
 
-// ---- all four at once
-
 // What a record without a ring keeps: does it fail a test?
-fn ill_kept(w: &[u32], i: usize) -> bool
+pub fn ill_kept(w: &[u32], i: usize) -> bool
     requires { ⌜ BLOCK ≤ length (now w) ⌝ }
     ensures { λ r. ⌜ r ≡ (lostTaker (now (w .entry)) i || untold (now (w .entry)) i) ⌝ }
 {
     let a = lost_taker(w, i);
     let b = untold(w, i);
     a | b
-}
-
-// Whether a record fails one of the four tests; what it keeps is asked only where it has no ring, its progress only where it has one.
-fn is_faulty_of(w: &[u32], i: usize) -> bool
-    requires { ⌜ BLOCK ≤ length (now w) ⌝ }
-    ensures { λ r. ⌜ r ≡ faultyOf (now (w .entry)) i ⌝ }
-{
-    let a = no_such_of(w, i);
-    if a {
-        return true;
-    }
-    let f = read(w, Col::First, i);
-    if f == NONE {
-        return ill_kept(w, i);
-    }
-    misplaced_on(w, i, f)
-}
-
-// Whether a record fails one of the four.
-pub fn any_faulty(w: &[u32]) -> bool
-    requires { ⌜ BLOCK ≤ length (now w) ⌝ }
-    ensures { λ r. ⌜ r ≡ anyRecord (now (w .entry)) (faultyOf (now (w .entry))) ⌝ }
-{
-    let n = get(w, Col::Records, 0);
-    let mut i: usize = 0;
-    while i < n {
-        let found = is_faulty_of(w, i);
-        if found {
-            return true;
-        }
-        i += 1;
-    }
-    false
 }

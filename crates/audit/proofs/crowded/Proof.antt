@@ -1,5 +1,6 @@
 -- crowded meets its contract.
 use borrow.Author.Needs.{needs}
+use Rattle.audit.proofs.Testing.{says-crowd}
 use Rattle.audit.proofs.crowded.Statement.{statement}
 use Rattle.audit.proofs.crowded.Tie as tie
 
@@ -9,4 +10,4 @@ crowded-spec =
     (tie.spec
     (λ c κs. search needs)
     (λ c κs. search needs)
-    (λ c. cc))
+    (λ c. search says-crowd))

@@ -1,6 +1,6 @@
 -- none_found meets its contract.
 use borrow.Author.Needs.{needs}
-use Rattle.audit.proofs.Trying.{found, looked}
+use Rattle.audit.proofs.Trying.{looked}
 use Rattle.audit.proofs.none_found.Statement.{statement}
 use Rattle.audit.proofs.none_found.Tie as tie
 
@@ -8,9 +8,6 @@ pub none-found-spec : {M : Type 1} → statement M
 none-found-spec =
     tie.close
     (tie.spec
-    (λ c κs. search needs)
-    (λ c. search needs)
-    (λ c. search found)
     (λ c κs. search needs)
     (λ c. search needs)
     (λ c. search (needs, looked)))

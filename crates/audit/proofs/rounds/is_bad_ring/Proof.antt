@@ -1,6 +1,6 @@
--- is_bad_ring meets its contract: without a ring nothing is marked; with one, a round came back and its box is the one beside it.
+-- is_bad_ring meets its contract: a round came back, met the present place where one is due, and its box is the one beside it.
 use borrow.Author.Needs.{needs}
-use Rattle.audit.proofs.Gathering.{ring-bare, ring-same, something}
+use Rattle.audit.proofs.Gathering.{ring-same, something}
 use Rattle.audit.proofs.rounds.is_bad_ring.Statement.{statement}
 use Rattle.audit.proofs.rounds.is_bad_ring.Tie as tie
 
@@ -9,8 +9,7 @@ is-bad-ring-spec =
     tie.close
     (tie.spec
     (λ c κs. search needs)
-    (λ c. search ring-bare)
-    (λ c. something)
+    (λ c κs. search needs)
     (λ c. search needs)
     (λ c. something)
     (λ c κs. search needs)

@@ -1,4 +1,4 @@
--- try_from meets its contract: the loop follows `markFrom`, with `left` points to go, and gathers the box on the way.
+-- try_from meets its contract: the loop follows `markFrom`, with `left` points to go, gathers the box on the way and tells whether it met k.
 use borrow.Author.Needs.{needs}
 use mathlib.Core.Path.{_≡_, refl}
 use Prim.Native.Nat.{_<_}
@@ -13,15 +13,15 @@ use Rattle.audit.proofs.rounds.try_from.Statement.{statement}
 use Rattle.audit.proofs.rounds.try_from.Tie as tie
 
 abbrev Inv-loop : tie.InvT-loop
-Inv-loop w marks₀ m n a b₀ p₀ left₀ marks b p left =
+Inv-loop w marks₀ m n a k b₀ met₀ p₀ left₀ marks b met p left =
     (markFrom left (nextOf w) (pointsOf w) marks p ≡ markFrom limit.POINTS (nextOf w) (pointsOf w) marks₀ a)
     × Tried w marks₀ marks
-    × Gathers w marks a p left b
+    × Gathers w marks a k p left met b
     × (length marks ≡ length marks₀)
     × (p < m)
 
 abbrev μ-loop : tie.MeasureT-loop
-μ-loop w marks₀ m n a b₀ p₀ left₀ marks b p left = left
+μ-loop w marks₀ m n a k b₀ met₀ p₀ left₀ marks b met p left = left
 
 pub try-from-spec : {M : Type 1} → statement M
 try-from-spec =
