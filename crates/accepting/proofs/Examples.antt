@@ -13,9 +13,9 @@ use Rattle.reading.specs.declared.fill.Outcome.the-variants.{Ok, Refused}
 use Rattle.reading.specs.Fill.{ReadEnd, end, turnOf, run, fillOf}
 use Rattle.reading.specs.Read.{readOf}
 use Rattle.joins.specs.Resolve.{findIn}
-use Rattle.rows.specs.Owners.{endsIn}
+use Rattle.owners.specs.Owners.{endsIn}
 use Rattle.rings.specs.Walk as walk
-use Rattle.rows.specs.Rings.{anyIn}
+use Rattle.visits.specs.Rings.{anyIn}
 use Rattle.rows.specs.Rows.{rowsOf}
 use Rattle.accepting.specs.Accept.{acceptOf}
 

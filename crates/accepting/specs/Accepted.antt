@@ -7,7 +7,7 @@ use Rattle.job.specs.Limits.{RECORDS}
 use Rattle.job.specs.declared.Job.{Job}
 use Rattle.store.specs.Named.{recordsOf, ownerOf}
 use Rattle.reading.specs.Alike.{Counts, Bits, Unringed}
-use Rattle.rows.specs.Owners.{endsIn}
+use Rattle.owners.specs.Owners.{endsIn}
 use Rattle.rows.specs.Rows.{unnamed, openEdge}
 use Rattle.rows.specs.Found.{Clear}
 use Rattle.joins.specs.Resolved.{Ready}

@@ -29,6 +29,12 @@ pub or-parts : (a b : Bool) → (a || b) ≡ false → (a ≡ false) × (b ≡ f
 or-parts false b e = (refl, e)
 or-parts true b e = clash refl e
 
+pub or-left : (a b : Bool) → (a || b) ≡ false → a ≡ false
+or-left a b e = or-parts a b e .0
+
+pub or-right : (a b : Bool) → (a || b) ≡ false → b ≡ false
+or-right a b e = or-parts a b e .1
+
 pub tried-none : (w ms : List ℕ) → Tried w ms ms
 tried-none w ms = record { good = λ k a b. clash a b }
 

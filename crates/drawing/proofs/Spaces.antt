@@ -34,8 +34,8 @@ use Rattle.reading.specs.Fill.{ReadEnd, end, recordRead, putJoin, placed, taken
 use Rattle.reading.specs.Needs.{Room}
 use Rattle.reading.specs.Read.{counted, withCounts, readOf}
 use Rattle.reading.proofs.Placing.{has-room}
-use Rattle.rows.specs.Owners.{endsIn}
-use Rattle.rows.specs.Rings.{anyIn}
+use Rattle.owners.specs.Owners.{endsIn}
+use Rattle.visits.specs.Rings.{anyIn}
 use Rattle.rows.specs.Rows.{rowsOf}
 use Rattle.accepting.specs.Accept.{answer, judged, acceptOf}
 use Rattle.acts.proofs.Beyond.{view-more}

@@ -28,10 +28,11 @@ use Rattle.joins.specs.Paths.{Lives}
 use Rattle.joins.specs.Resolved.{Ready}
 use Rattle.joins.proofs.Homes.{on-ring}
 use Rattle.joins.proofs.Finding.{at-home}
-use Rattle.rows.specs.Owners.{endsIn}
-use Rattle.rows.specs.Rings.{onRing}
+use Rattle.owners.specs.Owners.{endsIn}
+use Rattle.visits.specs.Rings.{onRing}
 use Rattle.rows.specs.Rows.{onOpen}
-use Rattle.rows.proofs.Homes.{or-left, or-right, named-at}
+use Rattle.audit.proofs.Trying.{or-left, or-right}
+use Rattle.rows.proofs.Homes.{named-at}
 use Rattle.accepting.specs.Accepted.{Accepted}
 use Rattle.drawing.specs.Drawing.{Drawn, Drawing, drawnAt, spotOf, drawingOf}
 use Rattle.drawing.proofs.Drawings.{word-back, spot-point}

@@ -12,7 +12,7 @@ use Rattle.numbers.specs.Raised.{coordinate}
 use Rattle.job.specs.Limits as limit
 use Rattle.store.specs.Field.{NONE}
 use Rattle.store.specs.Value.{wordOf}
-use Rattle.rows.specs.Owners.{endsIn}
+use Rattle.owners.specs.Owners.{endsIn}
 use Rattle.drawing.specs.Places.{nextPlace, prevPlace}
 use Rattle.drawing.specs.Drawing.{Spot, Drawing}
 use Rattle.drawing.proofs.Places.{next-place-low}

@@ -24,9 +24,9 @@ use Rattle.store.specs.Value.{wordOf}
 use Rattle.audit.specs.Tests.{isIn, anyBelow, offTable, noSuch, noSuchOf, loose}
 use Rattle.audit.specs.declared.Verdict.the-variants.{Passed}
 use Rattle.audit.proofs.Saying.{all-none, table-on, such-not, tied-not, owned-not}
-use Rattle.rows.specs.Owners.{endsIn, circles}
+use Rattle.owners.specs.Owners.{endsIn, circles}
 use Rattle.joins.specs.Resolve.{findIn, homeOf}
-use Rattle.rows.specs.Rings.{anyIn, onRing, alone, elsewhere, estranged}
+use Rattle.visits.specs.Rings.{anyIn, onRing, alone, elsewhere, estranged}
 use Rattle.rows.specs.Rows.{offTheTable, unnamed, noSuchNumber, looseLink, muddled, onOpen, openEdge, rowsOf}
 use Rattle.order.specs.Demand3.{numbers}
 use Rattle.drawing.specs.Places.{nextPlace, prevPlace}

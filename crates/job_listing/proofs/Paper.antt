@@ -20,8 +20,8 @@ use Rattle.audit.specs.Tests.{anyBelow}
 use Rattle.reading.specs.Fill.{turnOf, run, fillOf}
 use Rattle.reading.specs.Read.{readOf}
 use Rattle.joins.specs.Resolve.{findIn}
-use Rattle.rows.specs.Owners.{endsIn}
-use Rattle.rows.specs.Rings.{anyIn}
+use Rattle.owners.specs.Owners.{endsIn}
+use Rattle.visits.specs.Rings.{anyIn}
 use Rattle.rows.specs.Rows.{rowsOf}
 use Rattle.accepting.specs.Accept.{acceptOf}
 use Rattle.sorting.specs.Sorted.{sorted}

@@ -27,10 +27,10 @@ use Rattle.finishing.proofs.Starting.{start-usable}
 use Rattle.finishing.proofs.InOneCall.{opening-left}
 use Rattle.audit.specs.declared.Reply.the-variants.{Done}
 use Rattle.audit.specs.Left.{Left, left}
-use Rattle.laying.specs.Words.{pooledWords}
+use Rattle.pooling.specs.Words.{pooledWords}
 use Rattle.laying.specs.Lay.{settingsByte, isAtStart, isDiscarded, isStepped, anyStepped, layOf}
 use Rattle.laid.specs.Two.{OfTwo}
-use Rattle.laying.proofs.Pooling.{BothFit}
+use Rattle.pooling.proofs.Pooling.{BothFit}
 use Rattle.laying.proofs.Deciding.{lay-is}
 use Rattle.laid.proofs.Two.{two-drawings}
 

@@ -17,9 +17,9 @@ use Rattle.store.specs.Sound.{recs, ringless, ringAt, isOpen}
 use Rattle.store.specs.Good.{Sound}
 use Rattle.acts.specs.Opened.{Fresh, openedAt, records}
 use Rattle.acts.specs.Value.{value}
-use Rattle.laying.specs.Pooled.{raise, pooled}
-use Rattle.laying.proofs.Raising.{raise-high}
-use Rattle.laying.proofs.Pooling.{BothFit, record-before, record-after, ringless-up, open-up, mark-up, first-values, second-values}
+use Rattle.pooling.specs.Pooled.{raise, pooled}
+use Rattle.pooling.proofs.Raising.{raise-high}
+use Rattle.pooling.proofs.Pooling.{BothFit, record-before, record-after, ringless-up, open-up, mark-up, first-values, second-values}
 
 -- ---- tables
 

@@ -24,14 +24,14 @@ use Rattle.acts.specs.Opened.{Fresh, records}
 use Rattle.turns.specs.Form.{raised}
 use Rattle.finishing.specs.Start.{Start}
 use Rattle.finishing.proofs.Blocks.{same-apart, behind-names}
-use Rattle.laying.specs.Pooled.{pooled}
-use Rattle.laying.specs.Words.{pooledWords}
+use Rattle.pooling.specs.Pooled.{pooled}
+use Rattle.pooling.specs.Words.{pooledWords}
 use Rattle.laying.specs.Lay.{settingsByte, isAtStart, isOffcut, isDiscarded, isStepped, anyStepped, layOf}
-use Rattle.laying.proofs.Pooling.{BothFit, pooled-sound}
+use Rattle.pooling.proofs.Pooling.{BothFit, pooled-sound}
 use Rattle.laid.proofs.Records.{pooled-records, pooled-fresh}
 use Rattle.laying.proofs.Deciding.{Together, together}
-use Rattle.laying.proofs.Laying.{pooled-view, pooled-length, pooled-behind}
-use Rattle.laying.proofs.Boxing.{pooled-boxed}
+use Rattle.pooling.proofs.Laying.{pooled-view, pooled-length, pooled-behind}
+use Rattle.pooling.proofs.Boxing.{pooled-boxed}
 
 -- ---- a record that row 12 lets pass is at its start
 

@@ -33,11 +33,11 @@ use Rattle.order.specs.Demand3.{offcutsIn, Same, M, G, reversed, now, fed, open
 use Rattle.order.proofs.Table.{opened-is}
 use Rattle.order.proofs.Ends.{same-ends}
 use Rattle.order.proofs.Theorem.{left-at, lones-are, done-lones, after-list, demand-3}
-use Rattle.laying.specs.Words.{pooledWords}
+use Rattle.pooling.specs.Words.{pooledWords}
 use Rattle.laid.specs.Trees.{EachOwn}
-use Rattle.laying.proofs.Raising.{raise-low}
+use Rattle.pooling.proofs.Raising.{raise-low}
 use Rattle.laying.proofs.Deciding.{refused-leaves}
-use Rattle.laying.proofs.Pooling.{record-before, record-after, plain-record, ringless-up, open-up, first-values, second-values}
+use Rattle.pooling.proofs.Pooling.{record-before, record-after, plain-record, ringless-up, open-up, first-values, second-values}
 use Rattle.laid.specs.Two.{closedAfter, openAfter, raisedReason, OwnOf, OfTwo, TwoDrawings}
 use Rattle.laid.proofs.Reasons.{own-record, own-offcuts}
 use Rattle.laid.proofs.Forests.{each-own, first-alone, second-alone}

@@ -19,7 +19,7 @@ use Rattle.lone.specs.Order.{IsOffcut, Alone}
 use Rattle.lone.specs.Tree.{Trees, no-more, and, HoldsTrees, roots}
 use Rattle.lone.specs.Table.{offcutsFrom}
 use Rattle.laid.specs.Trees.{weighTree, weighEntry}
-use Rattle.laying.proofs.Raising.{sum-split, sum-none}
+use Rattle.pooling.proofs.Raising.{sum-split, sum-none}
 
 -- ---- sums
 

@@ -22,11 +22,11 @@ use Rattle.audit.specs.declared.Reply.the-variants.{Done, Refused}
 use Rattle.audit.specs.Handed.{testedOf, Usable}
 use Rattle.audit.specs.Left.{Left, left}
 use Rattle.audit.proofs.Handing.{says-tested, handed-usable, usable-handed}
-use Rattle.laying.specs.Pooled.{usedIn}
-use Rattle.laying.specs.Words.{layAll, pooledWords}
+use Rattle.pooling.specs.Pooled.{usedIn}
+use Rattle.pooling.specs.Words.{layAll, pooledWords}
 use Rattle.laying.specs.Lay.{settingsByte, settingsDiffer, anyStepped, crowd, layRoom, layTested, laySecond, layBy, layOf}
-use Rattle.laying.proofs.Pooling.{BothFit}
-use Rattle.laying.proofs.Laying.{all-more, all-same, pooled-live, pooled-behind}
+use Rattle.pooling.proofs.Pooling.{BothFit}
+use Rattle.pooling.proofs.Laying.{all-more, all-same, pooled-live, pooled-behind}
 
 apart : {A : Type 0} → true ≡ false → A
 apart e = absurd (let z : _≡_ {A = ℕ} 0 1 = cc in omega arith)

@@ -17,7 +17,7 @@ use Rattle.audit.specs.declared.Reply.the-variants.{Done, Refused}
 use Rattle.audit.specs.Tests.{anyBelow}
 use Rattle.audit.specs.Handed.{testedOf}
 use Rattle.audit.specs.Left.{Left, left}
-use Rattle.laying.specs.Words.{pooledWords}
+use Rattle.pooling.specs.Words.{pooledWords}
 
 -- ---- "16 'settings differ': the two settings bytes are unequal"
 

@@ -15,13 +15,13 @@ use Rattle.store.specs.Field.{NONE}
 use Rattle.store.specs.Named.{recordsOf, ownerOf, pointsOf}
 use Rattle.audit.specs.Tests.{anyBelow, noSuch, noSuchOf}
 use Rattle.audit.proofs.Saying.{none-of, owned}
-use Rattle.rows.specs.Owners.{endsIn, circles}
+use Rattle.owners.specs.Owners.{endsIn, circles}
 use Rattle.rows.specs.Circling.{Circling}
 use Rattle.rows.specs.Rows.{unnamed, noSuchNumber}
 use Rattle.rows.specs.Found.{Filled}
-use Rattle.rows.specs.Tables.{Long}
-use Rattle.rows.proofs.Following.{never, one-more, none-yet, long-end, long-hop, long-back, has-owner}
-use Rattle.rows.proofs.Homes.{or-left, or-right}
+use Rattle.owners.specs.Tables.{Long}
+use Rattle.owners.proofs.Following.{never, one-more, none-yet, long-end, long-hop, long-back, has-owner}
+use Rattle.audit.proofs.Trying.{or-left, or-right}
 
 -- a chain that ends has a length
 pub record Ends (w : List ℕ) (r : ℕ) : Type 0 where

@@ -15,19 +15,12 @@ use Rattle.audit.specs.Tests.{isIn, anyBelow}
 use Rattle.audit.proofs.Saying.{none-of, all-none}
 use Rattle.audit.proofs.Testing.{more, hit, whole}
 use Rattle.joins.specs.Resolve.{homeOf}
-use Rattle.rows.specs.Owners.{circles}
-use Rattle.rows.specs.Rings.{anyIn, onRing, alone, elsewhere, estranged}
+use Rattle.owners.specs.Owners.{circles}
+use Rattle.visits.specs.Rings.{anyIn, onRing, alone, elsewhere, estranged}
 use Rattle.rows.specs.Rows.{muddled, onOpen, unnamed}
 use Rattle.rows.specs.Found.{Named}
-use Rattle.rows.proofs.Marking.{in-else}
-
-pub or-left : (a b : Bool) → (a || b) ≡ false → a ≡ false
-or-left true b h = h
-or-left false b h = refl
-
-pub or-right : (a b : Bool) → (a || b) ≡ false → b ≡ false
-or-right true b h = elim b [ true ↦ h | false ↦ refl ]
-or-right false b h = h
+use Rattle.audit.proofs.Trying.{or-left, or-right}
+use Rattle.visits.proofs.Marking.{in-else}
 
 -- a test that holds of some number below n
 pub some-below : (n : ℕ) (q : ℕ → Bool) → anyBelow n q ≡ true → (k : ℕ) × (k < n) × (q k ≡ true)

@@ -12,12 +12,12 @@ use Rattle.audit.specs.Tests.{anyBelow, offTable, noSuch, noSuchOf, loose}
 use Rattle.audit.specs.declared.Verdict.{Verdict}
 use Rattle.audit.specs.declared.Verdict.the-variants.{Passed, Refused}
 use Rattle.audit.proofs.Saying.{none-of, all-none}
-use Rattle.rows.specs.Owners.{chained, circles}
-use Rattle.rows.specs.Rings.{alone, estranged}
+use Rattle.owners.specs.Owners.{chained, circles}
+use Rattle.visits.specs.Rings.{alone, estranged}
 use Rattle.rows.specs.Rows.{offTheTable, unnamed, noSuchNumber, looseLink, muddled, openEdge, rowsOf}
 use Rattle.rows.specs.Found.{firstRows, lastRows, faultyPoint, noSuchBeside, Filled, Named}
-use Rattle.rows.proofs.Chains.{none-chained}
-use Rattle.rows.proofs.Homes.{or-left, or-right}
+use Rattle.visits.proofs.Chains.{none-chained}
+use Rattle.audit.proofs.Trying.{or-left, or-right}
 
 -- a loop that finds none
 pub none-found : (n : ℕ) (q : ℕ → Bool) (r : Bool) → r ≡ anyBelow n q → r ≡ false → anyBelow n q ≡ false

@@ -31,11 +31,12 @@ use Rattle.joins.specs.Resolved.{Ready}
 use Rattle.audit.specs.declared.Verdict.{Verdict}
 use Rattle.audit.specs.declared.Verdict.the-variants.{Passed, Refused}
 use Rattle.joins.specs.Resolve.{findIn, homeOf}
-use Rattle.rows.specs.Owners.{endsIn, circles}
-use Rattle.rows.specs.Rings.{alone, estranged}
+use Rattle.owners.specs.Owners.{endsIn, circles}
+use Rattle.visits.specs.Rings.{alone, estranged}
 use Rattle.rows.specs.Rows.{offTheTable, unnamed, noSuchNumber, looseLink, muddled, openEdge, rowsOf}
 use Rattle.rows.specs.Found.{Filled, Clear}
-use Rattle.rows.proofs.Homes.{or-left, or-right, ring-home, has-home}
+use Rattle.audit.proofs.Trying.{or-left, or-right}
+use Rattle.rows.proofs.Homes.{ring-home, has-home}
 
 -- a row that refuses was passed by a job that passes
 past : (b : Bool) (x : Refusal) (r : Verdict) → cond b (Refused x) r ≡ Passed → (b ≡ false) × (r ≡ Passed)

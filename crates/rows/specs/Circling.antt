@@ -4,7 +4,7 @@ use mathlib.Core.Path.{_≡_}
 use mathlib.Core.Bool.{true, false}
 use mathlib.Core.List.{List}
 use Rattle.store.specs.Named.{recordsOf, ownerOf}
-use Rattle.rows.specs.Owners.{circles, endsIn}
+use Rattle.owners.specs.Owners.{circles, endsIn}
 
 -- "an owner chain circles", of a job that has passed rows 1 to 5: exactly when no number of owners ends it (`circling`, proofs/Circling)
 pub record Circling (w : List ℕ) : Type 0 where

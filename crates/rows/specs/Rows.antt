@@ -9,8 +9,8 @@ use Rattle.store.specs.Words.{view}
 use Rattle.store.specs.Named.{pointsOf, recordsOf}
 use Rattle.store.specs.Sound.{isOpen}
 use Rattle.audit.specs.Tests.{anyBelow, offTable, noSuch, noSuchOf, loose}
-use Rattle.rows.specs.Owners.{circles}
-use Rattle.rows.specs.Rings.{onRing, alone, estranged}
+use Rattle.owners.specs.Owners.{circles}
+use Rattle.visits.specs.Rings.{onRing, alone, estranged}
 use Rattle.audit.specs.declared.Verdict.{Verdict}
 use Rattle.audit.specs.declared.Verdict.the-variants.{Passed, Refused}
 

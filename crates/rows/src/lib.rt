@@ -1,19 +1,16 @@
 // Rows 4 to 8 of document 01's table, each over the whole job as it was read.
-mod owners;
 mod points;
-mod resolving;
-mod tables;
-mod visits;
 
-use crate::tables::BLANK;
 use audit::PointTest;
 use audit::RecordTest;
 use audit::Verdict;
 use job::Job;
 use job::refusal::Refusal;
+use owners::tables::BLANK;
 use store::Col;
 use store::get;
 use store::read;
+use visits::resolving;
 ghost use mathlib.Core.Path.{_≡_};
 ghost use mathlib.Core.Bool.{false};
 ghost use Prim.Native.Nat.{_*_, _≤_};
@@ -27,10 +24,10 @@ ghost use Rattle.audit.specs.Tests.{anyBelow};
 ghost use Rattle.audit.specs.Marks.{fails, Counted};
 ghost use Rattle.audit.specs.declared.Verdict.the-variants.{Passed};
 ghost use Rattle.rows.specs.Rows.{unnamed, noSuchNumber, onOpen, muddled, openEdge, rowsOf};
-ghost use Rattle.rows.specs.Owners.{chained};
+ghost use Rattle.owners.specs.Owners.{chained};
 ghost use Rattle.rows.specs.Found.{firstRows, lastRows, faultyPoint, noSuchBeside, Filled, Named};
 ghost use Rattle.joins.specs.Resolve.{homeOf};
-ghost use Rattle.rows.specs.Tables.{UNKNOWN, Homes};
+ghost use Rattle.owners.specs.Tables.{UNKNOWN, Homes};
 
 // Whether a point fails the test.
 fn any_point(w: &[u32], t: PointTest) -> bool

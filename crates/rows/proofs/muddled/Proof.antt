@@ -1,7 +1,7 @@
 -- `rows::muddled` meets its contract: chains, then points.
 use borrow.Author.Needs.{needs}
 use Rattle.rows.proofs.Judging.{circle-found, none-found, stray-found}
-use Rattle.rows.proofs.Reaching.{homes-blank}
+use Rattle.visits.proofs.Reaching.{homes-blank}
 use Rattle.rows.proofs.muddled.Statement.{statement}
 use Rattle.rows.proofs.muddled.Tie as tie
 

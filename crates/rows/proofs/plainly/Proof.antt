@@ -2,7 +2,7 @@
 use mathlib.Core.Path.{refl}
 use borrow.Author.Needs.{needs}
 use Rattle.rows.proofs.Judging.{plain-found}
-use Rattle.rows.proofs.Reaching.{homes-blank}
+use Rattle.visits.proofs.Reaching.{homes-blank}
 use Rattle.rows.proofs.plainly.Statement.{statement}
 use Rattle.rows.proofs.plainly.Tie as tie
 
