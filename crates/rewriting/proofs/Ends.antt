@@ -30,7 +30,7 @@ use Rattle.encoding.specs.Sheet.{allBytes}
 use Rattle.encoding.specs.Encode.{encode}
 use Rattle.rewriting.specs.declared.Rewritten.{Rewritten}
 use Rattle.rewriting.specs.declared.Rewritten.the-variants.{Bytes, Refused}
-use Rattle.rewriting.specs.Numbers.{NumberedTo, numberedTo, numberTo}
+use Rattle.numbering.specs.Numbers.{NumberedTo, numberedTo, numberTo}
 use Rattle.rewriting.specs.Fields.{jobFields, numbersOf, jobBytes}
 use Rattle.rewriting.specs.Rewrite.{Rewrote, rewrote, notRewritten, writtenIn, rewriteFrom, rewriteOf}
 use Rattle.rewriting.specs.Stages.{Lists, jobWritten, rewrittenAt, pouredAnswer, besides, writingFrom, writingOf, settledTray}

@@ -19,7 +19,7 @@ use Rattle.listing.specs.Pour.{poured, pour}
 use Rattle.listing.proofs.Pouring.{pour-none, pour-more, pour-length}
 use Rattle.encoding.specs.Sheet.{bytesOf, allBytes}
 use Rattle.rewriting.specs.Fields.{cornerField, cornerFields, startNumber, drawnField, newNumber, levelField, pairField, jobFields}
-use Rattle.rewriting.proofs.Rounds.{ahead-back, ahead-on, ahead-none}
+use Rattle.numbering.proofs.Rounds.{ahead-back, ahead-on, ahead-none}
 
 pub bytes-append : (a b : List Field) → allBytes (a ++ b) ≡ allBytes a ++ allBytes b
 bytes-append [] b = refl

@@ -17,9 +17,9 @@ use Rattle.store.specs.Sound.{ringAt}
 use Rattle.joins.specs.Resolved.{Ready}
 use Rattle.joins.proofs.Homes.{table}
 use Rattle.drawing.proofs.Places.{occ-at}
-use Rattle.rewriting.specs.Numbers.{numberOn, numberTo}
+use Rattle.numbering.specs.Numbers.{numberOn, numberTo}
 use Rattle.rewriting.specs.Fields.{numbersOf}
-use Rattle.rewriting.proofs.Rounds.{next-is, length-on}
+use Rattle.numbering.proofs.Rounds.{next-is, length-on}
 
 -- ---- the points of one list
 

@@ -13,7 +13,7 @@ use Rattle.store.specs.Words.{view}
 use Rattle.store.specs.Named.{settingsOf, recordsOf, nextOf, prevOf, flagsOf, ownerOf, firstOf}
 use Rattle.store.specs.Sound.{ringAt}
 use Rattle.encoding.specs.Sheet.{allBytes}
-use Rattle.rewriting.specs.Numbers.{numberTo}
+use Rattle.numbering.specs.Numbers.{numberTo}
 
 module _ (w t : List ℕ) where
   -- point p, on the ring of record i

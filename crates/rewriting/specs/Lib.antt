@@ -1,6 +1,5 @@
 -- Definitions of rewriting a job.
 pub mod Rewrite
-pub mod Numbers
 pub mod Fields
 pub mod Stages
 pub mod Answers

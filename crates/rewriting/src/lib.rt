@@ -1,10 +1,8 @@
 // One way to write a job: an accepted job's bytes with its points numbered ring by ring, each ring from its first point in walk order.
-mod fields;
-mod numbering;
 mod writing;
 
-use crate::fields::put_settings;
-use crate::numbering::number_rings;
+use fields::put_settings;
+use numbering::number_rings;
 use crate::writing::put_joins;
 use crate::writing::put_points;
 use crate::writing::put_records;

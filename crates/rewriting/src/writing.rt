@@ -1,9 +1,9 @@
 // The fields of a job that was read, one kind after the other, points under their new numbers.
-use crate::fields::put_join;
-use crate::fields::put_point;
-use crate::fields::put_record;
-use crate::fields::put_segment;
-use crate::numbering::number_of;
+use fields::put_join;
+use fields::put_point;
+use fields::put_record;
+use fields::put_segment;
+use numbering::number_of;
 use job::Job;
 use joins::point_at;
 use store::Col;

@@ -19,9 +19,9 @@ use Rattle.turns.specs.Decide.{validWithout}
 use Rattle.turns.proofs.Ready.{decided}
 use Rattle.steps.specs.declared.coming.Coming.{Coming}
 use Rattle.steps.specs.declared.coming.Coming.the-variants.{Nothing, Step, Drop}
-use Rattle.steps.specs.Applies.{Reach}
+use Rattle.applying.specs.Applies.{Reach}
 use Rattle.steps.specs.Expects.{Dropping, Expects}
-use Rattle.steps.proofs.Applying.{reach}
+use Rattle.applying.proofs.Applying.{reach}
 use Rattle.steps.proofs.Steps.{roomy, went, not-live, steps}
 
 -- ---- a drop

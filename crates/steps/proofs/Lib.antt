@@ -1,5 +1,4 @@
 -- Laws of the code of a step.
-pub mod Applying
 pub mod Steps
 pub mod Expecting
 pub mod Gliding

@@ -33,8 +33,8 @@ use Rattle.turns.proofs.Ready.{laws, in-codes, going}
 use Rattle.boxes.specs.AtHand.{changesAt}
 use Rattle.steps.specs.declared.Answer.the-variants.{Ok, Full}
 use Rattle.steps.specs.Foretold.{Foretold}
-use Rattle.steps.specs.Applies.{NewIn, Applies}
-use Rattle.steps.proofs.Applying.{reach}
+use Rattle.applying.specs.Applies.{NewIn, Applies}
+use Rattle.applying.proofs.Applying.{reach}
 
 -- ---- the places that an act takes
 module _ (t : code.Act) (v : Point) (put off : Bool) (d : due.Due) (e : t ≡ Cut v put off d) where

@@ -2,6 +2,5 @@
 pub mod Code
 pub mod Expects
 pub mod Glide
-pub mod Applies
 pub mod Live
 pub mod Foretold

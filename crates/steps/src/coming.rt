@@ -1,7 +1,7 @@
 // The step that comes next, as a walk leaves it, and that step: a point that the walk found to be dropped is not tested again.
 use crate::Answer;
-use crate::apply::discard_ring;
-use crate::apply::drop_point;
+use applying::discard_ring;
+use applying::drop_point;
 use crate::step::step_ring;
 use turns::Discard;
 use turns::decide::valid_without;

@@ -13,7 +13,6 @@ pub enum RingsEnd {
     Full,
 }
 
-mod apply;
 mod coming;
 pub mod finish;
 mod glide;

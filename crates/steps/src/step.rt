@@ -1,6 +1,6 @@
 // One step on a record: decided, tested for places, applied.
 use crate::Answer;
-use crate::apply::apply;
+use applying::apply;
 use changes::may_change;
 use job::Job;
 use store::Col;

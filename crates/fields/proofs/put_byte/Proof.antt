@@ -1,0 +1,14 @@
+-- `rewriting::fields::put_byte` meets its contract.
+use borrow.Author.Needs.{needs}
+use Rattle.fields.proofs.Pours.{byte-poured}
+use Rattle.fields.proofs.put_byte.Statement.{statement}
+use Rattle.fields.proofs.put_byte.Tie as tie
+
+pub put-byte-spec : {M : Type 1} → statement M
+put-byte-spec =
+    tie.close
+    (tie.spec
+    (λ c κs. search needs)
+    (λ c κs. search needs)
+    (λ c. search needs)
+    (λ c. search (needs, byte-poured)))

@@ -1,0 +1,19 @@
+-- `rewriting::fields::put_point` meets its contract.
+use borrow.Author.Needs.{needs}
+use Rattle.fields.proofs.Pours.{point-poured}
+use Rattle.fields.proofs.put_point.Statement.{statement}
+use Rattle.fields.proofs.put_point.Tie as tie
+
+pub put-point-spec : {M : Type 1} → statement M
+put-point-spec =
+    tie.close
+    (tie.spec
+    (λ c κs. search needs)
+    (λ c κs. search needs)
+    (λ c κs. search needs)
+    (λ c κs. search needs)
+    (λ c κs. search needs)
+    (λ c κs. search needs)
+    (λ c κs. search needs)
+    (λ c. search needs)
+    (λ c. search (needs, point-poured)))

@@ -1,0 +1,2 @@
+-- The new number of each point.
+pub mod Numbers
