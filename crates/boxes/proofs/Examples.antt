@@ -10,7 +10,7 @@ use Rattle.geometry.specs.declared.Point.{Point}
 use Rattle.geometry.specs.declared.Rect.{Rect}
 use Rattle.geometry.specs.Box.{widen, boxOf}
 use Rattle.geometry.specs.Plane.{samePoint, isCollinear, dotProductThreePoints, areaTriangle, areaOutpt, isVerySmallTriangle, ptsReallyClose, removable, strictlyWithin, segmentsIntersect}
-use Rattle.geometry.specs.Crossing.{fractionOf, crossing, coordinateAt, getSegmentIntersectPt}
+use Rattle.crossing.specs.Crossing.{fractionOf, crossing, coordinateAt, getSegmentIntersectPt}
 use Rattle.lone.specs.Lone.{removalTurn, doSplitOp, splitTurn, decide, actOf, stepRing}
 use Rattle.lone.specs.Plane.{plane}
 use Rattle.boxes.specs.Acts.{spike, onSide, mayChange, keptBox}

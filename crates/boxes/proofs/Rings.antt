@@ -12,7 +12,7 @@ use Rattle.geometry.specs.declared.Rect.{Rect}
 use Rattle.geometry.specs.Box.{boxOf}
 use Rattle.geometry.specs.Table.{InTable}
 use Rattle.geometry.specs.Plane.{removable}
-use Rattle.geometry.proofs.Crossings.{crossing-in-box, crossing-in-table}
+use Rattle.crossing.proofs.Crossings.{crossing-in-box, crossing-in-table}
 use Rattle.lone.specs.Act.{Act, discard, dropPoint, moveOn}
 use Rattle.lone.specs.Lone.{isValidClosedPath, removalTurn, decide, actOf, stepRing, offcutRing}
 use Rattle.lone.specs.Plane.{plane}

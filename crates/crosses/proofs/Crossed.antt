@@ -18,7 +18,7 @@ use Rattle.geometry.specs.declared.Point.{Point}
 use Rattle.geometry.specs.Plane.{divisor, alongFirst, alongSecond, strictlyWithin, segmentsIntersect}
 use Rattle.geometry.specs.Table.{InTable}
 use Rattle.geometry.proofs.Coordinates.{coordinate, product-of}
-use Rattle.geometry.proofs.Differences.{num-divisor, num-first, num-second}
+use Rattle.crossing.proofs.Differences.{num-divisor, num-first, num-second}
 
 -- ---- the answer of `product`
 pub wide-sub : {a b : ℤ} → Within (2 ^ 20) a → Within (2 ^ 20) b → Held (i64 (i32 a) -ℤ i64 (i32 b)) (a -ℤ b) (2 ^ 21)

@@ -1,7 +1,4 @@
--- Points, the tests on them, and where two edges cross.
+-- Points, the tests on them, and boxes.
 pub mod Plane
 pub mod Box
 pub mod Table
-pub mod Crossing
-pub mod Within
-pub mod Floats

@@ -2,8 +2,8 @@
 // how many there are and how many differ. `oracle vectors geometry 1 150` made them. A case is a line: the function's name, its numbers, ` = ` and
 // what the Rust answered (tests/oracle/README.md has the format).
 
-use geometry::Crossing;
-use geometry::Edges;
+use crossing::Crossing;
+use crossing::Edges;
 use geometry::Point;
 use job::Job;
 use libc::STDIN_FILENO;
@@ -15,7 +15,7 @@ use test_text::words::end_of;
 ghost use Prim.Native.Nat.{_^_};
 ghost use Rattle.exact.specs.Num.{Within};
 ghost use Rattle.geometry.specs.Table.{InTable};
-ghost use Rattle.geometry.specs.Within.{Paired, MeetAt};
+ghost use Rattle.crossing.specs.Within.{Paired, MeetAt};
 
 // The place after the word at a place and the one byte that ends it.
 fn past_word(s: &[u8], at: usize) -> usize {
@@ -181,7 +181,7 @@ fn inside_agrees(s: &[u8], at: usize, e: Edges, first: f64, second: f64) -> bool
 {
     let p = past_point(s, at);
     let q = past_word(s, past_word(s, p));
-    whole(geometry::point_inside(e, first), point(s, at))
+    whole(crossing::point_inside(e, first), point(s, at))
         & (fraction(s, p) == first)
         & (fraction(s, q) == second)
 }
@@ -192,7 +192,7 @@ fn crossing_agrees(s: &[u8], at: usize, e: Edges) -> bool
 {
     let word = byte(s, at);
     let p = past_word(s, at);
-    let f = geometry::get_segment_intersect_pt(e);
+    let f = crossing::get_segment_intersect_pt(e);
     match f {
         Crossing::Parallel => {
             return word == b'p';
@@ -214,7 +214,7 @@ fn of_four(s: &[u8], name: u8, at: usize, e: Edges) -> bool
     requires { ⌜ Paired e ⌝ }
 {
     if name == b's' {
-        return bit(geometry::segments_intersect(e)) == number(s, at);
+        return bit(crossing::segments_intersect(e)) == number(s, at);
     }
     crossing_agrees(s, at, e)
 }
@@ -226,7 +226,7 @@ fn edges(s: &[u8], at: usize) -> Edges
     let b = past_point(s, at);
     let c = past_point(s, b);
     let d = past_point(s, c);
-    geometry::edges_of(point(s, at), point(s, b), point(s, c), point(s, d))
+    crossing::edges_of(point(s, at), point(s, b), point(s, c), point(s, d))
 }
 
 fn four_agree(s: &[u8], name: u8, at: usize) -> bool {

@@ -7,7 +7,7 @@ use lib.ListN.{replicate}
 use Rattle.rates.specs.declared.Rate.the-variants.{NoRate}
 use Rattle.geometry.specs.Plane.{samePoint, isCollinear, dotProductThreePoints, areaTriangle, areaOutpt, ptsReallyClose, isVerySmallTriangle, removable, strictlyWithin, segmentsIntersect}
 use Rattle.geometry.specs.Box.{widen}
-use Rattle.geometry.specs.Crossing.{fractionOf, crossing, coordinateAt, getSegmentIntersectPt}
+use Rattle.crossing.specs.Crossing.{fractionOf, crossing, coordinateAt, getSegmentIntersectPt}
 use Rattle.job.specs.Field.{bodyOf, fieldOf}
 use Rattle.rings.specs.Walk as walk
 use Rattle.lone.specs.Lone.{removalTurn, doSplitOp, splitTurn, decide, actOf}

@@ -4,7 +4,7 @@ use mathlib.Core.Bool.{true, false}
 use mathlib.Core.List.{map}
 use lib.Ieee.{toSigned, add, ofInt, mul}
 use Rattle.geometry.specs.Plane.{samePoint, isCollinear, dotProductThreePoints, areaTriangle, areaOutpt, ptsReallyClose, isVerySmallTriangle, removable, strictlyWithin, segmentsIntersect}
-use Rattle.geometry.specs.Crossing.{fractionOf, crossing, coordinateAt, getSegmentIntersectPt}
+use Rattle.crossing.specs.Crossing.{fractionOf, crossing, coordinateAt, getSegmentIntersectPt}
 use Rattle.lone.specs.Lone.{removalTurn, doSplitOp, splitTurn, decide, actOf, stepRing, offcutRing, takesRing}
 use Rattle.lone.specs.Path.{buildPath64FromOutpt, outline}
 use Rattle.lone.specs.Forest.{answer, stepForest}

@@ -2,7 +2,7 @@
 use mathlib.Core.Bool.{Bool}
 use Rattle.geometry.specs.declared.Point.{Point}
 use Rattle.geometry.specs.Plane.{samePoint, areaTriangle, areaOutpt, isVerySmallTriangle, removable, segmentsIntersect}
-use Rattle.geometry.specs.Crossing.{crossingPoint}
+use Rattle.crossing.specs.Crossing.{crossingPoint}
 use Rattle.rings.specs.Progress.{Ring}
 use Rattle.lone.specs.Lone.{Geo}
 use Rattle.lone.specs.Forest.{Machine}

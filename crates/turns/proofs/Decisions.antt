@@ -18,13 +18,13 @@ use Rattle.rings.specs.Progress as rings
 use Rattle.rings.specs.Walk.{walk}
 use Rattle.geometry.specs.declared.Point.{Point}
 use Rattle.geometry.specs.Plane.{samePoint, isVerySmallTriangle, removable, segmentsIntersect, areaTriangle, areaOutpt}
-use Rattle.geometry.specs.declared.Edges.{Edges}
-use Rattle.geometry.specs.declared.Crossing.{Crossing}
-use Rattle.geometry.specs.declared.Crossing.the-variants.{Parallel, Start, End, Inside}
-use Rattle.geometry.specs.Crossing.{crossing, pointAt}
-use Rattle.geometry.specs.Within.{edgesOf, Paired, Crossed}
-use Rattle.geometry.proofs.Differences.{paired-of}
-use Rattle.geometry.proofs.Crossings.{crossed-as}
+use Rattle.crossing.specs.declared.Edges.{Edges}
+use Rattle.crossing.specs.declared.Crossing.{Crossing}
+use Rattle.crossing.specs.declared.Crossing.the-variants.{Parallel, Start, End, Inside}
+use Rattle.crossing.specs.Crossing.{crossing, pointAt}
+use Rattle.crossing.specs.Within.{edgesOf, Paired, Crossed}
+use Rattle.crossing.proofs.Differences.{paired-of}
+use Rattle.crossing.proofs.Crossings.{crossed-as}
 use Rattle.lone.specs.Act.{Act, stay, discard, dropPoint, moveOn, toFirst, double, cut}
 use Rattle.lone.specs.Lone.{isValidClosedPath}
 use Rattle.lone.specs.Plane.{plane}

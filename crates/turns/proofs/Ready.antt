@@ -7,7 +7,7 @@ use native.Mathlib.Omega.{arith}
 use lib.IntN.{ℤ}
 use Rattle.geometry.specs.declared.Point.{Point}
 use Rattle.geometry.specs.Table.{InTable}
-use Rattle.geometry.proofs.Crossings.{crossing-in-table}
+use Rattle.crossing.proofs.Crossings.{crossing-in-table}
 use Rattle.lone.specs.Act.{Act}
 use Rattle.lone.specs.Plane.{plane}
 use Rattle.lone.proofs.Plane.{plane-laws}

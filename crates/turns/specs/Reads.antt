@@ -8,8 +8,8 @@ use Rattle.job.specs.Limits as limit
 use Rattle.rings.specs.Progress.{isDone}
 use Rattle.geometry.specs.declared.Point.{Point}
 use Rattle.geometry.specs.Table.{InTable}
-use Rattle.geometry.specs.declared.Edges.{Edges}
-use Rattle.geometry.specs.Within.{Paired}
+use Rattle.crossing.specs.declared.Edges.{Edges}
+use Rattle.crossing.specs.Within.{Paired}
 use Rattle.store.specs.Field.{rc, FIRST, PRESENT, BLOCK}
 use Rattle.store.specs.Words.{view}
 use Rattle.store.specs.Sound.{Closed, dueAt}

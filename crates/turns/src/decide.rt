@@ -6,8 +6,8 @@ use crate::ring::due_at;
 use crate::ring::next_of;
 use crate::ring::point_at;
 use crate::ring::prev_of;
-use geometry::Crossing;
-use geometry::Edges;
+use crossing::Crossing;
+use crossing::Edges;
 use geometry::Point;
 use store::Col;
 use store::get;
@@ -21,7 +21,7 @@ ghost use Rattle.job.specs.Limits as limit;
 ghost use Rattle.rings.specs.Progress.{split, done, whileRemoving};
 ghost use Rattle.geometry.specs.Plane.{samePoint, areaTriangle};
 ghost use Rattle.geometry.specs.Table.{InTable};
-ghost use Rattle.geometry.specs.Within.{Paired, Crossed};
+ghost use Rattle.crossing.specs.Within.{Paired, Crossed};
 ghost use Rattle.lone.specs.Act.{dropPoint, discard};
 ghost use Rattle.store.specs.Field.{rc, FIRST, PRESENT, BLOCK};
 ghost use Rattle.store.specs.Words.{cell, view};
@@ -214,7 +214,7 @@ pub fn edges_at(w: &[u32], p: usize, x: usize, y: usize, z: usize) -> Edges
     let pt = point_at(w, x);
     let next = point_at(w, y);
     let after = point_at(w, z);
-    geometry::edges_of(prev, pt, next, after)
+    crossing::edges_of(prev, pt, next, after)
 }
 
 // Whether the crossing is put into the ring: it is neither the point before nor the second after.
@@ -287,7 +287,7 @@ fn crossing_of(e: Edges) -> Point
     requires { ⌜ Paired e ⌝ }
     ensures { λ r. ⌜ Crossed (e .a) (e .b) (e .c) (e .d) r ⌝ }
 {
-    let f = geometry::get_segment_intersect_pt(e);
+    let f = crossing::get_segment_intersect_pt(e);
     match f {
         Crossing::Parallel => {
             return e.a;
@@ -299,7 +299,7 @@ fn crossing_of(e: Edges) -> Point
             return e.b;
         }
         Crossing::Inside { first, second: _ } => {
-            return geometry::point_inside(e, first);
+            return crossing::point_inside(e, first);
         }
     }
 }
@@ -336,7 +336,7 @@ fn crossed_turn(w: &[u32], i: usize, p: usize, x: usize, z: usize, e: Edges) -> 
 {
     let u = next_of(w, z);
     let v = point_at(w, u);
-    let twice = geometry::segments_intersect(geometry::edges_of(e.a, e.b, e.d, v));
+    let twice = crossing::segments_intersect(crossing::edges_of(e.a, e.b, e.d, v));
     if twice {
         let d = due_on(w, i, x);
         let after = e.d;
@@ -354,7 +354,7 @@ fn split_turn(w: &[u32], i: usize) -> Act
     let z = next_of(w, y);
     let p = prev_of(w, x);
     let e = edges_at(w, p, x, y, z);
-    let hit = geometry::segments_intersect(e);
+    let hit = crossing::segments_intersect(e);
     if hit {
         return crossed_turn(w, i, p, x, z, e);
     }

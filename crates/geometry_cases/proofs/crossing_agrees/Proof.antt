@@ -1,6 +1,6 @@
 -- `geometry_cases::crossing_agrees` is safe: where the answer is inside, the edges meet at its fraction.
 use borrow.Author.Needs.{needs}
-use Rattle.geometry.proofs.Crossings.{meet-of}
+use Rattle.crossing.proofs.Crossings.{meet-of}
 use Rattle.geometry_cases.proofs.crossing_agrees.Statement.{statement}
 use Rattle.geometry_cases.proofs.crossing_agrees.Tie as tie
 

@@ -1,6 +1,6 @@
 -- `geometry_cases::edges` meets its contract.
 use borrow.Author.Needs.{needs}
-use Rattle.geometry.proofs.Differences.{paired-of}
+use Rattle.crossing.proofs.Differences.{paired-of}
 use Rattle.geometry_cases.proofs.edges.Statement.{statement}
 use Rattle.geometry_cases.proofs.edges.Tie as tie
 

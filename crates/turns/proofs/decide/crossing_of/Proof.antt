@@ -1,6 +1,6 @@
 -- `crossing_of` meets its contract.
 use borrow.Author.Needs.{needs}
-use Rattle.geometry.proofs.Crossings.{meet-of}
+use Rattle.crossing.proofs.Crossings.{meet-of}
 use Rattle.turns.proofs.Decisions.{crossed-parallel, crossed-start, crossed-end, crossed-inside}
 use Rattle.turns.proofs.decide.crossing_of.Statement.{statement}
 use Rattle.turns.proofs.decide.crossing_of.Tie as tie

@@ -1,7 +1,0 @@
--- `geometry::divisor` meets its contract.
-use mathlib.Core.Path.{refl}
-use Rattle.geometry.proofs.divisor.Statement.{statement}
-use Rattle.geometry.proofs.divisor.Tie as tie
-
-pub divisor-spec : {M : Type 1} → statement M
-divisor-spec = tie.close (tie.spec (λ c. refl))
