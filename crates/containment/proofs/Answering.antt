@@ -14,7 +14,7 @@ use Rattle.paths.specs.declared.Written.the-variants.{Paths, Refused}
 use Rattle.paths.specs.Tray.{padded}
 use Rattle.paths.specs.Path.{closedPaths}
 use Rattle.store.specs.Words.{view}
-use Rattle.listing.specs.Pour.{poured, pour}
+use Rattle.text.specs.Pour.{poured, pour}
 use Rattle.listing.specs.Fields.{pathsIn}
 use Rattle.finishing.specs.InOneCall.{Finished, finished, refused, finishOf}
 use Rattle.containment.specs.Answers.{pairAnswers, pairCount}

@@ -14,11 +14,11 @@ use lib.IntN.{ℤ, pos}
 use Rattle.geometry.specs.declared.Point.{Point}
 use Rattle.geometry.specs.declared.Rect.{Rect}
 use Rattle.paths.specs.Tray.{padded}
-use Rattle.listing.specs.Pour.{poured, pour}
+use Rattle.text.specs.Pour.{poured, pour}
 use Rattle.listing.specs.Fields.{pointsIn, valueLength, nextField, pathIn, pathsIn, fieldAfter}
 use Rattle.listing.specs.Needs.{FieldIn, FieldsIn}
 use Rattle.listing.specs.Told.{Told, told, answerAt, tell}
-use Rattle.listing.proofs.Pouring.{pour-none, pour-more, pour-length}
+use Rattle.text.proofs.Pouring.{pour-none, pour-more, pour-length}
 use Rattle.listing.proofs.Telling.{told-all}
 use Rattle.containing.specs.Contains.{path2ContainsPath1}
 use Rattle.paths.specs.Tray.{POINT}

@@ -8,7 +8,7 @@ use Rattle.job.specs.Limits.{RECORDS}
 use Rattle.geometry.specs.declared.Point.{Point}
 use Rattle.paths.specs.declared.Written.{Written}
 use Rattle.paths.specs.declared.Written.the-variants.{Paths, Refused}
-use Rattle.listing.specs.Pour.{poured, pour}
+use Rattle.text.specs.Pour.{poured, pour}
 use Rattle.listing.specs.Fields.{pathIn, pathsIn, fieldAfter}
 use Rattle.listing.specs.Needs.{FieldsIn}
 use Rattle.containing.specs.Outside.{AllEnclosed}

@@ -7,8 +7,8 @@ use Rattle.numbers.specs.Raised.{lowered}
 use Rattle.job.specs.Limits.{COORDINATE}
 use Rattle.job.specs.declared.field.Field.the-variants.{Settings, Point, Record, Segment, Join}
 use Rattle.paths.specs.Tray.{lowBytes}
-use Rattle.listing.specs.Pour.{poured, pour}
-use Rattle.listing.proofs.Pouring.{pour-more}
+use Rattle.text.specs.Pour.{poured, pour}
+use Rattle.text.proofs.Pouring.{pour-more}
 use Rattle.encoding.specs.Sheet.{coordinateBytes, bytesOf}
 
 pub byte-poured : (v b at q : ℕ) (t u : List ℕ) → b ≡ v % 256 → poured q u ≡ pour (b ∷ []) at t → poured q u ≡ pour (v % 256 ∷ []) at t

@@ -1,6 +1,6 @@
 // One field of a job, written into a tray from a place on; a byte past the tray's end is lost. Each function answers where the next byte goes.
 use job::Job;
-use listing::put;
+use text::put;
 ghost use mathlib.Core.Path.{_≡_};
 ghost use mathlib.Core.List.{[], _∷_};
 ghost use Prim.Native.Nat.{_%_};
@@ -8,7 +8,7 @@ ghost use Rattle.numbers.specs.Raised.{lowered};
 ghost use Rattle.job.specs.Limits.{COORDINATE};
 ghost use Rattle.job.specs.declared.field.Field.the-variants.{Settings, Point, Record, Segment, Join};
 ghost use Rattle.paths.specs.Tray.{lowBytes};
-ghost use Rattle.listing.specs.Pour.{poured, pour};
+ghost use Rattle.text.specs.Pour.{poured, pour};
 ghost use Rattle.encoding.specs.Sheet.{coordinateBytes, bytesOf};
 
 // ---- numbers

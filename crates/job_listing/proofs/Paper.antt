@@ -37,7 +37,7 @@ use Rattle.paths.specs.Tray.{pointBytes, pathField, fieldsOf}
 use Rattle.paths.specs.Wrote.{buildPaths64}
 use Rattle.finishing.specs.Finish.{finishRings}
 use Rattle.finishing.specs.InOneCall.{finishOf}
-use Rattle.listing.specs.Text.{digits}
+use Rattle.text.specs.Text.{digits}
 use Rattle.listing.specs.Fields.{pointIn}
 use Rattle.listing.specs.Lines.{listingOf}
 use Rattle.job_listing.specs.Cutlist.{cutlistOf}

@@ -32,10 +32,11 @@ use Rattle.finishing.specs.InOneCall.{afterWriting, afterSteps, afterOpening, f
 use Rattle.finishing.proofs.Refusals.{OpenedTo, open-rows}
 use Rattle.listing.specs.declared.Listed.{Listed}
 use Rattle.listing.specs.declared.Listed.the-variants.{Bytes}
-use Rattle.listing.specs.Text.{SPACE, NEWLINE, digit, decimal, REFUSED}
+use Rattle.text.specs.Text.{SPACE, NEWLINE, digit, decimal}
+use Rattle.listing.specs.Words.{REFUSED}
 use Rattle.listing.specs.Lines.{refusedLine}
 use Rattle.listing.specs.Told.{told, tell}
-use Rattle.listing.proofs.Decimals.{decimal-small, decimal-more}
+use Rattle.text.proofs.Decimals.{decimal-small, decimal-more}
 use Rattle.job_listing.specs.Cutlist.{ListedJob, listedJob}
 use Rattle.job_reasons.specs.Words.{RECORD, COLON, JOINED-INTO, CLOSED-OUTLINE, OPEN-OUTLINE}
 use Rattle.job_reasons.specs.Lines.{whyText, lineOf, linesBelow, reasonsText}

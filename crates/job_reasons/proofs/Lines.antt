@@ -10,10 +10,10 @@ use Rattle.store.specs.Sound.{recs}
 use Rattle.telling.specs.declared.Reason.{Reason}
 use Rattle.telling.specs.Telling.{reasonAt}
 use Rattle.listing.specs.declared.Listed.the-variants.{Bytes, NoRoom}
-use Rattle.listing.specs.Pour.{poured, pour}
-use Rattle.listing.specs.Text.{NEWLINE, decimal}
+use Rattle.text.specs.Pour.{poured, pour}
+use Rattle.text.specs.Text.{NEWLINE, decimal}
 use Rattle.listing.specs.Told.{told, tell}
-use Rattle.listing.proofs.Pouring.{pour-none, pour-more, pour-length}
+use Rattle.text.proofs.Pouring.{pour-none, pour-more, pour-length}
 use Rattle.listing.proofs.Telling.{told-all, has-room, no-room}
 use Rattle.job_reasons.specs.Words.{RECORD, COLON, CLOSED-OUTLINE, OPEN-OUTLINE}
 use Rattle.job_reasons.specs.Lines.{outlineText, whyText, lineOf, linesBelow, reasonsText}

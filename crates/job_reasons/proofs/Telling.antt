@@ -20,7 +20,7 @@ use Rattle.telling.specs.declared.Told.the-variants.{Because, Refused}
 use Rattle.telling.specs.Telling.{reasonAt, reasonOf}
 use Rattle.finishing.specs.InOneCall.{Finished, finished, finishOf}
 use Rattle.listing.specs.declared.Listed.{Listed}
-use Rattle.listing.specs.Pour.{poured, pour}
+use Rattle.text.specs.Pour.{poured, pour}
 use Rattle.listing.specs.Lines.{refusedLine}
 use Rattle.listing.specs.Told as listing
 use Rattle.listing.specs.Told.{told, tell}

@@ -4,7 +4,7 @@ use mathlib.Core.Bool.{Bool, true, false}
 use mathlib.Core.List.{List, [], _∷_, _++_}
 use Rattle.store.specs.Words.{Store}
 use Rattle.store.specs.Sound.{recs}
-use Rattle.listing.specs.Text.{NEWLINE, decimal}
+use Rattle.text.specs.Text.{NEWLINE, decimal}
 use Rattle.telling.specs.declared.Reason.{Reason}
 use Rattle.telling.specs.declared.Reason.the-variants.{NoRing, Joined, SmallRing, RingFell, SmallArea, ShortPath, SmallPath, Written}
 use Rattle.telling.specs.Telling.{reasonAt}

@@ -8,7 +8,7 @@ use Rattle.store.specs.Sound.{recs}
 use Rattle.steps.specs.Live.{anyLive}
 use Rattle.audit.specs.declared.Verdict.the-variants.{Passed}
 use Rattle.audit.specs.Handed.{handedOf}
-use Rattle.listing.specs.Pour.{poured, pour}
+use Rattle.text.specs.Pour.{poured, pour}
 use Rattle.job_reasons.specs.Lines.{linesBelow}
 
 -- it passes the tests, and every closed ring is done

@@ -16,13 +16,14 @@ use Rattle.rates.specs.Charge.{chargeOf}
 use Rattle.geometry.specs.Plane.{areaOutpt}
 use Rattle.geometry.proofs.Circles.{area-within}
 use Rattle.paths.specs.Tray.{POINT}
-use Rattle.listing.specs.Pour.{poured, pour}
-use Rattle.listing.specs.Text.{SPACE, NEWLINE, decimal, CHARGE}
+use Rattle.text.specs.Pour.{poured, pour}
+use Rattle.text.specs.Text.{SPACE, NEWLINE, decimal}
+use Rattle.listing.specs.Words.{CHARGE}
 use Rattle.listing.specs.Fields.{pointsIn, valueLength, nextField, pathIn, pathsIn}
 use Rattle.listing.specs.Lines.{listingOf}
 use Rattle.listing.specs.Charge.{netArea, chargeText, chargedOf}
 use Rattle.listing.specs.Needs.{Sized, FieldIn, FieldsIn, Summable, Netting, pointCount}
-use Rattle.listing.proofs.Pouring.{pour-more}
+use Rattle.text.proofs.Pouring.{pour-more}
 use Rattle.listing.proofs.Runs.{less}
 use Rattle.listing.proofs.Heads.{field-sized}
 

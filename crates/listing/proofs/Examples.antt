@@ -6,7 +6,8 @@ use mathlib.Core.List.{List, [], _∷_, _++_}
 use lib.IntN.{pos, negsuc}
 use Rattle.rates.specs.Charge.{chargeOf}
 use Rattle.geometry.specs.Plane.{areaOutpt}
-use Rattle.listing.specs.Text.{digits, PIECE, HOLE, FLAT}
+use Rattle.text.specs.Text.{digits}
+use Rattle.listing.specs.Words.{PIECE, HOLE, FLAT}
 use Rattle.listing.specs.Fields.{pointIn, asWords}
 use Rattle.listing.specs.Lines.{wordOf, depthText, pointText, listingOf, refusedLine}
 use Rattle.listing.specs.Room.{TEXT}

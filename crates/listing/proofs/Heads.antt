@@ -15,12 +15,13 @@ use Rattle.geometry.specs.Plane.{areaOutpt}
 use Rattle.geometry.specs.Table.{AllInTable}
 use Rattle.geometry.proofs.Circles.{area-within}
 use Rattle.paths.specs.Tray.{POINT}
-use Rattle.listing.specs.Pour.{poured, pour}
-use Rattle.listing.specs.Text.{SPACE, decimal, signedText, LINE}
+use Rattle.text.specs.Pour.{poured, pour}
+use Rattle.text.specs.Text.{SPACE, decimal, signedText}
+use Rattle.listing.specs.Words.{LINE}
 use Rattle.listing.specs.Fields.{pointsIn, valueLength, pathIn}
 use Rattle.listing.specs.Needs.{Sized, FieldIn}
 use Rattle.listing.specs.Lines.{wordOf, pointsText, closedHead, headOf, lineOf}
-use Rattle.listing.proofs.Pouring.{pour-more}
+use Rattle.text.proofs.Pouring.{pour-more}
 
 length-points : (t : List ℕ) (n at : ℕ) → length (pointsIn t n at) ≡ n
 length-points t zero at = refl

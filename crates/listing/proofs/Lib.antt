@@ -1,7 +1,5 @@
--- Laws of text that is poured, of decimal numbers, of the tray's fields.
+-- Laws of the tray's fields.
 -- Senses: `holes-stay`, `words-stay`, `charge-stays`: words and charge under either setting.
-pub mod Pouring
-pub mod Decimals
 pub mod Signs
 pub mod Points
 pub mod Runs

@@ -22,12 +22,12 @@ use Rattle.numbers.specs.Raised.{raised, signed, coordinate}
 use Rattle.numbers.proofs.Widths.{below}
 use Rattle.numbers.proofs.Raises.{off-means, raised-means}
 use Rattle.geometry.specs.declared.Point.{Point}
-use Rattle.listing.specs.Pour.{poured, pour}
-use Rattle.listing.specs.Text.{decimal, signedText}
+use Rattle.text.specs.Pour.{poured, pour}
+use Rattle.text.specs.Text.{decimal, signedText}
 use Rattle.listing.specs.Fields.{pointIn}
 use Rattle.listing.specs.Needs.{Held}
 use Rattle.listing.specs.Lines.{placeText, depthText, pointText}
-use Rattle.listing.proofs.Pouring.{pour-more}
+use Rattle.text.proofs.Pouring.{pour-more}
 
 -- ---- a point is read
 

@@ -21,7 +21,8 @@ use Rattle.paths.proofs.Counts.{size-le}
 use Rattle.paths.proofs.Bound.{rings-few}
 use Rattle.rates.specs.declared.Charge.{Charge}
 use Rattle.rates.specs.Charge.{chargeOf}
-use Rattle.listing.specs.Text.{SPACE, COMMA, NEWLINE, digit, digits, decimal, signedText, CLOSED, OPEN, LINE, REFUSED, CHARGE}
+use Rattle.text.specs.Text.{SPACE, COMMA, NEWLINE, digit, digits, decimal, signedText}
+use Rattle.listing.specs.Words.{CLOSED, OPEN, LINE, REFUSED, CHARGE}
 use Rattle.listing.specs.Fields.{pathsIn}
 use Rattle.listing.specs.Lines.{wordOf, placeText, depthText, pointText, pointsText, headOf, lineOf, linesOf, firstLine, listingOf, refusedLine}
 use Rattle.listing.specs.Charge.{netArea, chargeText, chargedOf}

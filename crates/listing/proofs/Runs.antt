@@ -16,12 +16,12 @@ use Rattle.geometry.specs.Plane.{edgeArea, areaFrom, areaOutpt}
 use Rattle.geometry.specs.Table.{InTable, AllInTable}
 use Rattle.geometry.proofs.Coordinates.{edge-within}
 use Rattle.paths.specs.Tray.{POINT}
-use Rattle.listing.specs.Pour.{poured, pour}
+use Rattle.text.specs.Pour.{poured, pour}
 use Rattle.listing.specs.Fields.{pointIn, pointsIn}
 use Rattle.listing.specs.Needs.{Held, Run, Adding}
 use Rattle.listing.specs.Lines.{pointText, pointsText}
 use Rattle.listing.specs.Needs.{Showing}
-use Rattle.listing.proofs.Pouring.{pour-none, pour-more, pour-length}
+use Rattle.text.proofs.Pouring.{pour-none, pour-more, pour-length}
 
 -- one less than are left
 pub less : (k : ℕ) → 0 < k → k ≡ suc (k - 1)

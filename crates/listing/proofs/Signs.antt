@@ -14,10 +14,11 @@ use mir.Val.{Fits, SFits, toZ, ofZ}
 use mir.Facts.{toZ-ofZ}
 use Rattle.exact.specs.Num.{Within}
 use Rattle.exact.proofs.Size.{fits-size, size-sub}
-use Rattle.listing.specs.Pour.{poured, pour}
-use Rattle.listing.specs.Text.{SPACE, MINUS, decimal, signedText, PIECE, HOLE, FLAT}
+use Rattle.text.specs.Pour.{poured, pour}
+use Rattle.text.specs.Text.{SPACE, MINUS, decimal, signedText}
+use Rattle.listing.specs.Words.{PIECE, HOLE, FLAT}
 use Rattle.listing.specs.Lines.{wordOf}
-use Rattle.listing.proofs.Pouring.{pour-more}
+use Rattle.text.proofs.Pouring.{pour-more}
 
 pub back : (z : ℤ) → Within (2 ^ 62) z → toZ w64 (ofZ w64 z) ≡ z
 back z h = toZ-ofZ (fits-size w64 z (omega (arith, h .size)))

@@ -10,15 +10,16 @@ use lib.Seq.{sets, length-sets, drop-nil}
 use borrow.Author.Tests.{le-leb, lt-leb}
 use Rattle.listing.specs.declared.Listed.{Listed}
 use Rattle.listing.specs.declared.Listed.the-variants.{Bytes, NoRoom}
-use Rattle.listing.specs.Pour.{Poured, poured, pour}
-use Rattle.listing.specs.Text.{SPACE, NEWLINE, decimal, CLOSED, OPEN, REFUSED}
+use Rattle.text.specs.Pour.{Poured, poured, pour}
+use Rattle.text.specs.Text.{SPACE, NEWLINE, decimal}
+use Rattle.listing.specs.Words.{CLOSED, OPEN, REFUSED}
 use Rattle.listing.specs.Fields.{valueLength, nextField, pathIn, pathsIn, fieldAfter}
 use Rattle.listing.specs.Needs.{FieldIn, FieldsIn}
 use Rattle.listing.specs.Lines.{lineOf, linesOf, firstLine, listingOf, refusedLine}
 use Rattle.listing.specs.Needs.{Going}
 use Rattle.listing.specs.Told.{told, answerAt, tell}
 use Rattle.listing.specs.Needs.{Listable}
-use Rattle.listing.proofs.Pouring.{pour-none, pour-more, pour-length}
+use Rattle.text.proofs.Pouring.{pour-none, pour-more, pour-length}
 use Rattle.listing.proofs.Runs.{less}
 
 -- ---- lines

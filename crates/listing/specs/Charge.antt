@@ -7,7 +7,8 @@ use Rattle.rates.specs.declared.Charge.{Charge}
 use Rattle.rates.specs.Charge.{chargeOf}
 use Rattle.geometry.specs.declared.Point.{Point}
 use Rattle.geometry.specs.Plane.{areaOutpt}
-use Rattle.listing.specs.Text.{SPACE, NEWLINE, decimal, CHARGE}
+use Rattle.text.specs.Text.{SPACE, NEWLINE, decimal}
+use Rattle.listing.specs.Words.{CHARGE}
 use Rattle.listing.specs.Fields.{pathsIn}
 use Rattle.listing.specs.Lines.{listingOf}
 

@@ -1,6 +1,5 @@
 -- The listing of a tray: document 01, "The listing".
-pub mod Pour
-pub mod Text
+pub mod Words
 pub mod Fields
 pub mod Needs
 pub mod Lines

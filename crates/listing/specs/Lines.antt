@@ -7,7 +7,8 @@ use lib.ListN.{length}
 use Rattle.numbers.specs.Raised.{signed}
 use Rattle.geometry.specs.declared.Point.{Point}
 use Rattle.geometry.specs.Plane.{areaOutpt}
-use Rattle.listing.specs.Text.{SPACE, COMMA, NEWLINE, decimal, signedText, CLOSED, OPEN, PIECE, HOLE, FLAT, LINE, REFUSED}
+use Rattle.text.specs.Text.{SPACE, COMMA, NEWLINE, decimal, signedText}
+use Rattle.listing.specs.Words.{CLOSED, OPEN, PIECE, HOLE, FLAT, LINE, REFUSED}
 use Rattle.listing.specs.Fields.{pathsIn, fieldAfter}
 
 -- "Piece is positive, hole negative, flat zero"; document 02, Ask 2, of `reverse_solution`: "with that setting, a negative doubled area is a piece and a positive

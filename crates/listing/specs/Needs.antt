@@ -12,7 +12,7 @@ use Rattle.geometry.specs.Table.{InTable, AllInTable}
 use Rattle.paths.specs.Tray.{POINT}
 use Rattle.listing.specs.Fields.{nextField, pathIn, pointIn, pointsIn, pathsIn, fieldAfter}
 use mathlib.Core.Bool.{Bool}
-use Rattle.listing.specs.Pour.{poured, pour}
+use Rattle.text.specs.Pour.{poured, pour}
 use Rattle.listing.specs.Lines.{linesOf, pointsText}
 use Rattle.listing.specs.Charge.{netArea}
 use Rattle.listing.specs.declared.Listed.{Listed}

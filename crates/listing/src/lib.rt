@@ -5,6 +5,9 @@ use geometry::Point;
 use job::Job;
 use paths::POINT;
 use store::points::lower;
+use text::put;
+use text::put_decimal;
+use text::put_text;
 ghost use mathlib.Core.Path.{_≡_};
 ghost use mathlib.Core.Bool.{cond};
 ghost use mathlib.Core.List.{[], _∷_, _++_};
@@ -13,8 +16,9 @@ ghost use lib.IntN.{natAbs};
 ghost use lib.ListN.{length};
 ghost use Rattle.geometry.specs.Plane.{edgeArea, areaOutpt};
 ghost use Rattle.exact.specs.Num.{Within};
-ghost use Rattle.listing.specs.Pour.{poured, pour};
-ghost use Rattle.listing.specs.Text.{SPACE, decimal, signedText, PIECE, HOLE};
+ghost use Rattle.text.specs.Pour.{poured, pour};
+ghost use Rattle.text.specs.Text.{SPACE, decimal, signedText};
+ghost use Rattle.listing.specs.Words.{PIECE, HOLE};
 ghost use Rattle.listing.specs.Fields.{pointIn, pointsIn, valueLength, pathIn, pathsIn, fieldAfter};
 ghost use Rattle.listing.specs.Needs.{Held, Run, Sized, FieldIn, FieldsIn};
 ghost use Rattle.listing.specs.Lines.{wordOf, pointText, placeText, depthText, pointsText, closedHead, headOf, lineOf, linesOf, firstLine, listingOf, refusedLine};
@@ -29,46 +33,6 @@ pub const TEXT: usize = 54 + 49 * Job::RECORDS + 66 * Job::POINTS + 49;
 fn text_agrees()
     ensures { λ _. do ⌜ (← ⟦TEXT⟧ .entry) ≡ lines.TEXT ⌝ }
 {}
-
-// One byte, if there is room; answers where the next one goes.
-pub fn put(out: &mut [u8], at: usize, b: u8) -> usize
-    ensures { λ r. ⌜ poured r (now (out .exit)) ≡ pour (b ∷ []) at (now (out .entry)) ⌝ }
-{
-    let n = out.len();
-    if at < n {
-        out[at] = b;
-        return at + 1;
-    }
-    if n < at {
-        return at;
-    }
-    n + 1
-}
-
-// A word.
-pub fn put_text(out: &mut [u8], at: usize, s: &[u8]) -> usize
-    ensures { λ r. ⌜ poured r (now (out .exit)) ≡ pour (now (s .entry)) at (now (out .entry)) ⌝ }
-{
-    let n = s.len();
-    let mut k = at;
-    let mut i: usize = 0;
-    while i < n {
-        k = put(out, k, s[i]);
-        i += 1;
-    }
-    k
-}
-
-// A decimal number.
-pub fn put_decimal(out: &mut [u8], at: usize, n: u64) -> usize
-    ensures { λ r. ⌜ poured r (now (out .exit)) ≡ pour (decimal n) at (now (out .entry)) ⌝ }
-{
-    if n < 10 {
-        return put(out, at, 48 + n as u8);
-    }
-    let k = put_decimal(out, at, n / 10);
-    put(out, k, 48 + (n % 10) as u8)
-}
 
 // How large a number is.
 fn magnitude(z: i64) -> u64

@@ -1,5 +1,4 @@
 // The new number of each point: ring by ring, records in their order, each ring from its first point in walk order.
-
 use job::Job;
 use store::Col;
 use store::NONE;

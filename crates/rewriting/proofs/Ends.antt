@@ -24,7 +24,7 @@ use Rattle.converting.specs.Needs.{Converting}
 use Rattle.opening.specs.Open.{JOIN-POINTS}
 use Rattle.opening.proofs.Passing.{may-convert}
 use Rattle.paths.specs.Tray.{padded}
-use Rattle.listing.specs.Pour.{poured, pour}
+use Rattle.text.specs.Pour.{poured, pour}
 use Rattle.drawing.specs.Drawing.{drawingOf}
 use Rattle.encoding.specs.Sheet.{allBytes}
 use Rattle.encoding.specs.Encode.{encode}

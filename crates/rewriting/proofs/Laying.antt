@@ -15,8 +15,8 @@ use Rattle.store.specs.Field.{pt, X, Y, Z, NONE}
 use Rattle.store.specs.Words.{view}
 use Rattle.store.specs.Named.{settingsOf, recordsOf, nextOf, prevOf, flagsOf, ownerOf, firstOf, ringOf}
 use Rattle.store.specs.Sound.{ringAt}
-use Rattle.listing.specs.Pour.{poured, pour}
-use Rattle.listing.proofs.Pouring.{pour-none, pour-more, pour-length}
+use Rattle.text.specs.Pour.{poured, pour}
+use Rattle.text.proofs.Pouring.{pour-none, pour-more, pour-length}
 use Rattle.encoding.specs.Sheet.{bytesOf, allBytes}
 use Rattle.rewriting.specs.Fields.{cornerField, cornerFields, startNumber, drawnField, newNumber, levelField, pairField, jobFields}
 use Rattle.numbering.proofs.Rounds.{ahead-back, ahead-on, ahead-none}

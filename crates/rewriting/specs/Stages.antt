@@ -11,7 +11,7 @@ use Rattle.reading.specs.declared.fill.Outcome.the-variants as outcome
 use Rattle.reading.specs.Fill.{ReadEnd, end}
 use Rattle.accepting.specs.Accept.{acceptOf}
 use Rattle.opening.specs.Open.{JOIN-POINTS}
-use Rattle.listing.specs.Pour.{Poured, pour}
+use Rattle.text.specs.Pour.{Poured, pour}
 use Rattle.drawing.specs.Drawing.{drawingOf}
 use Rattle.encoding.specs.Encode.{encode}
 use Rattle.rewriting.specs.declared.Rewritten.{Rewritten}

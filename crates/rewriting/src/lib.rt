@@ -1,15 +1,15 @@
 // One way to write a job: an accepted job's bytes with its points numbered ring by ring, each ring from its first point in walk order.
 mod writing;
 
-use fields::put_settings;
-use numbering::number_rings;
 use crate::writing::put_joins;
 use crate::writing::put_points;
 use crate::writing::put_records;
 use crate::writing::put_segments;
 use accepting::accept;
+use fields::put_settings;
 use job::Job;
 use job::refusal::Refusal;
+use numbering::number_rings;
 use opening::clear::clear;
 use reading::fill::Outcome;
 use store::Col;
@@ -20,7 +20,7 @@ ghost use Prim.Native.Nat.{_≤_};
 ghost use lib.ListN.{length};
 ghost use Rattle.store.specs.Field.{BLOCK};
 ghost use Rattle.prefix.specs.Decides as decides;
-ghost use Rattle.listing.specs.Pour.{poured, pour};
+ghost use Rattle.text.specs.Pour.{poured, pour};
 ghost use Rattle.encoding.specs.Sheet.{allBytes};
 ghost use Rattle.rewriting.specs.Fields.{jobFields, jobBytes};
 ghost use Rattle.rewriting.specs.Rewrite.{rewrote, rewriteOf};

@@ -1,8 +1,8 @@
 // The step that comes next, as a walk leaves it, and that step: a point that the walk found to be dropped is not tested again.
 use crate::Answer;
+use crate::step::step_ring;
 use applying::discard_ring;
 use applying::drop_point;
-use crate::step::step_ring;
 use turns::Discard;
 use turns::decide::valid_without;
 ghost use mathlib.Core.Path.{_≡_};

@@ -14,10 +14,10 @@ use Rattle.rings.specs.Table.{ringFrom}
 use Rattle.store.specs.Field.{pt, X, Y, Z, NEXT}
 use Rattle.store.specs.Words.{cell}
 use Rattle.store.specs.Named.{nextOf, ringOf}
-use Rattle.listing.specs.Pour.{poured, pour}
-use Rattle.listing.specs.Text.{decimal}
+use Rattle.text.specs.Pour.{poured, pour}
+use Rattle.text.specs.Text.{decimal}
 use Rattle.listing.specs.Lines.{depthText}
-use Rattle.listing.proofs.Pouring.{pour-none, pour-more, pour-length}
+use Rattle.text.proofs.Pouring.{pour-none, pour-more, pour-length}
 use Rattle.test_text.specs.Ring.{RING, coordinateText, nameText, pairText, placeText, placesText, ringText}
 
 -- ---- a coordinate

@@ -9,7 +9,7 @@ use Rattle.rings.specs.Table.{ringFrom}
 use Rattle.store.specs.Field.{pt, X, Y, Z}
 use Rattle.store.specs.Words.{view}
 use Rattle.store.specs.Named.{nextOf}
-use Rattle.listing.specs.Text.{SPACE, COMMA, MINUS, NEWLINE, decimal}
+use Rattle.text.specs.Text.{SPACE, COMMA, MINUS, NEWLINE, decimal}
 use Rattle.listing.specs.Lines.{depthText}
 
 abbrev pub COLON : ℕ

@@ -1,17 +1,17 @@
 // A ring as the test programs print it, as text in a lent slice: how many points, then each from the first in walk order.
 use job::Job;
-use listing::put;
-use listing::put_decimal;
-use listing::put_text;
 use store::Col;
 use store::NONE;
 use store::read;
+use text::put;
+use text::put_decimal;
+use text::put_text;
 ghost use mathlib.Core.Path.{_≡_};
 ghost use Prim.Native.Nat.{_≤_, _<_, _^_};
 ghost use lib.ListN.{length};
 ghost use Rattle.store.specs.Field.{BLOCK};
 ghost use Rattle.store.specs.Named.{ringOf};
-ghost use Rattle.listing.specs.Pour.{poured, pour};
+ghost use Rattle.text.specs.Pour.{poured, pour};
 ghost use Rattle.listing.specs.Lines.{depthText};
 ghost use Rattle.test_text.specs.Ring.{coordinateText, nameText, pairText, placeText, placesText, ringText};
 

@@ -1,6 +1,6 @@
 -- `put_numbered` meets its contract.
 use borrow.Author.Needs.{needs}
-use Rattle.listing.proofs.Pouring.{pour-more}
+use Rattle.text.proofs.Pouring.{pour-more}
 use Rattle.job_reasons.proofs.put_numbered.Statement.{statement}
 use Rattle.job_reasons.proofs.put_numbered.Tie as tie
 

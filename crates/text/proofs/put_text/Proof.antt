@@ -3,10 +3,10 @@ use Prim.Native.Nat.{_-_}
 use mathlib.Core.Path.{_≡_}
 use lib.ListN.{take}
 use borrow.Author.Needs.{needs}
-use Rattle.listing.specs.Pour.{poured, pour}
-use Rattle.listing.proofs.Pouring.{pour-none, pour-length, text-more, text-all}
-use Rattle.listing.proofs.put_text.Statement.{statement}
-use Rattle.listing.proofs.put_text.Tie as tie
+use Rattle.text.specs.Pour.{poured, pour}
+use Rattle.text.proofs.Pouring.{pour-none, pour-length, text-more, text-all}
+use Rattle.text.proofs.put_text.Statement.{statement}
+use Rattle.text.proofs.put_text.Tie as tie
 
 abbrev Inv-loop : tie.InvT-loop
 Inv-loop out₀ at s n k₀ i₀ out k i = poured k out ≡ pour (take i s) at out₀

@@ -1,8 +1,8 @@
 -- `listing::put` meets its contract: within, at the end, past the end.
 use borrow.Author.Needs.{needs}
-use Rattle.listing.proofs.Pouring.{put-in, put-end, put-past}
-use Rattle.listing.proofs.put.Statement.{statement}
-use Rattle.listing.proofs.put.Tie as tie
+use Rattle.text.proofs.Pouring.{put-in, put-end, put-past}
+use Rattle.text.proofs.put.Statement.{statement}
+use Rattle.text.proofs.put.Tie as tie
 
 pub put-spec : {M : Type 1} → statement M
 put-spec =

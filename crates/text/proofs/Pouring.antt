@@ -7,7 +7,7 @@ use native.Mathlib.Decide.{decLt}
 use native.Mathlib.Nat.{add-zero}
 use lib.ListN.{length, getD, set, take, length-append}
 use lib.Seq.{sets, length-sets, set-out, take-suc, take-all}
-use Rattle.listing.specs.Pour.{Poured, poured, pour}
+use Rattle.text.specs.Pour.{Poured, poured, pour}
 
 sets-append : (t a b : List ℕ) (at : ℕ) → sets t at (a ++ b) ≡ sets (sets t at a) (at + length a) b
 sets-append t [] b at = rw (add-zero at)

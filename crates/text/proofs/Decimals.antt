@@ -6,9 +6,9 @@ use native.Mathlib.Omega.{arith}
 use native.Mathlib.Decide.{decLt}
 use borrow.Author.Tests.{lt-ltb, le-ltb}
 use Rattle.rates.specs.Rate.{numberFrom}
-use Rattle.listing.specs.Pour.{poured, pour}
-use Rattle.listing.specs.Text.{digit, digits, decimal}
-use Rattle.listing.proofs.Pouring.{pour-more}
+use Rattle.text.specs.Pour.{poured, pour}
+use Rattle.text.specs.Text.{digit, digits, decimal}
+use Rattle.text.proofs.Pouring.{pour-more}
 
 -- room for one digit more changes nothing
 digits-more : (f n : ℕ) → n < 10 ^ suc f → digits (suc f) n ≡ digits (suc (suc f)) n

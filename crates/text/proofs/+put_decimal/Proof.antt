@@ -1,17 +1,17 @@
--- `listing::put_decimal` meets its contract: the digits but the last, then the last. The measure is the number.
+-- `text::put_decimal` meets its contract: the digits but the last, then the last. The measure is the number.
 use native.Mathlib.Omega.{arith}
 use borrow.Author.Needs.{needs}
-use Rattle.listing.proofs.Pouring.{pour-length}
-use Rattle.listing.proofs.Decimals.{small-poured, more-poured}
+use Rattle.text.proofs.Pouring.{pour-length}
+use Rattle.text.proofs.Decimals.{small-poured, more-poured}
 use Prim.Native.Nat.{ℕ, _<_}
 use borrow.Fn.Kinds.{In}
 use borrow.Fn.PlainCycle.{Measures, is, falls, and}
-use Rattle.listing.proofs.put_decimal.Reads as put-decimal
-use Rattle.listing.proofs.put_decimal.Kinds as put-decimal-kinds
-use Rattle.listing.proofs.+put_decimal.Lts-put_decimal as put-decimal-lts
-use Rattle.listing.proofs.put.Reads as put-reads
-use Rattle.listing.proofs.+put_decimal.{statement}
-use Rattle.listing.proofs.+put_decimal.Tie.{close}
+use Rattle.text.proofs.put_decimal.Reads as put-decimal
+use Rattle.text.proofs.put_decimal.Kinds as put-decimal-kinds
+use Rattle.text.proofs.+put_decimal.Lts-put_decimal as put-decimal-lts
+use Rattle.text.proofs.put.Reads as put-reads
+use Rattle.text.proofs.+put_decimal.{statement}
+use Rattle.text.proofs.+put_decimal.Tie.{close}
 
 abbrev μ-put-decimal : Measures 1 put-decimal-kinds.ps ℕ
 μ-put-decimal κs a = a .1 .1 .0
