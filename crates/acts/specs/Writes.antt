@@ -9,7 +9,7 @@ use Rattle.store.specs.Field.{pt, rc, ct, NEXT, PREV, REC, OWNER, FIRST, MARK, 
 use Rattle.store.specs.Reason.{reasonNumber}
 use Rattle.store.specs.Sound.{pts, recs, markOf}
 use Rattle.store.specs.Words.{Store, Write, write}
-use Rattle.store.specs.Primitive.{pointWrites, linkWrites, unlinkWrites, startWrites}
+use Rattle.primitives.specs.Primitive.{pointWrites, linkWrites, unlinkWrites, startWrites}
 
 -- the present place's next becomes the present place
 abbrev pub moveWrites : Store → ℕ → Due → List Write

@@ -22,8 +22,8 @@ use Rattle.store.specs.Words.{Store, view, cell, put, onWords}
 use Rattle.store.specs.Stores.{onStore, Within}
 use Rattle.store.proofs.Storing.{view-put, length-put, view-writes, length-writes}
 use Rattle.store.specs.Value.{wordOf}
-use Rattle.store.specs.Primitive.{pointWrites, linkWrites, unlinkWrites, startWrites}
-use Rattle.store.specs.Beside.{disposed, disposeOutPt, Beside}
+use Rattle.primitives.specs.Primitive.{pointWrites, linkWrites, unlinkWrites, startWrites}
+use Rattle.primitives.specs.Beside.{disposed, disposeOutPt, Beside}
 use Rattle.acts.specs.Writes.{moveWrites, toFirstWrites, discardWrites, dropWrites, putWrites, doubleWrites, placeWrites, cutWrites, cutPutWrites, recordWrites, offcutWrites}
 use Rattle.acts.specs.Apply.{ringWrites, afterW}
 use Rattle.turns.specs.declared.Act.{Act}

@@ -8,7 +8,7 @@ use store::JOINED;
 use store::LENGTH;
 use store::NO_RING;
 use store::NONE;
-use store::points::start_record;
+use primitives::start_record;
 use store::set;
 ghost use Prim.Native.Nat.{_+_, _<_, _≤_, _^_};
 ghost use lib.ListN.{length};

@@ -23,7 +23,7 @@ use Rattle.store.specs.Good.{Sound}
 use Rattle.store.specs.Value.{pointAt}
 use Rattle.store.specs.Boxes.{ringBox}
 use Rattle.store.proofs.Soundness.{from-first, present-on}
-use Rattle.store.proofs.Coordinates.{in-table}
+use Rattle.primitives.proofs.Coordinates.{in-table}
 use Rattle.boxes.specs.Within.{BoxWithin, BoxHolds}
 use Rattle.boxes.specs.Beside.{ringNow}
 use Rattle.boxes.proofs.Sizes.{within-both}

@@ -8,7 +8,7 @@ use native.Mathlib.Omega.{arith}
 use lib.Dec.{ltb}
 use lib.ListN.{length}
 use borrow.Author.Tests.{eq-eqb, ne-eqb, ltb-true}
-use Rattle.store.specs.declared.points.Room.the-variants.{At, Full}
+use Rattle.primitives.specs.declared.Room.the-variants.{At, Full}
 use Rattle.store.specs.Field.{RecordCol, pt, rc, REC, FLAGS, BLOCK}
 use Rattle.store.specs.Words.{Store, view, Write, onWords}
 use Rattle.store.specs.Stores.{onStore}
@@ -16,8 +16,8 @@ use Rattle.store.specs.Named.{nextOf, prevOf, pointsOf}
 use Rattle.rings.specs.Count.{occ}
 use Rattle.rings.proofs.Tables.{elsewhere}
 use Rattle.store.specs.Sound.{recs, ringAt, isOpen}
-use Rattle.store.specs.Primitive.{Taken, taken, copyWrites, linkWrites, afterWrites, beforeWrites, duplicateOp}
-use Rattle.store.specs.Beside.{Beside}
+use Rattle.primitives.specs.Primitive.{Taken, taken, copyWrites, linkWrites, afterWrites, beforeWrites, duplicateOp}
+use Rattle.primitives.specs.Beside.{Beside}
 use Rattle.store.proofs.Storing.{view-writes, length-writes}
 use Rattle.joins.specs.Paths.{Lives}
 use Rattle.joins.specs.Resolved.{Ready}

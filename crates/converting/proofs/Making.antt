@@ -10,12 +10,12 @@ use lib.Dec.{eqb, ltb}
 use lib.ListN.{getD, set, length, length-set}
 use lib.Seq.{getD-set-same, getD-set-other}
 use borrow.Author.Tests.{ltb-true}
-use Rattle.store.specs.declared.points.Room.{Room}
-use Rattle.store.specs.declared.points.Room.the-variants as room
+use Rattle.primitives.specs.declared.Room.{Room}
+use Rattle.primitives.specs.declared.Room.the-variants as room
 use Rattle.store.specs.Field.{NONE}
 use Rattle.store.specs.Named.{pointsOf}
-use Rattle.store.specs.Primitive.{Taken, taken, duplicateOp}
-use Rattle.store.specs.Beside.{Beside}
+use Rattle.primitives.specs.Primitive.{Taken, taken, duplicateOp}
+use Rattle.primitives.specs.Beside.{Beside}
 use Rattle.joins.specs.Needs.{Point}
 use Rattle.converting.specs.declared.pairs.Converted.{Converted}
 use Rattle.converting.specs.declared.pairs.Converted.the-variants.{Joins, Full}

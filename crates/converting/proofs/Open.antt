@@ -10,12 +10,12 @@ use lib.Dec.{eqb, ltb}
 use lib.ListN.{getD, set, length, length-set}
 use lib.Seq.{getD-set-same, getD-set-other}
 use borrow.Author.Tests.{eqb-false}
-use Rattle.store.specs.declared.points.Room.the-variants as room
+use Rattle.primitives.specs.declared.Room.the-variants as room
 use Rattle.store.specs.Field.{pt, REC, NONE}
 use Rattle.store.specs.Words.{view}
 use Rattle.store.specs.Named.{pointsOf}
 use Rattle.store.specs.Sound.{isOpen}
-use Rattle.store.specs.Primitive.{Taken, taken, duplicateOp}
+use Rattle.primitives.specs.Primitive.{Taken, taken, duplicateOp}
 use Rattle.joins.specs.Resolve.{homeOf}
 use Rattle.joins.specs.Paths.{Lives}
 use Rattle.joins.specs.Needs.{Point}

@@ -5,9 +5,9 @@ use mathlib.Core.List.{List, map}
 use lib.Dec.{eqb, ltb}
 use lib.ListN.{getD, set}
 use Rattle.job.specs.Limits as limit
-use Rattle.store.specs.declared.points.Room.the-variants as room
+use Rattle.primitives.specs.declared.Room.the-variants as room
 use Rattle.store.specs.Field.{NONE}
-use Rattle.store.specs.Primitive.{Taken, taken, duplicateOp}
+use Rattle.primitives.specs.Primitive.{Taken, taken, duplicateOp}
 use Rattle.converting.specs.declared.pairs.Converted.{Converted}
 use Rattle.converting.specs.declared.pairs.Converted.the-variants.{Joins, Full}
 use Rattle.segments.specs.Level.{xOf, yOf}

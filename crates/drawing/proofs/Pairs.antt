@@ -11,11 +11,11 @@ use lib.ListN.{length, getD, set, length-set}
 use lib.Seq.{getD-set-same, getD-set-other}
 use borrow.Author.Tests.{eqb-false, ltb-true}
 use Rattle.job.specs.Limits as limit
-use Rattle.store.specs.declared.points.Room.the-variants.{At, Full}
+use Rattle.primitives.specs.declared.Room.the-variants.{At, Full}
 use Rattle.store.specs.Field.{pt, X, Y, Z, NEXT, PREV, NONE}
 use Rattle.store.specs.Words.{view, onWords}
 use Rattle.store.specs.Named.{pointsOf}
-use Rattle.store.specs.Primitive.{Taken, taken, afterWrites, beforeWrites, duplicateOp}
+use Rattle.primitives.specs.Primitive.{Taken, taken, afterWrites, beforeWrites, duplicateOp}
 use Rattle.joins.specs.Needs.{Point}
 use Rattle.sorting.specs.declared.HorzSegment.{HorzSegment}
 use Rattle.segments.specs.Level.{xOf, yOf}

@@ -21,8 +21,8 @@ use Rattle.bounds.proofs.Beside.{view-all}
 use Rattle.store.specs.Named.{settingsOf, pointsOf, recordsOf, nextOf, recOf, firstOf, setRec}
 use Rattle.store.specs.Value.{reverseSolution}
 use Rattle.store.specs.Sound.{ringAt}
-use Rattle.store.specs.declared.points.Room.the-variants as room
-use Rattle.store.specs.Primitive.{Taken, taken, afterWrites, beforeWrites, duplicateOp}
+use Rattle.primitives.specs.declared.Room.the-variants as room
+use Rattle.primitives.specs.Primitive.{Taken, taken, afterWrites, beforeWrites, duplicateOp}
 use Rattle.acts.specs.Writes.{moveWrites, toFirstWrites, discardWrites, dropWrites, doubleWrites}
 use Rattle.acts.specs.Apply.{Coding, ringWrites, offWrites, afterW}
 use Rattle.acts.specs.Step.{Outcome, outcome, answerS, actAt, stepByW, stepW}

@@ -1,5 +1,5 @@
 -- Laws of level segments and joins.
--- AsRings: `join-rings` (what a join does, as rings), `at-turn` (of every join of a list). Turns: `joins-kept`, the joins keep the invariant, refused or not. Sounding: `resolved-sound`. Bench: joins by evaluation.
+-- AsRings: `join-rings` (what a join does, as rings), `at-turn` (of every join of a list). Turns: `joins-kept`, the joins keep the invariant, refused or not. Sounding: `resolved-sound`.
 pub mod Resolving
 pub mod Homes
 pub mod Joining
@@ -14,4 +14,3 @@ pub mod Turns
 pub mod Open
 pub mod AsRings
 pub mod Sounding
-pub mod Bench

@@ -4,7 +4,7 @@ pub mod charge;
 use geometry::Point;
 use job::Job;
 use paths::POINT;
-use store::points::lower;
+use primitives::lower;
 use text::put;
 use text::put_decimal;
 use text::put_text;

@@ -29,9 +29,9 @@ use Rattle.store.specs.Stores.{Within}
 use Rattle.store.specs.Named.{nextOf, prevOf, recOf, firstOf, pointsOf, recordsOf, setRec, ringOf}
 use Rattle.store.specs.Sound.{ringAt}
 use Rattle.store.specs.Boxes.{Boxed}
-use Rattle.store.specs.declared.points.Room.the-variants as room
-use Rattle.store.specs.Primitive.{Taken, taken, afterWrites, beforeWrites, duplicateOp}
-use Rattle.store.specs.Beside.{Beside}
+use Rattle.primitives.specs.declared.Room.the-variants as room
+use Rattle.primitives.specs.Primitive.{Taken, taken, afterWrites, beforeWrites, duplicateOp}
+use Rattle.primitives.specs.Beside.{Beside}
 use Rattle.store.proofs.Storing.{ends}
 use Rattle.bounds.proofs.Beside.{behind-all, set-boxed}
 use Rattle.audit.proofs.Handing.{usable-handed}

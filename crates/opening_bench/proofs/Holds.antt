@@ -5,7 +5,7 @@ use Rattle.job.specs.Field.{bodyOf, fieldOf}
 use Rattle.geometry.specs.Box.{widen}
 use Rattle.store.specs.Boxes.{setSides, ringBox, boxedAt, boxedTo, allBoxed}
 use Rattle.store.specs.Words.{cell, put}
-use Rattle.store.specs.Primitive.{duplicateOp}
+use Rattle.primitives.specs.Primitive.{duplicateOp}
 use Rattle.audit.specs.Tests.{anyBelow}
 use Rattle.reading.specs.Fill.{turnOf, run, fillOf}
 use Rattle.reading.specs.Read.{readOf}

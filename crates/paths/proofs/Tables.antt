@@ -18,7 +18,7 @@ use Rattle.store.specs.Words.{Store}
 use Rattle.store.specs.Sound.{pts, recs, ringAt, isOpen}
 use Rattle.store.specs.Good.{PointIn, Sound}
 use Rattle.store.specs.Value.{preserveCollinear, reverseSolution}
-use Rattle.store.proofs.Coordinates.{in-table}
+use Rattle.primitives.proofs.Coordinates.{in-table}
 use Rattle.store.proofs.Soundness.{whole}
 use Rattle.paths.specs.Path.{pointAt, pointsAt, pathBy, pathAt, pathIf, listed, pathsBelow, sizeOf}
 use Rattle.paths.proofs.Counts.{size-le}

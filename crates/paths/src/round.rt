@@ -3,7 +3,7 @@ use crate::POINT;
 use geometry::Point;
 use job::Job;
 use store::Col;
-use store::points::point;
+use primitives::point;
 ghost use mathlib.Core.Path.{_≡_};
 ghost use Prim.Native.Nat.{_+_, _*_, _<_, _≤_};
 ghost use lib.Dec.{leb};

@@ -1,13 +1,6 @@
--- The layout's numbers, computed; and "Copies carry z with them": a copy is its point by value.
-use Prim.Native.Nat.{ℕ}
+-- The layout's numbers, computed.
 use mathlib.Core.Path.{_≡_, refl}
-use borrow.Author.Tests.{eq-eqb}
 use Rattle.store.specs.Field.{pt, rc, REC, Z, FLAGS, TAKER, base, BOXES, BLOCK, LENGTH}
-use Rattle.store.specs.Words.{Store}
-use Rattle.store.specs.Stores.{onStore}
-use Rattle.store.specs.Sound.{pts}
-use Rattle.store.specs.Value.{pointAt}
-use Rattle.store.specs.Primitive.{afterWrites, beforeWrites}
 
 records-named-at : base (pt REC) ≡ 8208
 records-named-at = refl
@@ -29,10 +22,3 @@ block-is = refl
 
 pub length-is : LENGTH ≡ 94804
 length-is = refl
-
-module _ (s : Store) (op : ℕ) where
-  pub copy-after : pointAt (onStore s (afterWrites s op)) (pts s) ≡ pointAt s op
-  copy-after = rw (eq-eqb (pts s) (pts s) refl)
-
-  pub copy-before : pointAt (onStore s (beforeWrites s op)) (pts s) ≡ pointAt s op
-  copy-before = rw (eq-eqb (pts s) (pts s) refl)

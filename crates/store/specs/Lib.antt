@@ -9,7 +9,5 @@ pub mod Sound
 pub mod Good
 pub mod Named
 pub mod Value
-pub mod Primitive
-pub mod Beside
 pub mod Boxes
 pub mod Needs

@@ -186,4 +186,3 @@ fn constants_agree()
 
 pub mod boxed;
 pub mod names;
-pub mod points;

@@ -17,7 +17,7 @@ use Rattle.store.specs.Value.{wordOf, preserveCollinear}
 use Rattle.store.specs.Field.{rc, FIRST, PRESENT}
 use Rattle.store.specs.Words.{view}
 use Rattle.store.proofs.Soundness.{first-on}
-use Rattle.store.proofs.Coordinates.{lowered-in, raise-low, raised-back}
+use Rattle.primitives.proofs.Coordinates.{lowered-in, raise-low, raised-back}
 use Rattle.walks.proofs.Visiting.{on-ring}
 use Rattle.acts.specs.Codes.{Codes}
 use Rattle.acts.specs.Laws.{Laws}

@@ -3,7 +3,7 @@ use crate::Due;
 use geometry::Point;
 use store::Col;
 use store::get;
-use store::points::point;
+use primitives::point;
 ghost use mathlib.Core.Path.{_≡_};
 ghost use Prim.Native.Nat.{_<_, _≤_};
 ghost use lib.ListN.{length};

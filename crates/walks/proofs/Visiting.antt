@@ -31,8 +31,8 @@ use Rattle.store.specs.Named.{pointsOf, nextOf, prevOf, ringOf}
 use Rattle.store.specs.Sound.{recs, ringAt}
 use Rattle.store.specs.Good.{PointIn, Sound}
 use Rattle.store.specs.Value.{pointOf}
-use Rattle.store.specs.Beside.{Beside}
-use Rattle.store.proofs.Coordinates.{in-table}
+use Rattle.primitives.specs.Beside.{Beside}
+use Rattle.primitives.proofs.Coordinates.{in-table}
 use Rattle.store.proofs.Soundness.{whole}
 use Rattle.walks.specs.Ring.{OnRing, Edge, valuesFrom}
 

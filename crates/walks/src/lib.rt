@@ -3,7 +3,7 @@ use geometry::edge_area;
 use store::Col;
 use store::NONE;
 use store::get;
-use store::points::point;
+use primitives::point;
 ghost use mathlib.Core.Path.{_≡_};
 ghost use mathlib.Core.Bool.{true};
 ghost use Rattle.geometry.specs.Plane.{edgeArea, areaOutpt, isVerySmallTriangle};

@@ -1,0 +1,2 @@
+-- Joins on worked jobs.
+pub mod Bench

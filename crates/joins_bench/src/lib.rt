@@ -1,0 +1,1 @@
+// Joins, worked: answers and rings that are computed. No code.

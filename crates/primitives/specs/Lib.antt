@@ -1,0 +1,3 @@
+-- The primitives that make, copy and unlink points: their writes, and what they ask.
+pub mod Primitive
+pub mod Beside
