@@ -16,13 +16,16 @@ use Rattle.rings.proofs.Counting.{one-here, one-else}
 use Rattle.job.specs.Limits as limit
 use Rattle.store.specs.Field.{pt, X, Y, NONE}
 use Rattle.store.specs.Words.{view}
-use Rattle.store.specs.Named.{pointsOf, recordsOf, nextOf, prevOf, recOf, firstOf, flagsOf, progressOf, presentOf, ringOf}
+use Rattle.store.specs.Named.{pointsOf, recordsOf, nextOf, prevOf, recOf, ownerOf, firstOf, flagsOf, progressOf, presentOf, keptOf, takerOf, ringOf}
+use Rattle.store.specs.Reason.{JOINED, isKept}
 use Rattle.job.specs.declared.refusal.Refusal.the-variants.{Crowded, OffTheTable, NoSuch, Loose, Muddled}
 use Rattle.audit.specs.declared.Verdict.{Verdict}
 use Rattle.audit.specs.declared.Verdict.the-variants.{Passed, Refused}
+use Rattle.audit.specs.declared.PointTest.{PointTest}
 use Rattle.audit.specs.declared.PointTest.the-variants.{Table, Numbers, Links}
-use Rattle.audit.specs.Tests.{isIn, anyBelow, anyRecord, crowded, noSuchOf, misplaced, testsOf, lostTaker, untold}
-use Rattle.audit.specs.Marks.{isMarked, markFrom, marksBy, meets, AllMarked, faulty, anyMarked, linksOf, passesOf}
+use Rattle.audit.specs.declared.RecordTest.{RecordTest}
+use Rattle.audit.specs.Tests.{isIn, anyBelow, anyRecord, crowded, offTable, noSuch, loose, namesNothing, noSuchOf, misplaced, testsOf, lostTaker, untold}
+use Rattle.audit.specs.Marks.{isMarked, markFrom, marksBy, meets, AllMarked, faulty, fails, failsOf, anyMarked, linksOf, passesOf}
 
 -- ---- the first number below n that fails
 
@@ -222,3 +225,42 @@ says-crowded w b e h = rw (sym e ∙ h)
 
 pub says-crowd : (w : List ℕ) (m n : ℕ) → m ≡ pointsOf w → n ≡ recordsOf w → (ltb limit.POINTS m || ltb limit.RECORDS n) ≡ crowded w
 says-crowd w m n em en = rw (em, en)
+
+-- ---- one test, by what the code read
+
+module _ (w : List ℕ) (k : ℕ) where
+  pub says-off-table : (x y : ℕ) → x ≡ view w (pt X) k → y ≡ view w (pt Y) k → (ltb (2 * limit.COORDINATE) x || ltb (2 * limit.COORDINATE) y) ≡ offTable w k
+  says-off-table x y ex ey = rw (ex, ey)
+
+  pub says-unnumbered : (m n a b r : ℕ) → m ≡ pointsOf w → n ≡ recordsOf w → a ≡ nextOf w k → b ≡ prevOf w k → r ≡ recOf w k → (not (ltb a m) || (not (ltb b m) || not (ltb r n))) ≡ noSuch w k
+  says-unnumbered m n a b r em en ea eb er = rw (em, en, ea, eb, er)
+
+  pub says-untied : (a b c d : ℕ) → a ≡ nextOf w k → b ≡ prevOf w k → c ≡ nextOf w b → d ≡ prevOf w a → (not (eqb c k) || not (eqb d k)) ≡ loose w k
+  says-untied a b c d ea eb ec ed = rw (ec, ed, ea, eb)
+
+module _ (w : List ℕ) (i : ℕ) where
+  pub says-unnamed : (m n o f : ℕ) (a b : Bool) → m ≡ pointsOf w → n ≡ recordsOf w → o ≡ ownerOf w i → f ≡ firstOf w i → a ≡ namesNothing n o → b ≡ namesNothing m f → (a || b) ≡ noSuchOf w i
+  says-unnamed m n o f a b em en eo ef ea eb = rw (ea, eb, em, en, eo, ef)
+
+  pub says-lost : (n f r t : ℕ) → n ≡ recordsOf w → f ≡ firstOf w i → r ≡ keptOf w i → t ≡ takerOf w i → (eqb f NONE && (eqb r JOINED && not (ltb t n))) ≡ lostTaker w i
+  says-lost n f r t en ef er et = rw (en, ef, er, et)
+
+  pub says-untold : (f r : ℕ) → f ≡ firstOf w i → r ≡ keptOf w i → (eqb f NONE && not (isKept r)) ≡ untold w i
+  says-untold f r ef er = rw (ef, er)
+
+pub by-point-test : (w : List ℕ) (k : ℕ) (t u : PointTest) (r : Bool) → t ≡ u → r ≡ fails u w k → r ≡ fails t w k
+by-point-test w k t u r e h = rw e h
+
+pub by-record-test : (w : List ℕ) (i : ℕ) (t u : RecordTest) (r : Bool) → t ≡ u → r ≡ failsOf u w i → r ≡ failsOf t w i
+by-record-test w i t u r e h = rw e h
+
+-- ---- tests beside each other
+
+pub of-two : (a b x y : Bool) → a ≡ x → b ≡ y → (a || b) ≡ (x || y)
+of-two a b x y ea eb = rw (ea, eb)
+
+pub of-three : (a b c x y z : Bool) → a ≡ x → b ≡ y → c ≡ z → (a || (b || c)) ≡ (x || (y || z))
+of-three a b c x y z ea eb ec = rw (ea, eb, ec)
+
+pub after-none : (s a b x y : Bool) → s ≡ false → a ≡ x → b ≡ y → (a || b) ≡ (s || (x || y))
+after-none s a b x y h ea eb = rw (h, ea, eb)

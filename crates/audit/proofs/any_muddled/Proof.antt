@@ -1,6 +1,6 @@
 -- any_muddled meets its contract.
 use borrow.Author.Needs.{needs}
-use Rattle.audit.proofs.Testing.{or-yes}
+use Rattle.audit.proofs.Testing.{or-yes, after-none}
 use Rattle.audit.proofs.any_muddled.Statement.{statement}
 use Rattle.audit.proofs.any_muddled.Tie as tie
 
@@ -11,4 +11,4 @@ any-muddled-spec =
     (λ c. search or-yes)
     (λ c κs. search needs)
     (λ c κs. search needs)
-    (λ c. cc))
+    (λ c. search after-none))

@@ -1,5 +1,6 @@
 -- any_no_such meets its contract.
 use borrow.Author.Needs.{needs}
+use Rattle.audit.proofs.Testing.{of-three}
 use Rattle.audit.proofs.any_no_such.Statement.{statement}
 use Rattle.audit.proofs.any_no_such.Tie as tie
 
@@ -10,4 +11,4 @@ any-no-such-spec =
     (λ c κs. search needs)
     (λ c κs. search needs)
     (λ c κs. search needs)
-    (λ c. cc))
+    (λ c. search of-three))

@@ -1,5 +1,6 @@
 -- point_fails meets its contract.
 use borrow.Author.Needs.{needs}
+use Rattle.audit.proofs.Testing.{by-point-test}
 use Rattle.audit.proofs.point_fails.Statement.{statement}
 use Rattle.audit.proofs.point_fails.Tie as tie
 
@@ -9,10 +10,10 @@ point-fails-spec =
     (tie.spec
     (λ c. search needs)
     (λ c κs. search needs)
-    (λ c. cc)
+    (λ c. search by-point-test)
     (λ c. search needs)
     (λ c κs. search needs)
-    (λ c. cc)
+    (λ c. search by-point-test)
     (λ c. search needs)
     (λ c κs. search needs)
-    (λ c. cc))
+    (λ c. search by-point-test))

@@ -1,5 +1,6 @@
 -- record_fails meets its contract.
 use borrow.Author.Needs.{needs}
+use Rattle.audit.proofs.Testing.{by-record-test}
 use Rattle.audit.proofs.record_fails.Statement.{statement}
 use Rattle.audit.proofs.record_fails.Tie as tie
 
@@ -9,13 +10,13 @@ record-fails-spec =
     (tie.spec
     (λ c. search needs)
     (λ c κs. search needs)
-    (λ c. cc)
+    (λ c. search by-record-test)
     (λ c. search needs)
     (λ c κs. search needs)
-    (λ c. cc)
+    (λ c. search by-record-test)
     (λ c. search needs)
     (λ c κs. search needs)
-    (λ c. cc)
+    (λ c. search by-record-test)
     (λ c. search needs)
     (λ c κs. search needs)
-    (λ c. cc))
+    (λ c. search by-record-test))

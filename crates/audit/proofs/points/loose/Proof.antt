@@ -1,5 +1,6 @@
 -- loose meets its contract.
 use borrow.Author.Needs.{needs}
+use Rattle.audit.proofs.Testing.{says-untied}
 use Rattle.audit.proofs.points.loose.Statement.{statement}
 use Rattle.audit.proofs.points.loose.Tie as tie
 
@@ -11,4 +12,4 @@ loose-spec =
     (λ c κs. search needs)
     (λ c κs. search needs)
     (λ c κs. search needs)
-    (λ c. cc))
+    (λ c. search says-untied))

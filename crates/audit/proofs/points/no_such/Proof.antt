@@ -1,5 +1,6 @@
 -- no_such meets its contract.
 use borrow.Author.Needs.{needs}
+use Rattle.audit.proofs.Testing.{says-unnumbered}
 use Rattle.audit.proofs.points.no_such.Statement.{statement}
 use Rattle.audit.proofs.points.no_such.Tie as tie
 
@@ -12,4 +13,4 @@ no-such-spec =
     (λ c κs. search needs)
     (λ c κs. search needs)
     (λ c κs. search needs)
-    (λ c. cc))
+    (λ c. search says-unnumbered))

@@ -1,5 +1,6 @@
 -- off_table meets its contract.
 use borrow.Author.Needs.{needs}
+use Rattle.audit.proofs.Testing.{says-off-table}
 use Rattle.audit.proofs.points.off_table.Statement.{statement}
 use Rattle.audit.proofs.points.off_table.Tie as tie
 
@@ -9,4 +10,4 @@ off-table-spec =
     (tie.spec
     (λ c κs. search needs)
     (λ c κs. search needs)
-    (λ c. cc))
+    (λ c. search says-off-table))

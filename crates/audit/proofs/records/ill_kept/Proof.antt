@@ -1,5 +1,6 @@
 -- ill_kept meets its contract.
 use borrow.Author.Needs.{needs}
+use Rattle.audit.proofs.Testing.{of-two}
 use Rattle.audit.proofs.records.ill_kept.Statement.{statement}
 use Rattle.audit.proofs.records.ill_kept.Tie as tie
 
@@ -9,4 +10,4 @@ ill-kept-spec =
     (tie.spec
     (λ c κs. search needs)
     (λ c κs. search needs)
-    (λ c. cc))
+    (λ c. search of-two))

@@ -1,5 +1,6 @@
 -- lost_taker meets its contract.
 use borrow.Author.Needs.{needs}
+use Rattle.audit.proofs.Testing.{says-lost}
 use Rattle.audit.proofs.records.lost_taker.Statement.{statement}
 use Rattle.audit.proofs.records.lost_taker.Tie as tie
 
@@ -11,4 +12,4 @@ lost-taker-spec =
     (λ c κs. search needs)
     (λ c κs. search needs)
     (λ c κs. search needs)
-    (λ c. cc))
+    (λ c. search says-lost))

@@ -1,5 +1,6 @@
 -- no_such_of meets its contract.
 use borrow.Author.Needs.{needs}
+use Rattle.audit.proofs.Testing.{says-unnamed}
 use Rattle.audit.proofs.records.no_such_of.Statement.{statement}
 use Rattle.audit.proofs.records.no_such_of.Tie as tie
 
@@ -13,4 +14,4 @@ no-such-of-spec =
     (λ c κs. search needs)
     (λ c κs. search needs)
     (λ c κs. search needs)
-    (λ c. cc))
+    (λ c. search says-unnamed))

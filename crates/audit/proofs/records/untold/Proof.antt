@@ -1,5 +1,6 @@
 -- untold meets its contract.
 use borrow.Author.Needs.{needs}
+use Rattle.audit.proofs.Testing.{says-untold}
 use Rattle.audit.proofs.records.untold.Statement.{statement}
 use Rattle.audit.proofs.records.untold.Tie as tie
 
@@ -9,4 +10,4 @@ untold-spec =
     (tie.spec
     (λ c κs. search needs)
     (λ c κs. search needs)
-    (λ c. cc))
+    (λ c. search says-untold))
