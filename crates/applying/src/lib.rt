@@ -1,16 +1,16 @@
 // Applying an act: link surgery and progress, as the act's list of writes.
 use geometry::Point;
-use store::AT_SPLIT;
-use store::AT_VALIDITY;
-use store::Col;
-use store::WHILE_REMOVING;
-use store::get;
 use primitives::dispose_out_pt;
 use primitives::dispose_out_pts;
 use primitives::link_between;
 use primitives::new_out_pt;
 use primitives::start_record;
 use primitives::unlink;
+use store::AT_SPLIT;
+use store::AT_VALIDITY;
+use store::Col;
+use store::WHILE_REMOVING;
+use store::get;
 use store::set;
 use turns::Act;
 use turns::Discard;

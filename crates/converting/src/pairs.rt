@@ -1,5 +1,7 @@
 // The second loop of convert_horz_segs_to_joins: pairs of segments, their left points moved together, and a join of two new points.
 use job::Job;
+use primitives::Room;
+use primitives::duplicate_op;
 use segments::level;
 use segments::level::Two;
 use sorting::load;
@@ -7,8 +9,6 @@ use sorting::save;
 use store::Col;
 use store::NONE;
 use store::get;
-use primitives::Room;
-use primitives::duplicate_op;
 ghost use mathlib.Core.Bool.{true, false};
 ghost use mathlib.Core.Path.{_≡_};
 ghost use mathlib.Core.Logic.{_≢_};

@@ -98,13 +98,7 @@ pub fn put_point(
     put_u32(z, out, f)
 }
 
-pub fn put_record(
-    flags: usize,
-    owner: usize,
-    first: usize,
-    out: &mut [u8],
-    at: usize,
-) -> usize
+pub fn put_record(flags: usize, owner: usize, first: usize, out: &mut [u8], at: usize) -> usize
     ensures { λ r. ⌜ poured r (now (out .exit)) ≡ pour (bytesOf (Record flags owner first)) at (now (out .entry)) ⌝ }
 {
     let a = put_header(3, 5, out, at);

@@ -2,8 +2,8 @@
 use crate::POINT;
 use geometry::Point;
 use job::Job;
-use store::Col;
 use primitives::point;
+use store::Col;
 ghost use mathlib.Core.Path.{_≡_};
 ghost use Prim.Native.Nat.{_+_, _*_, _<_, _≤_};
 ghost use lib.Dec.{leb};

@@ -1,10 +1,10 @@
 // Points by value, and the Rust's primitives that make and unlink them.
+use geometry::Point;
+use job::Job;
 use store::Col;
 use store::NONE;
 use store::get;
 use store::set;
-use geometry::Point;
-use job::Job;
 ghost use mathlib.Core.Path.{_≡_};
 ghost use Prim.Native.Nat.{_+_, _*_, _<_, _≤_, _^_};
 ghost use lib.ListN.{length};

@@ -1,9 +1,9 @@
 // Reading a ring: its points by number and by value, a record's places and its step due.
 use crate::Due;
 use geometry::Point;
+use primitives::point;
 use store::Col;
 use store::get;
-use primitives::point;
 ghost use mathlib.Core.Path.{_≡_};
 ghost use Prim.Native.Nat.{_<_, _≤_};
 ghost use lib.ListN.{length};

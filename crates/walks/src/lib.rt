@@ -1,9 +1,9 @@
 // Walks round a ring: the doubled area, whether it is valid.
 use geometry::edge_area;
+use primitives::point;
 use store::Col;
 use store::NONE;
 use store::get;
-use primitives::point;
 ghost use mathlib.Core.Path.{_≡_};
 ghost use mathlib.Core.Bool.{true};
 ghost use Rattle.geometry.specs.Plane.{edgeArea, areaOutpt, isVerySmallTriangle};
