@@ -1,0 +1,2 @@
+-- Document 01's listing, by computing.
+pub mod Paper
