@@ -4,6 +4,7 @@ use audit::handed;
 use geometry::Rect;
 use job::Job;
 use job::refusal::Refusal;
+use opening::clear::clear;
 use store::Col;
 use store::NONE;
 use store::boxed::Sides;
@@ -11,7 +12,7 @@ use store::boxed::sides_of;
 use store::get;
 ghost use mathlib.Core.Path.{_≡_};
 ghost use Prim.Native.Nat.{_<_, _≤_};
-ghost use lib.ListN.{length, replicate};
+ghost use lib.ListN.{length};
 ghost use lib.IntN.{pos, _+ℤ_};
 ghost use lib.Signed.{leZ};
 ghost use Rattle.numbers.specs.Raised.{coordinate};
@@ -93,17 +94,6 @@ fn is_in(w: &[u32], window: Rect, i: usize) -> bool
     }
     let b = sides_of(w, i);
     box_meets(b, window)
-}
-
-// Zeros.
-fn clear(list: &mut [u32])
-    ensures { λ _. ⌜ now (list .exit) ≡ replicate (length (now (list .entry))) 0 ⌝ }
-{
-    let mut i: usize = 0;
-    while i < list.len() {
-        list[i] = 0;
-        i += 1;
-    }
 }
 
 fn once(b: bool) -> usize
