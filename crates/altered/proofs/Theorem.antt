@@ -12,7 +12,6 @@ use Rattle.lone.specs.Forest.{Forest, answer, stepForest, runForest}
 use Rattle.lone.specs.Plane.{loneRing}
 use Rattle.store.specs.Field.{ct, SETTINGS, BLOCK}
 use Rattle.store.specs.Words.{Store, view}
-use Rattle.store.specs.Good.{Sound}
 use Rattle.store.specs.Value.{preserveCollinear}
 use Rattle.audit.specs.declared.Verdict.the-variants as verdict
 use Rattle.audit.specs.Handed.{handedOf, Usable}

@@ -23,7 +23,7 @@ use Rattle.acts.specs.Finish.{RingsEnd, ringsDone, ringsFull, andThen, stepsByW
 use Rattle.acts.proofs.Stepping.{able, step-acts, view-step, stepW-sound, length-step}
 use Rattle.acts.proofs.Finishing.{wordsOf}
 use Rattle.beside.specs.Sides.{withSides, ringSides}
-use Rattle.beside.proofs.Setting.{view-with, length-with, with-over, all-with}
+use Rattle.beside.proofs.Setting.{view-with, with-over, all-with}
 use Rattle.beside.proofs.Stepping.{with-step}
 
 -- the same answer, over what h makes of the words

@@ -11,16 +11,14 @@ use lib.Dec.{eqb}
 use lib.ListN.{length}
 use borrow.Author.Tests.{eq-eqb, ne-eqb}
 use Rattle.job.specs.Limits as limit
-use Rattle.rings.specs.Count.{occ}
 use Rattle.rings.specs.Progress.{Ring}
-use Rattle.geometry.specs.declared.Point.{Point}
 use Rattle.geometry.specs.Box.{boxOf}
 use Rattle.lone.specs.Lone.{Geo}
 use Rattle.lone.specs.Forest.{ok}
 use Rattle.lone.specs.Act.{ringsNew, offcut}
 use Rattle.lone.proofs.Acting.{count}
 use Rattle.store.specs.declared.boxed.Sides.{Sides}
-use Rattle.store.specs.Field.{rc, ct, FIRST, RECORDS, BLOCK, NONE}
+use Rattle.store.specs.Field.{ct, FIRST, RECORDS, BLOCK, NONE}
 use Rattle.store.specs.Words.{Store, view}
 use Rattle.store.specs.Named.{recordsOf}
 use Rattle.store.specs.Sound.{recs, pts, ringless, ringAt, loneAt}
@@ -35,7 +33,7 @@ use Rattle.acts.specs.Laws.{Laws}
 use Rattle.acts.specs.Step.{actAt, answerS, stepW}
 use Rattle.acts.specs.Run.{stepAnswered, stepS}
 use Rattle.acts.proofs.Representing.{Makes, ActDone, map-agree}
-use Rattle.acts.proofs.Stepping.{Able, able, step-acts, view-step, length-step}
+use Rattle.acts.proofs.Stepping.{able, step-acts, view-step, length-step}
 use Rattle.beside.specs.Sides.{withSides, ringSides}
 use Rattle.beside.proofs.Setting.{view-with, length-with, with-agree, with-other, with-suc, all-with}
 use Rattle.beside.proofs.Writing.{step-set, step-sides}

@@ -10,10 +10,10 @@ use Rattle.rings.specs.Count.{occ}
 use Rattle.rings.specs.Progress.{Ring, Due, validity, removal, triangle, split, done, Discard, gone, tidyAt, tidy}
 use Rattle.job.specs.Limits as limit
 use Rattle.lone.specs.Act.{Act, stay, discard, dropPoint, moveOn, toFirst, double, cut, apply, takesPoints}
-use Rattle.store.specs.Field.{pt, rc, NEXT, FIRST, PRESENT, START, REASON, NONE}
+use Rattle.store.specs.Field.{pt, rc, PRESENT, START, REASON, NONE}
 use Rattle.store.specs.Words.{Store}
 use Rattle.store.specs.Stores.{upd}
-use Rattle.store.specs.Sound.{pts, recs, ringless, ringAt, isOpen, dueAt, Closed, loneDue, loneAt}
+use Rattle.store.specs.Sound.{pts, recs, ringless, ringAt, dueAt, Closed, loneDue, loneAt}
 use Rattle.store.specs.Reason.{discardOf}
 use Rattle.store.specs.Good.{PointIn, Explained, Good, Sound}
 use Rattle.store.proofs.Storing.{hit}

@@ -8,13 +8,13 @@ use lib.Dec.{eqb}
 use lib.IntN.{pos}
 use lib.Signed.{ltZ}
 use Rattle.rings.specs.Circle.{lastOf}
-use Rattle.rings.specs.Progress.{Ring, removal}
+use Rattle.rings.specs.Progress.{Ring}
 use Rattle.rings.specs.Whole.{Whole}
 use Rattle.rings.proofs.Linking.{prev-is}
 use Rattle.geometry.specs.declared.Point.{Point}
 use Rattle.geometry.specs.declared.Rect.{Rect}
 use Rattle.geometry.specs.Plane.{dotProductThreePoints}
-use Rattle.lone.specs.Act.{Act, discard, dropPoint, moveOn, toFirst, double, cut}
+use Rattle.lone.specs.Act.{Act, discard, dropPoint, double, cut}
 use Rattle.store.specs.declared.boxed.Sides.{Sides}
 use Rattle.store.specs.Field.{pt, rc, X, Y, NEXT, PREV, PRESENT}
 use Rattle.store.specs.Words.{Store}
@@ -23,7 +23,6 @@ use Rattle.store.specs.Good.{Sound}
 use Rattle.store.specs.Value.{pointAt, preserveCollinear}
 use Rattle.store.specs.Boxes.{rectOf, ringBox}
 use Rattle.bounds.proofs.Widening.{lower-eq}
-use Rattle.acts.proofs.Positions.{Loop}
 use Rattle.acts.proofs.Acting.{Ready, to-discard, to-move, to-go-first, to-drop, to-double, to-cut}
 use Rattle.acts.proofs.Readiness.{ready}
 use Rattle.acts.proofs.Stepping.{Able}
@@ -31,7 +30,7 @@ use Rattle.turns.specs.Form.{raised, geometryOf}
 use Rattle.turns.proofs.Ready.{laws}
 use Rattle.boxes.specs.Acts.{spike, onSide, mayChange}
 use Rattle.boxes.specs.Beside.{ringNow, actNow}
-use Rattle.boxes.specs.AtHand.{sideWord, spikeAt, changesAt}
+use Rattle.boxes.specs.AtHand.{sideWord, changesAt}
 
 last-map : (f : ℕ → Point) (x : ℕ) (xs : List ℕ) → lastOf (f x) (map f xs) ≡ f (lastOf x xs)
 last-map f x [] = refl

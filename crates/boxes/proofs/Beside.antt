@@ -34,9 +34,8 @@ use Rattle.turns.specs.Form.{raised, geometryOf}
 use Rattle.turns.proofs.Ready.{laws}
 use Rattle.boxes.specs.Within.{BoxWithin}
 use Rattle.boxes.specs.Acts.{keptBox}
-use Rattle.boxes.specs.Beside.{ringNow, actNow, boxOfOffcut, BoxesAfter, CutFrom, Shrinks}
+use Rattle.boxes.specs.Beside.{ringNow, actNow, boxOfOffcut, BoxesAfter, Shrinks}
 use Rattle.boxes.proofs.Sizes.{within-self}
-use Rattle.boxes.proofs.Boxes.{Each}
 use Rattle.boxes.proofs.Rings.{step-within, offcut-within}
 use Rattle.boxes.proofs.Keeping.{kept-is}
 use Rattle.boxes.proofs.Stores.{same-points, lone-box, lone-table}

@@ -12,7 +12,7 @@ use Rattle.rings.specs.Circle.{turn, spin, lastOf, initOf, back}
 use Rattle.geometry.specs.declared.Point.{Point}
 use Rattle.geometry.specs.declared.Rect.{Rect}
 use Rattle.geometry.specs.Box.{lesser, greater, around, widen, widenAll, boxOf}
-use Rattle.crossing.specs.Within.{Between, InBox}
+use Rattle.crossing.specs.Within.{InBox}
 use Rattle.boxes.specs.Within.{RectWithin, BoxWithin, BoxHolds}
 use Rattle.boxes.proofs.Sizes.{le-then, less-le, lesser-left, lesser-right, greater-left, greater-right, span, join, within-self, within-then, join-left, join-right, join-least, join-swap, join-group, join-absorbs}
 

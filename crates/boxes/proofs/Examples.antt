@@ -5,7 +5,7 @@ use mathlib.Core.List.{List, [], _∷_}
 use mathlib.Core.Option.{Option, none, some}
 use lib.Ieee.{toSigned, add, ofInt, mul}
 use lib.IntN.{ℤ, pos}
-use Rattle.rings.specs.Progress.{Due, validity, removal, split, Ring, atStart}
+use Rattle.rings.specs.Progress.{Due, removal, split, Ring, atStart}
 use Rattle.geometry.specs.declared.Point.{Point}
 use Rattle.geometry.specs.declared.Rect.{Rect}
 use Rattle.geometry.specs.Box.{widen, boxOf}

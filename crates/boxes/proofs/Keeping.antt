@@ -22,7 +22,7 @@ use Rattle.lone.proofs.Keeping.{long-enough}
 use Rattle.lone.proofs.Plane.{plane-laws}
 use Rattle.boxes.specs.Within.{BoxHolds}
 use Rattle.boxes.specs.Acts.{spike, onSide, presentOnSide, eitherOnSide, mayChange, keptBox}
-use Rattle.boxes.proofs.Boxes.{Each, box-append, box-turn, box-spin, box-back, box-put, BoxMisses, box-missed}
+use Rattle.boxes.proofs.Boxes.{Each, box-turn, box-spin, box-back, box-put, BoxMisses, box-missed}
 use Rattle.boxes.proofs.Points.{OfNew}
 use Rattle.boxes.proofs.Rings.{TabledIn, act-new, box-tidy, Drops, drop-decided}
 

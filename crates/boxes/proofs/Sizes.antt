@@ -7,7 +7,7 @@ use native.Mathlib.Omega.{arith}
 use lib.Dec.{T, le→leb, ltb→lt}
 use lib.IntN.{ℤ, pos, negsuc}
 use lib.Signed.{leZ, ltZ, ltZ-no, _≤ℤ_, ≤ℤ-refl}
-use Rattle.exact.proofs.Parts.{pp, np, _≤ᶻ_, leZ-parts, parts-leZ, parts-inj, le-transᶻ}
+use Rattle.exact.proofs.Parts.{leZ-parts, parts-leZ, parts-inj, le-transᶻ}
 use Rattle.geometry.specs.declared.Rect.{Rect}
 use Rattle.geometry.specs.Box.{lesser, greater}
 use Rattle.boxes.specs.Within.{RectWithin, BoxWithin}

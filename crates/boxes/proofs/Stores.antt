@@ -7,12 +7,11 @@ use mathlib.Core.Option.{Option}
 use native.Mathlib.Omega.{arith}
 use Rattle.rings.specs.Count.{occ}
 use Rattle.rings.specs.Links.{All}
-use Rattle.rings.specs.Progress.{Ring, Due, validity, removal, triangle, split, done, gone}
+use Rattle.rings.specs.Progress.{Due, validity, removal, triangle, split, done, gone}
 use Rattle.rings.specs.Walk.{walk}
 use Rattle.rings.proofs.Counting.{all-in, in-all}
 use Rattle.rings.proofs.Walking.{Seen}
 use Rattle.geometry.specs.declared.Point.{Point}
-use Rattle.geometry.specs.declared.Rect.{Rect}
 use Rattle.geometry.specs.Box.{boxOf}
 use Rattle.geometry.specs.Table.{InTable}
 use Rattle.store.specs.Field.{pt, rc, NEXT, PREV, FIRST, PRESENT, REASON}

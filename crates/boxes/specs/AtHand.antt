@@ -9,7 +9,7 @@ use Rattle.geometry.specs.declared.Point.{Point}
 use Rattle.geometry.specs.Plane.{dotProductThreePoints}
 use Rattle.lone.specs.Act.{Act, stay, discard, dropPoint, moveOn, toFirst, double, cut}
 use Rattle.store.specs.declared.boxed.Sides.{Sides}
-use Rattle.store.specs.Field.{pt, rc, X, Y, NEXT, PREV, PRESENT}
+use Rattle.store.specs.Field.{pt, X, Y, NEXT, PREV}
 use Rattle.store.specs.Words.{Store}
 use Rattle.store.specs.Value.{pointAt}
 

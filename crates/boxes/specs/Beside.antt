@@ -17,7 +17,7 @@ use Rattle.acts.specs.Value.{value}
 use Rattle.acts.specs.Step.{actAt}
 use Rattle.turns.specs.Form.{raised, geometryOf}
 use Rattle.boxes.specs.Within.{BoxWithin}
-use Rattle.boxes.specs.Acts.{mayChange, keptBox}
+use Rattle.boxes.specs.Acts.{keptBox}
 
 -- record i's ring by value, and what a step on it does
 abbrev pub ringNow : Store → ℕ → Ring Point

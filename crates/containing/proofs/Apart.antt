@@ -16,8 +16,8 @@ use Rattle.listing.specs.Fields.{pointIn, pointsIn}
 use Rattle.listing.specs.Needs.{Held, Run}
 use Rattle.listing.proofs.Runs.{run-head, run-rest}
 use Rattle.paths.specs.Tray.{POINT}
-use Rattle.polygons.proofs.Going.{points-next, points-none}
-use Rattle.containing.specs.Outside.{outside, beginsOutside, Encloses, AllEnclosed}
+use Rattle.polygons.proofs.Going.{points-next}
+use Rattle.containing.specs.Outside.{outside, beginsOutside, AllEnclosed}
 use Rattle.containing.specs.Contains.{path2ContainsPath1}
 
 beyond : (a b c : ℤ) → ltZ a b ≡ true → ltZ c b ≡ false → ltZ a c ≡ true

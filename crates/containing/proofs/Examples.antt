@@ -5,7 +5,6 @@ use mathlib.Core.List.{List, [], _∷_}
 use mathlib.Core.Option.{some}
 use lib.IntN.{ℤ, pos, negsuc}
 use Rattle.geometry.specs.declared.Point.{Point}
-use Rattle.geometry.specs.declared.Rect.{Rect}
 use Rattle.geometry.specs.Plane.{crossProductSign}
 use Rattle.geometry.specs.Box.{widen, boxOf}
 use Rattle.rays.specs.Edge.{levelWay, overWay, wayOf}

@@ -12,14 +12,12 @@ use Rattle.job.specs.declared.refusal.Refusal.the-variants.{SmallTray}
 use Rattle.paths.specs.declared.Written.{Written}
 use Rattle.paths.specs.declared.Written.the-variants.{Paths, Refused}
 use Rattle.paths.specs.Tray.{padded}
-use Rattle.paths.specs.Path.{closedPaths}
-use Rattle.store.specs.Words.{view}
 use Rattle.text.specs.Pour.{poured, pour}
 use Rattle.listing.specs.Fields.{pathsIn}
 use Rattle.finishing.specs.InOneCall.{Finished, finished, refused, finishOf}
 use Rattle.containment.specs.Answers.{pairAnswers, pairCount}
 use Rattle.containment.specs.Needs.{Fielded}
-use Rattle.containment.specs.Contained.{Contained, contained, shortSlice, answered, afterFinishing, containedFrom, containedOf}
+use Rattle.containment.specs.Contained.{contained, answered, afterFinishing, containedFrom, containedOf}
 use Rattle.containment.proofs.Rows.{pairs-length, poured-padded}
 use Rattle.containment.proofs.Finishing.{done-fielded}
 

@@ -4,9 +4,8 @@ use Prim.Native.Nat.{ℕ}
 use mathlib.Core.List.{List, [], _∷_, _++_, map, map-append}
 use Rattle.geometry.specs.declared.Point.{Point}
 use Rattle.listing.specs.Fields.{asWords}
-use Rattle.containing.specs.Contains.{path2ContainsPath1}
 use Rattle.containing.proofs.Depths.{contains-words}
-use Rattle.containment.specs.Answers.{bit, row, rows, pairAnswers}
+use Rattle.containment.specs.Answers.{row, rows, pairAnswers}
 
 row-words : (p : List Point) (qs : List (List Point)) → row (map asWords p) (map (map asWords) qs) ≡ row p qs
 row-words p [] = refl

@@ -5,7 +5,7 @@ use mathlib.Core.List.{List, [], _∷_, _++_}
 use native.Mathlib.Omega.{arith}
 use lib.ListN.{length}
 use Rattle.geometry.specs.declared.Point.{Point}
-use Rattle.listing.specs.Fields.{pointsIn, valueLength, nextField, pathIn, pathsIn, fieldAfter}
+use Rattle.listing.specs.Fields.{valueLength, nextField, pathIn, pathsIn, fieldAfter}
 use Rattle.listing.specs.Needs.{Run, FieldIn, FieldsIn}
 use Rattle.listing.proofs.Heads.{field-sized}
 use Rattle.paths.specs.Tray.{POINT}

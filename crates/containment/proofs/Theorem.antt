@@ -10,7 +10,6 @@ use lib.ListN.{length, take, replicate, length-append}
 use borrow.Author.Tests.{le-leb, lt-leb}
 use Rattle.geometry.specs.declared.Point.{Point}
 use Rattle.job.specs.Limits.{RECORDS}
-use Rattle.job.specs.declared.refusal.Refusal.{Refusal}
 use Rattle.store.specs.Words.{view}
 use Rattle.paths.specs.declared.Written.{Written}
 use Rattle.paths.specs.declared.Written.the-variants.{Paths, Refused}
@@ -21,7 +20,7 @@ use Rattle.finishing.specs.InOneCall.{Finished, finished, finishOf}
 use Rattle.prefix.specs.Decides.{DECIDES}
 use Rattle.prefix.proofs.Decided.{finish-decided}
 use Rattle.containment.specs.Answers.{pairAnswers, pairCount}
-use Rattle.containment.specs.Contained.{Contained, contained, shortSlice, answered, afterFinishing, containedFrom, containedOf, ANSWERS}
+use Rattle.containment.specs.Contained.{Contained, contained, shortSlice, afterFinishing, containedFrom, containedOf, ANSWERS}
 use Rattle.containment.specs.LiesIn.{LiesIn}
 use Rattle.containment.specs.Needs.{AnswersWithin}
 use Rattle.containment.proofs.Rows.{pairs-length}

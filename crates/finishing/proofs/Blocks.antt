@@ -9,7 +9,7 @@ use lib.Seq.{length-take-le, take-at, drop-at, getD-take, getD-drop}
 use Rattle.job.specs.declared.refusal.Refusal.the-variants.{OutOfTurn}
 use Rattle.lone.specs.Lone.{Geo}
 use Rattle.lone.specs.Forest.{Answer, ok, full, outOfTurn}
-use Rattle.store.specs.Field.{BLOCK, STATES, LENGTH}
+use Rattle.store.specs.Field.{BLOCK}
 use Rattle.job.specs.Limits as limit
 use Rattle.store.specs.Words.{Store, view}
 use Rattle.store.specs.Named.{recordsOf}
@@ -34,11 +34,11 @@ use Rattle.turns.specs.Form.{raised, geometryOf}
 use Rattle.turns.proofs.Ready.{laws}
 use Rattle.steps.specs.Live.{anyLive}
 use Rattle.paths.specs.declared.Written.the-variants as written
-use Rattle.paths.specs.Wrote.{Wrote, wrote, buildPaths64}
+use Rattle.paths.specs.Wrote.{wrote, buildPaths64}
 use Rattle.audit.specs.Left.{Left, left}
 use Rattle.boxed_steps.specs.Leaves.{stepLeaves}
 use Rattle.finishing.specs.Step.{steppedAs, stepBy, stepOf}
-use Rattle.finishing.specs.Write.{writeBy, writeOf}
+use Rattle.finishing.specs.Write.{writeOf}
 use Rattle.finishing.proofs.Entering.{handed-step, handed-write}
 
 -- ---- the live block holds the store

@@ -11,12 +11,11 @@ use lib.ListN.{length, drop, replicate}
 use Rattle.job.specs.Refusal.{numberOf}
 use Rattle.job.specs.declared.refusal.Refusal.the-variants.{Torn, Strange, Crowded, OffTheTable, NoSuch, Loose, Muddled, OpenEdge, Full, SmallTray, OutOfTurn}
 use Rattle.job.specs.declared.Job.{Job}
-use Rattle.job.specs.declared.field.Kind.{Kind}
 use Rattle.job.specs.declared.field.Field.{Field}
 use Rattle.job.specs.declared.field.Field.the-variants.{Settings, Point, Record, Segment, Join}
 use Rattle.job.specs.declared.field.Reading.{Reading}
 use Rattle.job.specs.declared.field.Reading.the-variants as reading
-use Rattle.job.specs.Field.{tagOf, kindOf, tornHeader, strangeTag, tornValue, fieldIn, valueOf, strangeBits, crowded, sizeOf, bodyOf, fieldOf}
+use Rattle.job.specs.Field.{tagOf, kindOf, tornHeader, strangeTag, tornValue, fieldIn, valueOf, strangeBits, crowded, bodyOf, fieldOf}
 use Rattle.job.specs.Job.{fresh}
 use Rattle.store.specs.Field.{LENGTH}
 use Rattle.store.specs.Words.{view}

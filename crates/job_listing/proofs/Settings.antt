@@ -7,19 +7,17 @@ use native.Mathlib.Omega.{arith}
 use lib.Dec.{eqb, ltb}
 use lib.ListN.{length, getD, set, replicate}
 use lib.Seq.{getD-set-other}
-use Rattle.rates.specs.declared.Rate.{Rate}
 use Rattle.job.specs.Limits as limit
 use Rattle.job.specs.declared.Job.{Job}
 use Rattle.lone.specs.Act.{Act, stay, discard, dropPoint, moveOn, toFirst, double, cut}
 use Rattle.lone.specs.Lone.{Geo}
 use Rattle.lone.specs.Forest.{Answer, ok, full, outOfTurn}
 use Rattle.lone.specs.Rounds.{enough}
-use Rattle.store.specs.Field.{Field, pt, ct, REC, SETTINGS, NONE, base, BLOCK}
+use Rattle.store.specs.Field.{Field, pt, ct, REC, SETTINGS, NONE, base}
 use Rattle.store.specs.Words.{Store, Write, view, cell, put, onWords}
 use Rattle.store.specs.Boxes.{allBoxed}
 use Rattle.bounds.proofs.Beside.{view-all}
 use Rattle.store.specs.Named.{settingsOf, pointsOf, recordsOf, nextOf, recOf, firstOf, setRec}
-use Rattle.store.specs.Value.{reverseSolution}
 use Rattle.store.specs.Sound.{ringAt}
 use Rattle.primitives.specs.declared.Room.the-variants as room
 use Rattle.primitives.specs.Primitive.{Taken, taken, afterWrites, beforeWrites, duplicateOp}
@@ -50,7 +48,7 @@ use Rattle.paths.specs.Wrote.{buildPaths64}
 use Rattle.finishing.specs.Finish.{thenBoxed, finishRings}
 use Rattle.finishing.specs.InOneCall.{Finished, afterWriting, afterSteps, afterOpening, finishOf}
 use Rattle.job_listing.specs.Cutlist.{pathsAt, listedAs, cutlistOf}
-use Rattle.job_listing.specs.Setting.{settingsIn, reverseIn, JobsSetting}
+use Rattle.job_listing.specs.Setting.{settingsIn, JobsSetting}
 use Rattle.job_listing.proofs.Taking.{settings-accepted}
 
 -- x: the settings

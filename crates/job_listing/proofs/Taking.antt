@@ -30,7 +30,6 @@ use Rattle.reading.specs.Read.{counted, withCounts, readOf}
 use Rattle.reading.proofs.Counted.{filled, counts}
 use Rattle.reading.proofs.Standing.{tagIs, Tagged, ReadAs, read-as, tag-of}
 use Rattle.accepting.specs.Accept.{judged, judgeOf, acceptOf}
-use Rattle.audit.specs.declared.Verdict.{Verdict}
 use Rattle.job_listing.specs.Setting.{settingsIn}
 
 -- before the first field reading stands at the job's beginning; after it the settings are taken

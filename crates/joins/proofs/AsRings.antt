@@ -15,7 +15,7 @@ use Rattle.rings.specs.Links.{Seg}
 use Rattle.rings.specs.Walk.{run, walk}
 use Rattle.rings.specs.Whole.{Whole}
 use Rattle.rings.proofs.Counting.{apart, one-here}
-use Rattle.rings.proofs.Members.{one-is, occ-append, parted, whole-rotate, seg-part}
+use Rattle.rings.proofs.Members.{occ-append, parted, whole-rotate, seg-part}
 use Rattle.rings.proofs.Splicing.{whole-cut-new, whole-cut-own}
 use Rattle.rings.proofs.Walking.{ring-is}
 use Rattle.store.specs.Field.{pt, rc, NEXT, PREV, FIRST, NONE}
@@ -27,7 +27,7 @@ use Rattle.joins.specs.Resolve.{homeOf}
 use Rattle.joins.specs.Resolved.{Resolved}
 use Rattle.joins.specs.Join.{JoinEnd, end, splitRing, splitOf, mergeOf, byRecords, joinOf, follow, joinsFrom, processHorzJoins}
 use Rattle.joins.specs.Needs.{Points, Unknotted, Joins}
-use Rattle.joins.specs.AsRings.{before, onward, seenFrom, goes, stays, firstLeft, spliced, OneRecord, TwoRecords, OneOrTwo, AsRings, AtTurn}
+use Rattle.joins.specs.AsRings.{before, onward, seenFrom, goes, stays, firstLeft, spliced, OneRecord, TwoRecords, AsRings, AtTurn}
 use Rattle.joins.proofs.Homes.{on-ring, from}
 use Rattle.joins.proofs.Joining.{Split, Merged}
 use Rattle.joins.proofs.Splitting.{split-others}

@@ -11,7 +11,7 @@ use lib.ListN.{length, take}
 use Rattle.rings.specs.Progress.{Ring, atStart}
 use Rattle.lone.specs.Act.{Act, stay, discard, dropPoint, moveOn, toFirst, double, cut, offcut, takesPoints}
 use Rattle.lone.specs.Lone.{Geo, actOf, offcutRing, takesRing}
-use Rattle.lone.specs.Forest.{Entry, ringless, openRing, closedRing, ok, Forest, isOk, at, Every, stepState, carryOut, answer, stepForest}
+use Rattle.lone.specs.Forest.{Entry, ringless, openRing, closedRing, ok, Forest, isOk, at, stepState, carryOut, answer, stepForest}
 use Rattle.lone.specs.Order.{machine, AllDone, ForestFits, ForestNeverEnds}
 use Rattle.lone.specs.Kept.{PlacesOnRing, HasStart, Held, HeldIn}
 use Rattle.lone.specs.Measure.{measure}

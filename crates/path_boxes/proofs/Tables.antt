@@ -11,7 +11,6 @@ use lib.IntN.{ℤ, pos}
 use lib.ListN.{length, getD, set, length-set}
 use lib.Seq.{getD-set-same, getD-set-other, lt-length-set}
 use borrow.Author.Tests.{ltb-true, ltb-false}
-use Rattle.exact.specs.Num.{Within}
 use Rattle.exact.proofs.Words.{i32, back-32}
 use Rattle.geometry.specs.declared.Point.{Point}
 use Rattle.geometry.specs.declared.Rect.{Rect}

@@ -12,10 +12,9 @@ use Rattle.exact.specs.Equal.{eqZ}
 use borrow.Author.Tests.{lt-ltb, le-ltb}
 use Rattle.rings.specs.Circle.{lastOf}
 use Rattle.geometry.specs.declared.Point.{Point}
-use Rattle.geometry.specs.Table.{InTable}
 use Rattle.listing.specs.Fields.{pointIn, pointsIn}
 use Rattle.listing.specs.Needs.{Held, Run}
-use Rattle.listing.proofs.Runs.{run-head, run-rest, in-table}
+use Rattle.listing.proofs.Runs.{run-head, run-rest}
 use Rattle.polygons.specs.declared.PointInPolygonResult.{PointInPolygonResult}
 use Rattle.polygons.specs.declared.PointInPolygonResult.the-variants.{IsOutside}
 use Rattle.rays.specs.declared.Way.{Way}

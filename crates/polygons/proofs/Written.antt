@@ -9,7 +9,6 @@ use lib.ListN.{length, take, drop}
 use lib.Signed.{ltZ}
 use Rattle.rings.specs.Circle.{lastOf}
 use Rattle.geometry.specs.declared.Point.{Point}
-use Rattle.polygons.specs.declared.PointInPolygonResult.{PointInPolygonResult}
 use Rattle.polygons.specs.declared.PointInPolygonResult.the-variants.{IsOutside}
 use Rattle.rays.specs.declared.Way.{Way}
 use Rattle.rays.specs.declared.Way.the-variants.{Stays, Passes, Crosses}
@@ -17,7 +16,7 @@ use Rattle.polygons.specs.declared.Tour.{Tour}
 use Rattle.geometry.specs.Plane.{crossProductSign}
 use Rattle.rays.specs.Edge.{isLevel, isAbove, levelWay, overWay, wayOf}
 use Rattle.polygons.specs.Polygon.{after, along, walk, start, resultOf, roundFrom, levels, pointInPolygon}
-use Rattle.rays.specs.Needs.{BeginsOn, GoesOver}
+use Rattle.rays.specs.Needs.{GoesOver}
 use Rattle.polygons.specs.Needs.{Sided}
 use Rattle.polygons.specs.AsWritten.{overAsWritten, alongAsWritten, walkAsWritten, closeAsWritten, roundAsWritten, pointInPolygonAsWritten}
 use Rattle.rays.proofs.Shortcuts.{over-right, over-left}

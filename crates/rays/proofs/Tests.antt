@@ -8,10 +8,9 @@ use lib.Signed.{ltZ}
 use mir.Syntax.{w32, w64}
 use mir.Val.{SFits, toZ, ofZ}
 use mir.Facts.{toZ-ofZ}
-use Rattle.exact.specs.Num.{Within}
 use Rattle.exact.specs.Equal.{eqZ}
 use Rattle.exact.proofs.Size.{eq-eqZ, ne-eqZ}
-use Rattle.exact.proofs.Words.{i32, i64, Held, held-64, back-32}
+use Rattle.exact.proofs.Words.{i32}
 use Rattle.geometry.proofs.Signs.{sign-back}
 use Rattle.geometry.specs.declared.Point.{Point}
 use Rattle.geometry.specs.Plane.{crossProductSign}

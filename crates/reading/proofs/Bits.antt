@@ -9,7 +9,7 @@ use lib.Dec.{eqb, ltb}
 use lib.ListN.{length, drop}
 use borrow.Author.Tests.{eq-eqb, ne-eqb, ltb-false}
 use Rattle.job.specs.Field.{HEADER, fieldIn, valueOf, sizeOf, tornHeader, strangeTag, tornValue, strangeBits, crowded, tagOf, kindOf, bodyOf, fieldOf}
-use Rattle.job.specs.Job.{fresh, past, Within}
+use Rattle.job.specs.Job.{fresh}
 use Rattle.job.specs.declared.Job.{Job}
 use Rattle.job.specs.declared.refusal.Refusal.the-variants.{Torn, Strange, Crowded}
 use Rattle.job.specs.declared.field.Kind.{Kind}
@@ -20,7 +20,7 @@ use Rattle.job.specs.declared.field.Reading.{Reading}
 use Rattle.job.specs.declared.field.Reading.the-variants as reading
 use Rattle.job.proofs.Accepted.{passed, accepted}
 use Rattle.store.specs.Field.{pt, rc, ct, X, Y, NEXT, PREV, REC, Z, FLAGS, FIRST, REASON, SETTINGS, POINTS, RECORDS, BLOCK}
-use Rattle.store.specs.Words.{Store, view, Write, write, onWords}
+use Rattle.store.specs.Words.{Store, view, write, onWords}
 use Rattle.store.specs.Stores.{onStore}
 use Rattle.store.specs.Named.{settingsOf, recordsOf}
 use Rattle.store.proofs.Storing.{view-writes, length-writes}

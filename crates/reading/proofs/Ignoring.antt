@@ -14,12 +14,12 @@ use Rattle.job.specs.Field.{fieldOf}
 use Rattle.job.specs.Job.{fresh, past, Within}
 use Rattle.job.proofs.Accepted.{within-fresh, within-past, accepted}
 use Rattle.job.specs.declared.Job.{Job}
-use Rattle.job.specs.declared.refusal.Refusal.the-variants.{Torn, Strange}
+use Rattle.job.specs.declared.refusal.Refusal.the-variants.{Strange}
 use Rattle.job.specs.declared.field.Field.{Field}
 use Rattle.job.specs.declared.field.Field.the-variants.{Settings, Point, Record, Segment, Join}
 use Rattle.job.specs.declared.field.Reading.{Reading}
 use Rattle.job.specs.declared.field.Reading.the-variants as reading
-use Rattle.store.specs.Field.{PointCol, pt, rc, ct, X, Y, NEXT, PREV, REC, Z, FLAGS, OWNER, FIRST, REASON, SETTINGS, POINTS, RECORDS, BLOCK}
+use Rattle.store.specs.Field.{PointCol, pt, rc, ct, X, Y, NEXT, PREV, REC, Z, FLAGS, OWNER, FIRST, REASON, SETTINGS, POINTS, RECORDS}
 use Rattle.store.specs.Words.{Store, view, Write, write, onWords}
 use Rattle.store.specs.Stores.{onStore}
 use Rattle.store.proofs.Storing.{view-writes, length-writes}

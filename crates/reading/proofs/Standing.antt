@@ -29,7 +29,6 @@ use Rattle.store.specs.Field.{pt, ct, X, Y, NEXT, PREV, REC, Z, SETTINGS, POINT
 use Rattle.store.specs.Words.{view, write, onWords}
 use Rattle.store.specs.Stores.{onStore}
 use Rattle.store.proofs.Storing.{view-writes, length-writes}
-use Rattle.reading.specs.declared.fill.Outcome.{Outcome}
 use Rattle.reading.specs.declared.fill.Outcome.the-variants.{Ok, Refused}
 use Rattle.reading.specs.Fill.{ReadEnd, end, placed, taken, turnOf, follow, run, fillOf, recordRead}
 use Rattle.reading.specs.Needs.{Room}

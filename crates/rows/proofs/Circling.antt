@@ -10,7 +10,7 @@ use lib.ListN.{length}
 use borrow.Author.Tests.{le-leb, lt-leb, not-true}
 use Rattle.job.specs.Limits.{RECORDS}
 use Rattle.rings.specs.Count.{occ}
-use Rattle.rings.proofs.Counting.{one-else, one-le, one-here, pigeon}
+use Rattle.rings.proofs.Counting.{one-else, one-le, pigeon}
 use Rattle.store.specs.Field.{NONE}
 use Rattle.store.specs.Named.{recordsOf, ownerOf, pointsOf}
 use Rattle.audit.specs.Tests.{anyBelow, noSuch, noSuchOf}

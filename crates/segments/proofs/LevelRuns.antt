@@ -11,7 +11,7 @@ use Rattle.job.specs.Limits as limit
 use Rattle.store.specs.Named.{nextOf, firstOf}
 use Rattle.segments.specs.Level.{xOf, yOf, alongOf, until, atWall, atStop, atLimit, wallRun, stopRun, limitRun}
 use Rattle.segments.specs.Needs.{Together, Bounded, Home}
-use Rattle.segments.specs.Update.{hasFront, walledEnds, freeEnds, endsOf}
+use Rattle.segments.specs.Update.{walledEnds, freeEnds, endsOf}
 use Rattle.segments.specs.LevelRun.{moved, AtWall, AtStop, AtLimit, RunTo, LevelRun}
 use Rattle.segments.proofs.Running.{Due, due-at, due-before, along-lives, steps, wall-on, wall-back, stop-on}
 

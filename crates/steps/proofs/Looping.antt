@@ -21,7 +21,7 @@ use Rattle.store.specs.Good.{SoundWords}
 use Rattle.store.specs.Value.{preserveCollinear}
 use Rattle.acts.specs.Step.{Outcome, outcome, actAt, roomFor, answerS, stepByW, stepW}
 use Rattle.acts.specs.Run.{stepWords}
-use Rattle.acts.specs.Finish.{RingsEnd, ringsDone, ringsFull, andThen, stepsByW, finishRecord, finishFromW, finishW}
+use Rattle.acts.specs.Finish.{ringsDone, ringsFull, andThen, stepsByW, finishRecord, finishFromW, finishW}
 use Rattle.acts.specs.Finishable.{MayFinish, wordsLeft}
 use Rattle.acts.proofs.Stepping.{length-step}
 use Rattle.acts.proofs.Finishing.{settings-kept, finishes-step, words-fall, words-bound, finishes-record, settings-record, length-record}

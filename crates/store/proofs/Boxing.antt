@@ -16,7 +16,7 @@ use Rattle.job.specs.Limits as limit
 use Rattle.geometry.specs.declared.Rect.{Rect}
 use Rattle.store.specs.declared.boxed.Sides.{Sides}
 use Rattle.store.specs.Field.{Field, size, base, BOXES, BLOCK}
-use Rattle.store.specs.Words.{Store, cell, put, view, Write, onWords}
+use Rattle.store.specs.Words.{cell, put, view, Write, onWords}
 use Rattle.store.specs.Stores.{Within}
 use Rattle.store.specs.Value.{wordOf}
 use Rattle.store.specs.Boxes.{sideAt, sidesAt, setSides, rectOf, sidesOf}

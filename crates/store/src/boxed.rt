@@ -7,7 +7,7 @@ ghost use Prim.Native.Nat.{_<_, _≤_, _^_};
 ghost use lib.ListN.{length, set};
 ghost use Rattle.job.specs.Limits as limit;
 ghost use Rattle.store.specs.Field.{BLOCK};
-ghost use Rattle.store.specs.Boxes.{sideAt, sidesAt, setSides};
+ghost use Rattle.store.specs.Boxes.{sidesAt, setSides};
 ghost use Rattle.store.specs.Needs.{Small};
 
 // A box by its words: the least x and y and the greatest, raised as coordinates are.

@@ -15,7 +15,7 @@ use Rattle.job.specs.declared.refusal.Refusal.the-variants.{SmallTray}
 use Rattle.geometry.specs.declared.Rect.{Rect}
 use Rattle.store.specs.declared.boxed.Sides.{Sides}
 use Rattle.store.specs.Field.{rc, FIRST, NONE, BLOCK}
-use Rattle.store.specs.Words.{cell, view}
+use Rattle.store.specs.Words.{cell}
 use Rattle.store.specs.Named.{recordsOf}
 use Rattle.store.specs.Good.{SoundWords}
 use Rattle.store.specs.Boxes.{sidesAt, rectOf}
@@ -27,7 +27,7 @@ use Rattle.paths.specs.Tray.{padded}
 use Rattle.windows.specs.declared.Found.{Found}
 use Rattle.windows.specs.declared.Found.the-variants.{Records, Refused}
 use Rattle.windows.specs.Window.{boxMeets}
-use Rattle.windows.specs.RecordsIn.{isIn, once, passing, allIn, Placed, placed, placeIf, found, recordsBy, recordsIn}
+use Rattle.windows.specs.RecordsIn.{isIn, once, passing, allIn, placed, placeIf, found, recordsBy, recordsIn}
 use Rattle.windows.specs.Needs.{Counted, Listable, Roomy, CountedTo, ListedTo}
 use Rattle.windows.proofs.Passing.{passing-length, passing-few, passing-up}
 

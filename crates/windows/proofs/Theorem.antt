@@ -10,23 +10,19 @@ use native.Mathlib.Decide.{decLt}
 use lib.ListN.{length}
 use borrow.Author.Tests.{lt-ltb, le-ltb}
 use Rattle.job.specs.Limits as limit
-use Rattle.job.specs.declared.refusal.Refusal.the-variants.{SmallTray}
 use Rattle.rings.specs.Count.{occ}
 use Rattle.geometry.specs.declared.Rect.{Rect}
-use Rattle.geometry.specs.Box.{boxOf}
 use Rattle.store.specs.Words.{view}
 use Rattle.store.specs.Sound.{recs, ringless, ringAt}
 use Rattle.store.specs.Value.{pointAt}
 use Rattle.store.specs.Boxes.{boxAt, ringBox}
 use Rattle.audit.specs.declared.Verdict.{Verdict}
 use Rattle.audit.specs.declared.Verdict.the-variants as verdict
-use Rattle.audit.specs.Handed.{Usable, handedOf}
+use Rattle.audit.specs.Handed.{Usable}
 use Rattle.audit.proofs.Handing.{usable-handed}
-use Rattle.paths.specs.Tray.{padded}
-use Rattle.windows.specs.declared.Found.the-variants.{Records, Refused}
 use Rattle.windows.specs.Window.{boxMeets, insideOut}
-use Rattle.windows.specs.RecordsIn.{isIn, once, passing, allIn, found, listing, recordsBy, recordsIn}
-use Rattle.windows.specs.Windows.{Shared, ringMeets, Rising, Windows}
+use Rattle.windows.specs.RecordsIn.{isIn, once, passing, allIn, listing, recordsBy, recordsIn}
+use Rattle.windows.specs.Windows.{Shared, ringMeets, Windows}
 use Rattle.windows.proofs.Passing.{passing-few, passing-past, passing-here, passing-rises, passing-same, passing-none}
 use Rattle.windows.proofs.Meeting.{meets-means, inside-out}
 
