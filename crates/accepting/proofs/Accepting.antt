@@ -25,7 +25,7 @@ use Rattle.audit.specs.declared.Verdict.{Verdict}
 use Rattle.audit.specs.declared.Verdict.the-variants as verdict
 use Rattle.rows.specs.Rows.{unnamed, rowsOf}
 use Rattle.rows.specs.Found.{Filled}
-use Rattle.audit.proofs.Trying.{or-left, or-right}
+use Rattle.audit.proofs.Testing.{or-left, or-right}
 use Rattle.rows.proofs.Readiness.{clear, chain-ends, ready}
 use Rattle.accepting.specs.Accept.{answer, judgeOf, judged, acceptOf}
 use Rattle.accepting.specs.Accepted.{Accepted}

@@ -23,7 +23,7 @@ use Rattle.store.specs.Boxes.{setSides, ringBox, misboxed, boxedAt}
 use Rattle.store.specs.Value.{wordOf}
 use Rattle.audit.specs.declared.Verdict.the-variants.{Passed}
 use Rattle.audit.specs.Tests.{anyBelow, reach, reachedBy, testsOf}
-use Rattle.audit.specs.Handed.{anyMisboxed, keptTwice, testedOf, handedOf}
+use Rattle.handed.specs.Handed.{anyMisboxed, keptTwice, testedOf, handedOf}
 use Rattle.acts.specs.InStep.{Holds, no-ring, an-open, a-closed}
 use Rattle.acts.specs.Step.{answerS, stepW}
 use Rattle.turns.specs.Form.{raised}

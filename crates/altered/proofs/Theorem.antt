@@ -14,8 +14,8 @@ use Rattle.store.specs.Field.{ct, SETTINGS, BLOCK}
 use Rattle.store.specs.Words.{Store, view}
 use Rattle.store.specs.Value.{preserveCollinear}
 use Rattle.audit.specs.declared.Verdict.the-variants as verdict
-use Rattle.audit.specs.Handed.{handedOf, Usable}
-use Rattle.audit.proofs.Handing.{handed-usable}
+use Rattle.handed.specs.Handed.{handedOf, Usable}
+use Rattle.handed.proofs.Handing.{handed-usable}
 use Rattle.acts.specs.Step.{stepW}
 use Rattle.acts.specs.Run.{stepS}
 use Rattle.acts.specs.InStep.{InStep}

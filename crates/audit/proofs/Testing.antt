@@ -27,6 +27,21 @@ use Rattle.audit.specs.declared.RecordTest.{RecordTest}
 use Rattle.audit.specs.Tests.{isIn, anyBelow, anyRecord, crowded, offTable, noSuch, loose, namesNothing, noSuchOf, misplaced, testsOf, lostTaker, untold}
 use Rattle.audit.specs.Marks.{isMarked, markFrom, marksBy, meets, AllMarked, faulty, fails, failsOf, anyMarked, linksOf, passesOf}
 
+-- ---- tests that fail, and that do not
+
+pub clash : {A : Type 0} {b : Bool} → b ≡ true → b ≡ false → A
+clash e f = absurd (let z : _≡_ {A = ℕ} 0 1 = cc in omega arith)
+
+pub or-parts : (a b : Bool) → (a || b) ≡ false → (a ≡ false) × (b ≡ false)
+or-parts false b e = (refl, e)
+or-parts true b e = clash refl e
+
+pub or-left : (a b : Bool) → (a || b) ≡ false → a ≡ false
+or-left a b e = or-parts a b e .0
+
+pub or-right : (a b : Bool) → (a || b) ≡ false → b ≡ false
+or-right a b e = or-parts a b e .1
+
 -- ---- the first number below n that fails
 
 module _ (q : ℕ → Bool) where

@@ -1,5 +1,4 @@
--- The tests of a handed work space, the marks that the code keeps for them, what a call finds out first, and what it leaves.
+-- The tests of the live block of a work space, the marks that the code keeps for them, and what a call leaves.
 pub mod Tests
 pub mod Marks
-pub mod Handed
 pub mod Left

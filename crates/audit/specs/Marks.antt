@@ -1,24 +1,17 @@
--- The tests as the code goes through them: one mark for each point, set by the walks; the rounds, which gather the rings' boxes too; and a test by its name.
+-- The tests as the code goes through them in order: one mark for each point, set by the walks; and a test by its name.
 use Prim.Native.Nat.{ℕ, zero, suc, _≤_}
 use mathlib.Core.Path.{_≡_}
-use mathlib.Core.Bool.{Bool, true, false, cond, not, _&&_, _||_}
+use mathlib.Core.Bool.{Bool, false, cond, not, _&&_, _||_}
 use mathlib.Core.List.{List}
-use mathlib.Core.Option.{some}
 use lib.Dec.{eqb, ltb}
 use lib.ListN.{length, getD, set}
 use Rattle.job.specs.Limits as limit
 use Rattle.job.specs.declared.refusal.Refusal.the-variants.{OffTheTable, NoSuch, Loose, Muddled}
 use Rattle.audit.specs.declared.Verdict.{Verdict}
 use Rattle.audit.specs.declared.Verdict.the-variants.{Passed, Refused}
-use Rattle.store.specs.declared.boxed.Sides.{Sides}
 use Rattle.store.specs.Field.{BLOCK}
-use Rattle.store.specs.Words.{view}
-use Rattle.store.specs.Sound.{isOpen}
-use Rattle.store.specs.Boxes.{rectOf, misboxed}
-use Rattle.store.specs.Named.{pointsOf, recordsOf, nextOf, prevOf, recOf, firstOf, progressOf, ringOf}
-use Rattle.bounds.specs.Along.{boxFrom}
-use Rattle.audit.specs.Handed.{anyMisboxed}
-use Rattle.audit.specs.Tests.{isIn, anyBelow, anyRecord, offTable, noSuch, loose, noSuchOf, lostTaker, misplaced, untold, testsOf}
+use Rattle.store.specs.Named.{pointsOf, recordsOf, nextOf, prevOf, recOf, firstOf}
+use Rattle.audit.specs.Tests.{anyBelow, anyRecord, offTable, noSuch, loose, noSuchOf, lostTaker, misplaced, untold}
 use Rattle.audit.specs.declared.PointTest.{PointTest}
 use Rattle.audit.specs.declared.PointTest.the-variants.{Table, Numbers, Links}
 use Rattle.audit.specs.declared.RecordTest.{RecordTest}
@@ -70,52 +63,6 @@ faulty w k =
     not (ltb (nextOf w k) (pointsOf w))
     || (not (ltb (recOf w k) (recordsOf w)) || (not (eqb (prevOf w (nextOf w k)) k) || offTable w k))
 
--- each point that was marked since passes
-pub record Tried (w ms ms′ : List ℕ) : Type 0 where
-  pub good : (k : ℕ) → isMarked ms′ k ≡ true → isMarked ms k ≡ false → faulty w k ≡ false
-
--- what is known where a look found nothing
-pub record Unless (found : Bool) (P : Type 0) : Type 0 where
-  pub none : found ≡ false → P
-
--- `misplaced` of a record with a ring, where it is known whether its present place is on it
-abbrev pub misplacedIf : List ℕ → ℕ → Bool → Bool
-misplacedIf w i on = not (isOpen (view w) i) && (ltb 4 (progressOf w i) || (ltb (progressOf w i) 4 && not on))
-
--- a record fails one of its four
-abbrev pub faultyOf : List ℕ → ℕ → Bool
-faultyOf w i = noSuchOf w i || (lostTaker w i || (misplaced w i || untold w i))
-
--- what a round from a that looks for k comes to: its points are marked and pass, e is whether k is on the ring that starts there, and b is its box
-pub record Rounded (w ms : List ℕ) (a k : ℕ) (ms′ : List ℕ) (e : Bool) (b : Sides) : Type 0 where
-  pub marks : ms′ ≡ markFrom limit.POINTS (nextOf w) (pointsOf w) ms a
-  pub tried : Tried w ms ms′
-  pub met : e ≡ isIn k (ringOf w a)
-  pub box : boxFrom (view w) a ≡ some (rectOf b)
-
--- the points of record i's ring pass, its progress has a meaning, and its box stands beside it
-pub record RingPassed (w ms : List ℕ) (i : ℕ) (ms′ : List ℕ) : Type 0 where
-  pub marks : ms′ ≡ markFrom limit.POINTS (nextOf w) (pointsOf w) ms (firstOf w i)
-  pub tried : Tried w ms ms′
-  pub placed : misplaced w i ≡ false
-  pub boxed : misboxed w i ≡ false
-
--- record i passes, and its ring is no earlier record's
-pub record RecordPassed (w ms : List ℕ) (i : ℕ) (ms′ : List ℕ) : Type 0 where
-  pub marks : ms′ ≡ markFrom limit.POINTS (nextOf w) (pointsOf w) ms (firstOf w i)
-  pub apart : isMarked ms (firstOf w i) ≡ false
-  pub tried : Tried w ms ms′
-  pub fit : faultyOf w i ≡ false
-  pub boxed : misboxed w i ≡ false
-
--- so of the records below i
-pub record RecordsPassed (w ms : List ℕ) (i : ℕ) (ms′ : List ℕ) : Type 0 where
-  pub marks : ms′ ≡ marksBy w ms i
-  pub apart : anyBelow i (meets w ms) ≡ false
-  pub tried : Tried w ms ms′
-  pub fit : anyBelow i (faultyOf w) ≡ false
-  pub boxed : anyBelow i (misboxed w) ≡ false
-
 abbrev pub failsOf : RecordTest → List ℕ → ℕ → Bool
 failsOf Named w i = noSuchOf w i
 failsOf Taken w i = lostTaker w i
@@ -135,8 +82,3 @@ linksOf w ms shares =
 
 abbrev pub passesOf : List ℕ → List ℕ → Bool → Verdict
 passesOf w ms shares = cond (anyMarked w ms Table) (Refused OffTheTable) (linksOf w ms shares)
-
--- what a look at everything at once finds: if nothing fails, the work space passes and each ring's box stands beside it
-pub record Looked (w : List ℕ) (r : Bool) : Type 0 where
-  pub passes : r ≡ true → testsOf w ≡ Passed
-  pub boxed : r ≡ true → anyMisboxed w ≡ false

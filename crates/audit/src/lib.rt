@@ -1,13 +1,8 @@
-// The tests of a handed work space: read only, linear in points and records.
-mod boxes;
-mod names;
-mod points;
-mod records;
-mod rounds;
+// The tests of the live block of a work space, in their order: read only, linear in points and records.
+pub mod points;
+pub mod records;
 mod walks;
 
-use crate::boxes::last_tested;
-use crate::names::names_tested;
 use crate::points::loose;
 use crate::points::no_such;
 use crate::points::off_table;
@@ -15,27 +10,21 @@ use crate::records::lost_taker;
 use crate::records::misplaced;
 use crate::records::no_such_of;
 use crate::records::untold;
-use crate::rounds::any_bad_record;
 use crate::walks::any_marked;
 use crate::walks::mark_all;
 use job::Job;
 use job::refusal::Refusal;
 use store::Col;
-use store::LENGTH;
 use store::get;
 ghost use mathlib.Core.Path.{_≡_};
 ghost use mathlib.Core.Bool.{_||_};
 ghost use Prim.Native.Nat.{_≤_};
 ghost use lib.ListN.{length};
-ghost use Rattle.store.specs.Field.{BLOCK, LENGTH};
+ghost use Rattle.store.specs.Field.{BLOCK};
 ghost use Rattle.store.specs.Named.{recordsOf};
 ghost use Rattle.audit.specs.Tests.{anyBelow, noSuchOf, lostTaker, misplaced, untold, crowded, anyRecord, testsOf};
 ghost use Rattle.audit.specs.declared.PointTest.the-variants.{Numbers};
-ghost use Rattle.audit.specs.Handed.{testedOf, handedOf};
-ghost use Rattle.audit.specs.Marks.{Counted, Clear, Looked, fails, failsOf, anyMarked, linksOf, passesOf};
-
-// As many points as a small array has marks for: zeros for all that a job may have would cost a small one more than its tests.
-const FEW: usize = 64;
+ghost use Rattle.audit.specs.Marks.{Counted, fails, failsOf, anyMarked, linksOf, passesOf};
 
 // What the tests of a work space say.
 pub enum Verdict {
@@ -65,7 +54,7 @@ pub enum RecordTest {
 }
 
 // Whether a count is above its limit.
-fn crowded(w: &[u32]) -> bool
+pub fn crowded(w: &[u32]) -> bool
     requires { ⌜ BLOCK ≤ length (now w) ⌝ }
     ensures { λ r. ⌜ r ≡ crowded (now (w .entry)) ⌝ }
 {
@@ -189,7 +178,7 @@ fn passes_of(w: &[u32], marks: &[u8], shares: bool) -> Verdict
 }
 
 // The tests after the counts, in their order.
-fn in_order(w: &[u32]) -> Verdict
+pub fn in_order(w: &[u32]) -> Verdict
     requires { ⌜ Counted (now w) ⌝ }
     ensures { λ r. ⌜ r ≡ testsOf (now (w .entry)) ⌝ }
 {
@@ -208,65 +197,4 @@ pub fn tests_of(w: &[u32]) -> Verdict
         return Verdict::Refused(Refusal::Crowded);
     }
     in_order(w)
-}
-
-// ---- all tests at once
-
-// Whether no record has anything that fails.
-fn none_found(w: &[u32], marks: &mut [u8]) -> bool
-    requires { ⌜ Counted (now w) × Clear (now w) (now marks) ⌝ }
-    ensures { λ r. ⌜ Looked (now (w .entry)) r ⌝ }
-{
-    let bad = any_bad_record(w, marks);
-    !bad
-}
-
-// The same, with marks of its own.
-fn is_good(w: &[u32]) -> bool
-    requires { ⌜ Counted (now w) ⌝ }
-    ensures { λ r. ⌜ Looked (now (w .entry)) r ⌝ }
-{
-    let m = get(w, Col::Points, 0);
-    if m <= FEW {
-        let mut marks = [0u8; FEW];
-        return none_found(w, &mut marks);
-    }
-    let mut marks = [0u8; Job::POINTS];
-    none_found(w, &mut marks)
-}
-
-// ---- what a call asks first
-
-// The tests of a work space that is long enough: its counts; its live block and its boxes at once, and in their order only where something fails; then its names.
-pub fn tested(w: &[u32]) -> Verdict
-    requires { ⌜ LENGTH ≤ length (now w) ⌝ }
-    ensures { λ r. ⌜ r ≡ testedOf (now (w .entry)) ⌝ }
-{
-    let many = crowded(w);
-    if many {
-        return Verdict::Refused(Refusal::Crowded);
-    }
-    let good = is_good(w);
-    if good {
-        return names_tested(w);
-    }
-    let verdict = in_order(w);
-    match verdict {
-        Verdict::Passed => {
-            return last_tested(w);
-        }
-        Verdict::Refused(r) => {
-            return Verdict::Refused(r);
-        }
-    }
-}
-
-// What every call on an opened work space asks first: its length, then its tests.
-pub fn handed(w: &[u32]) -> Verdict
-    ensures { λ r. ⌜ r ≡ handedOf (now (w .entry)) ⌝ }
-{
-    if w.len() < LENGTH {
-        return Verdict::Refused(Refusal::Full);
-    }
-    tested(w)
 }

@@ -14,7 +14,7 @@ use Rattle.store.specs.Sound.{recs}
 use Rattle.store.specs.Value.{preserveCollinear}
 use Rattle.store.specs.Boxes.{sidesAt, boxedAt}
 use Rattle.bounds.proofs.Beside.{view-boxed, length-boxed}
-use Rattle.audit.specs.Handed.{Usable}
+use Rattle.handed.specs.Handed.{Usable}
 use Rattle.acts.specs.Step.{outcome, live, answerS, stepByW, stepW}
 use Rattle.acts.specs.Run.{stepWords}
 use Rattle.acts.proofs.Stepping.{able, length-step, stepW-sound}

@@ -10,7 +10,7 @@ ghost use Rattle.store.specs.Boxes.{boxedAt};
 ghost use Rattle.turns.specs.Reads.{Steps};
 ghost use Rattle.acts.specs.Step.{outcome};
 ghost use Rattle.steps.specs.Code.{answerIs};
-ghost use Rattle.audit.specs.Handed.{Usable};
+ghost use Rattle.handed.specs.Handed.{Usable};
 ghost use Rattle.boxed_steps.specs.Leaves.{boxedStep};
 ghost use Rattle.boxed_steps.specs.Needs.{Unchanged, Boxable};
 

@@ -3,7 +3,7 @@ use Prim.Native.Nat.{ℕ}
 use mathlib.Core.Path.{_≡_}
 use mathlib.Core.List.{List}
 use Rattle.store.specs.Boxes.{ringBox}
-use Rattle.audit.proofs.Handing.{handed-usable}
+use Rattle.handed.proofs.Handing.{handed-usable}
 use Rattle.opening.specs.declared.open.Opened.the-variants.{Accepted}
 use Rattle.opening.specs.Open.{end, openOf}
 use Rattle.order.specs.Calls.{wordsAfter}

@@ -14,8 +14,8 @@ use Rattle.store.specs.Value.{preserveCollinear}
 use Rattle.bounds.proofs.Beside.{view-boxed}
 use Rattle.audit.specs.declared.Verdict.{Verdict}
 use Rattle.audit.specs.declared.Verdict.the-variants.{Passed, Refused}
-use Rattle.audit.specs.Handed.{handedOf}
-use Rattle.audit.proofs.Handing.{handed-sound}
+use Rattle.handed.specs.Handed.{handedOf}
+use Rattle.handed.proofs.Handing.{handed-sound}
 use Rattle.acts.specs.Step.{answerS, stepW}
 use Rattle.acts.proofs.Stepping.{stepW-sound}
 use Rattle.turns.specs.Form.{raised, geometryOf}

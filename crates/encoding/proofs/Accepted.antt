@@ -31,7 +31,7 @@ use Rattle.joins.proofs.Finding.{at-home}
 use Rattle.owners.specs.Owners.{endsIn}
 use Rattle.visits.specs.Rings.{onRing}
 use Rattle.rows.specs.Rows.{onOpen}
-use Rattle.audit.proofs.Trying.{or-left, or-right}
+use Rattle.audit.proofs.Testing.{or-left, or-right}
 use Rattle.rows.proofs.Homes.{named-at}
 use Rattle.accepting.specs.Accepted.{Accepted}
 use Rattle.drawing.specs.Drawing.{Drawn, Drawing, drawnAt, spotOf, drawingOf}

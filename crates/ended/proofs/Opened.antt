@@ -19,7 +19,7 @@ use Rattle.reading.specs.declared.fill.Outcome.the-variants as outcome
 use Rattle.reading.specs.Fill as fill
 use Rattle.reading.specs.Fill.{reasonRead}
 use Rattle.rows.specs.Rows.{onOpen}
-use Rattle.audit.proofs.Trying.{or-left, or-right}
+use Rattle.audit.proofs.Testing.{or-left, or-right}
 use Rattle.accepting.specs.Accept.{acceptOf}
 use Rattle.accepting.specs.Accepted as accepting
 use Rattle.converting.specs.declared.pairs.Converted.the-variants as converted

@@ -16,7 +16,7 @@ use Rattle.store.specs.Reason.{NO-RING, JOINED, discardOf}
 use Rattle.store.specs.Sound.{recs, ringless, isOpen}
 use Rattle.store.specs.Value.{reverseSolution}
 use Rattle.audit.specs.declared.Verdict.the-variants.{Passed}
-use Rattle.audit.specs.Handed.{handedOf}
+use Rattle.handed.specs.Handed.{handedOf}
 use Rattle.steps.specs.Live.{anyLive}
 use Rattle.paths.specs.Path.{pathAt, pathIf, listed, smallBy, pathEnd, pathsBelow}
 use Rattle.telling.specs.declared.Reason.the-variants.{NoRing, Joined, ShortPath, SmallPath, Written}

@@ -20,8 +20,8 @@ use Rattle.store.specs.States.{isName, nameAt, Apart, blockOf}
 use Rattle.store.specs.Value.{preserveCollinear}
 use Rattle.audit.specs.declared.Verdict.{Verdict}
 use Rattle.audit.specs.declared.Verdict.the-variants as verdict
-use Rattle.audit.specs.Handed.{handedOf, Usable}
-use Rattle.audit.proofs.Handing.{usable-handed, handed-usable}
+use Rattle.handed.specs.Handed.{handedOf, Usable}
+use Rattle.handed.proofs.Handing.{usable-handed, handed-usable}
 use Rattle.acts.specs.Apply.{Coding}
 use Rattle.acts.specs.Laws.{Laws}
 use Rattle.bounds.proofs.Beside.{view-boxed, length-boxed, boxed-move}

@@ -9,8 +9,8 @@ use Rattle.store.specs.Words.{view}
 use Rattle.store.specs.Good.{SoundWords}
 use Rattle.audit.specs.declared.Verdict.{Verdict}
 use Rattle.audit.specs.declared.Verdict.the-variants as verdict
-use Rattle.audit.specs.Handed.{handedOf, Usable}
-use Rattle.audit.proofs.Handing.{handed-sound, handed-usable}
+use Rattle.handed.specs.Handed.{handedOf, Usable}
+use Rattle.handed.proofs.Handing.{handed-sound, handed-usable}
 use Rattle.acts.specs.Step.{outcome, answerS}
 use Rattle.turns.specs.Form.{raised, geometryOf}
 use Rattle.steps.specs.declared.Answer as code

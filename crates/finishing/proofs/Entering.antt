@@ -8,7 +8,7 @@ use Rattle.lone.specs.Forest.{Answer, ok, full, outOfTurn}
 use Rattle.store.specs.Words.{view}
 use Rattle.audit.specs.declared.Verdict.{Verdict}
 use Rattle.audit.specs.declared.Verdict.the-variants as verdict
-use Rattle.audit.specs.Handed.{handedOf}
+use Rattle.handed.specs.Handed.{handedOf}
 use Rattle.acts.specs.Step.{answerS}
 use Rattle.turns.specs.Form.{raised, geometryOf}
 use Rattle.audit.specs.declared.Reply.the-variants.{Refused}

@@ -23,8 +23,8 @@ use Rattle.audit.specs.declared.Verdict.{Verdict}
 use Rattle.audit.specs.declared.Verdict.the-variants as verdict
 use Rattle.audit.specs.Tests.{anyReached, anyRecord, offTable, noSuch, noSuchOf, lostTaker, loose, shared, misplaced, untold, testsOf}
 use Rattle.audit.specs.Tests as tests
-use Rattle.audit.specs.Handed.{anyMisboxed, boxesTested, keptTwice, namesTested, testedOf, handedOf}
-use Rattle.audit.proofs.Handing.{handed-sound}
+use Rattle.handed.specs.Handed.{anyMisboxed, boxesTested, keptTwice, namesTested, testedOf, handedOf}
+use Rattle.handed.proofs.Handing.{handed-sound}
 use Rattle.reading.specs.declared.fill.Outcome.the-variants as outcome
 use Rattle.reading.specs.Fill as fill
 use Rattle.reading.specs.Fill.{placed, taken, turnOf, follow, run, fillOf}

@@ -19,7 +19,7 @@ use Rattle.store.specs.Words.{view}
 use Rattle.store.specs.Sound.{pts, recs, ringAt, dueAt, loneDue, loneAt}
 use Rattle.store.specs.Sound as store
 use Rattle.store.proofs.Soundness.{whole, from-first}
-use Rattle.audit.specs.Handed.{Usable}
+use Rattle.handed.specs.Handed.{Usable}
 use Rattle.acts.specs.Opened.{records}
 use Rattle.acts.specs.InStep.{Holds, no-ring, an-open, a-closed}
 use Rattle.acts.specs.Rep.{RepW}

@@ -6,7 +6,7 @@ use Rattle.job.specs.declared.refusal.Refusal.the-variants.{OutOfTurn}
 use Rattle.store.specs.Words.{view}
 use Rattle.audit.specs.declared.Verdict.{Verdict}
 use Rattle.audit.specs.declared.Verdict.the-variants as verdict
-use Rattle.audit.specs.Handed.{handedOf}
+use Rattle.handed.specs.Handed.{handedOf}
 use Rattle.steps.specs.Live.{anyLive}
 use Rattle.paths.specs.declared.Written.the-variants.{Refused}
 use Rattle.paths.specs.Wrote.{Wrote, wrote, buildPaths64}

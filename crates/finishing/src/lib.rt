@@ -3,8 +3,8 @@ pub mod finish;
 
 use audit::Reply;
 use audit::Verdict;
-use audit::handed;
 use boxed_steps::step_record;
+use handed::handed;
 use job::refusal::Refusal;
 use opening::open::Opened;
 use paths::Written;
@@ -15,7 +15,7 @@ ghost use mathlib.Core.Path.{_≡_};
 ghost use Prim.Native.Nat.{_+_, _<_};
 ghost use Rattle.store.specs.Good.{SoundWords};
 ghost use Rattle.audit.specs.declared.Verdict.the-variants.{Passed};
-ghost use Rattle.audit.specs.Handed.{Usable};
+ghost use Rattle.handed.specs.Handed.{Usable};
 ghost use Rattle.steps.specs.Code.{answerIs};
 ghost use Rattle.paths.specs.Wrote.{wrote};
 ghost use Rattle.opening.specs.Open.{end, openOf};

@@ -19,8 +19,8 @@ use Rattle.store.specs.Good.{Sound}
 use Rattle.store.specs.States.{isName, nameAt, Apart, blockOf, keptBlock}
 use Rattle.audit.specs.declared.Verdict.{Verdict}
 use Rattle.audit.specs.declared.Verdict.the-variants as verdict
-use Rattle.audit.specs.Handed.{handedOf, Usable}
-use Rattle.audit.proofs.Handing.{handed-usable, usable-handed}
+use Rattle.handed.specs.Handed.{handedOf, Usable}
+use Rattle.handed.proofs.Handing.{handed-usable, usable-handed}
 use Rattle.steps.specs.Live.{anyLive}
 use Rattle.finishing.specs.Step.{stepOf}
 use Rattle.finishing.proofs.Starting.{start-usable}

@@ -10,8 +10,8 @@ use Rattle.store.specs.Field.{BLOCK}
 use Rattle.store.specs.Words.{Store, view}
 use Rattle.store.specs.Sound.{recs, isOpen, dueAt, Closed}
 use Rattle.store.specs.States.{isName, blockOf}
-use Rattle.audit.specs.Handed.{handedOf}
-use Rattle.audit.proofs.Handing.{handed-usable}
+use Rattle.handed.specs.Handed.{handedOf}
+use Rattle.handed.proofs.Handing.{handed-usable}
 use Rattle.steps.specs.Live.{anyLive}
 use Rattle.paths.specs.declared.Written.{Written}
 use Rattle.paths.specs.declared.Written.the-variants.{Paths}

@@ -10,7 +10,7 @@ use Rattle.store.specs.Field.{STATES}
 use Rattle.store.specs.States.{isName, nameAt, blockOf}
 use Rattle.audit.specs.declared.Reply.{Reply}
 use Rattle.audit.specs.declared.Reply.the-variants.{Done, Refused}
-use Rattle.audit.specs.Handed.{Usable}
+use Rattle.handed.specs.Handed.{Usable}
 use Rattle.laying.specs.Lay.{layOf}
 use Rattle.finishing.specs.Start.{Start}
 use Rattle.order.specs.Calls.{Call, stepOn, writeTo, askOf, keepAs, backTo, dropName, layWith, wordsBy, wordsAfter}

@@ -11,7 +11,7 @@ use Rattle.store.specs.Words.{view}
 use Rattle.store.specs.States.{BYTES, wordOfName, isName, nameAt, blockOf, keptBlock}
 use Rattle.audit.specs.declared.Verdict.the-variants.{Passed}
 use Rattle.audit.specs.declared.Reply.the-variants.{Done, Refused}
-use Rattle.audit.specs.Handed.{handedOf}
+use Rattle.handed.specs.Handed.{handedOf}
 use Rattle.laying.specs.Lay.{layOf}
 use Rattle.finishing.specs.Start.{Start}
 use Rattle.finishing.specs.Step.{stepOf}

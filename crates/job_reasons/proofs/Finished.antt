@@ -4,7 +4,7 @@ use mathlib.Core.Path.{_≡_, sym, ap, _∙_, subst}
 use mathlib.Core.List.{List}
 use Rattle.store.specs.Words.{view}
 use Rattle.store.specs.Sound.{recs}
-use Rattle.audit.specs.Handed.{handedOf}
+use Rattle.handed.specs.Handed.{handedOf}
 use Rattle.steps.specs.Live.{anyLive}
 use Rattle.paths.specs.declared.Written.{Written}
 use Rattle.paths.specs.declared.Written.the-variants.{Paths}

@@ -10,7 +10,7 @@ use Rattle.job.specs.declared.refusal.Refusal.{Refusal}
 use Rattle.store.specs.Field.{BLOCK}
 use Rattle.store.specs.Words.{view}
 use Rattle.store.specs.Sound.{recs}
-use Rattle.audit.proofs.Handing.{handed-sound}
+use Rattle.handed.proofs.Handing.{handed-sound}
 use Rattle.paths.specs.declared.Written.{Written}
 use Rattle.paths.specs.declared.Written.the-variants.{Paths}
 use Rattle.paths.specs.declared.Written.the-variants as written

@@ -7,7 +7,7 @@ use Rattle.store.specs.Words.{Store, view}
 use Rattle.store.specs.Sound.{recs}
 use Rattle.steps.specs.Live.{anyLive}
 use Rattle.audit.specs.declared.Verdict.the-variants.{Passed}
-use Rattle.audit.specs.Handed.{handedOf}
+use Rattle.handed.specs.Handed.{handedOf}
 use Rattle.text.specs.Pour.{poured, pour}
 use Rattle.job_reasons.specs.Lines.{linesBelow}
 

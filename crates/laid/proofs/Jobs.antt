@@ -15,8 +15,8 @@ use Rattle.store.specs.Sound.{pts, recs, ringless, isOpen}
 use Rattle.store.specs.Reason.{JOINED}
 use Rattle.audit.proofs.Saying.{all-none}
 use Rattle.audit.specs.declared.Verdict.the-variants.{Passed}
-use Rattle.audit.specs.Handed.{testedOf}
-use Rattle.audit.proofs.Handing.{usable-handed, says-tested}
+use Rattle.handed.specs.Handed.{testedOf}
+use Rattle.handed.proofs.Handing.{usable-handed, says-tested}
 use Rattle.joins.specs.Resolved.{Emptied}
 use Rattle.opening.specs.declared.open.Opened.the-variants.{Accepted}
 use Rattle.opening.specs.Open.{end, openOf}

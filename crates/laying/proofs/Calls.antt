@@ -18,11 +18,11 @@ use Rattle.store.specs.Good.{Sound, SoundWords}
 use Rattle.store.specs.Reason.{JOINED}
 use Rattle.audit.specs.declared.Verdict.{Verdict}
 use Rattle.audit.specs.declared.Verdict.the-variants as verdict
-use Rattle.audit.specs.Handed.{testedOf}
+use Rattle.handed.specs.Handed.{testedOf}
 use Rattle.audit.specs.Left.{left}
 use Rattle.audit.specs.declared.Reply.{Reply}
 use Rattle.audit.specs.declared.Reply.the-variants.{Done, Refused}
-use Rattle.audit.proofs.Handing.{says-tested, handed-sound}
+use Rattle.handed.proofs.Handing.{says-tested, handed-sound}
 use Rattle.pooling.specs.declared.Used.{Used}
 use Rattle.pooling.specs.Pooled.{usedIn}
 use Rattle.pooling.specs.Words.{layAll}

@@ -19,9 +19,9 @@ use Rattle.audit.specs.declared.Verdict.{Verdict}
 use Rattle.audit.specs.declared.Verdict.the-variants as verdict
 use Rattle.audit.specs.declared.Reply.{Reply}
 use Rattle.audit.specs.declared.Reply.the-variants.{Done, Refused}
-use Rattle.audit.specs.Handed.{testedOf, Usable}
+use Rattle.handed.specs.Handed.{testedOf, Usable}
 use Rattle.audit.specs.Left.{Left, left}
-use Rattle.audit.proofs.Handing.{says-tested, handed-usable, usable-handed}
+use Rattle.handed.proofs.Handing.{says-tested, handed-usable, usable-handed}
 use Rattle.pooling.specs.Pooled.{usedIn}
 use Rattle.pooling.specs.Words.{layAll, pooledWords}
 use Rattle.laying.specs.Lay.{settingsByte, settingsDiffer, anyStepped, crowd, layRoom, layTested, laySecond, layBy, layOf}

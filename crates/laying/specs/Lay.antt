@@ -15,7 +15,7 @@ use Rattle.audit.specs.declared.Verdict.{Verdict}
 use Rattle.audit.specs.declared.Verdict.the-variants as verdict
 use Rattle.audit.specs.declared.Reply.the-variants.{Done, Refused}
 use Rattle.audit.specs.Tests.{anyBelow}
-use Rattle.audit.specs.Handed.{testedOf}
+use Rattle.handed.specs.Handed.{testedOf}
 use Rattle.audit.specs.Left.{Left, left}
 use Rattle.pooling.specs.Words.{pooledWords}
 

@@ -1,7 +1,7 @@
 // Two drawings on one table: the second's points and records after the first's, in the first's work space.
 use audit::Reply;
 use audit::Verdict;
-use audit::tested;
+use handed::tested;
 use job::Job;
 use job::refusal::Refusal;
 use pooling::Used;

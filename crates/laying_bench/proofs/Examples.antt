@@ -15,7 +15,7 @@ use Rattle.store.specs.Boxes.{sidesAt, setSides, ringBox, misboxed}
 use Rattle.audit.specs.declared.Reply.{Reply}
 use Rattle.audit.specs.declared.Reply.the-variants.{Done, Refused}
 use Rattle.audit.specs.Tests.{anyBelow, reach, reachedBy, testsOf}
-use Rattle.audit.specs.Handed.{anyMisboxed, keptTwice, testedOf}
+use Rattle.handed.specs.Handed.{anyMisboxed, keptTwice, testedOf}
 use Rattle.pooling.specs.Pooled.{raise, followed, pooled}
 use Rattle.pooling.specs.Words.{layColumn, laySides, layAll}
 use Rattle.laying.specs.Lay.{crowd, isStepped, anyStepped, layRoom, layTested, layOf}

@@ -20,7 +20,7 @@ use Rattle.audit.specs.Tests.{anyBelow, offTable, noSuch, noSuchOf, namesNothin
 use Rattle.audit.specs.declared.Verdict.the-variants as verdict
 use Rattle.audit.proofs.Saying.{none-of, all-none, on-table, table-on, such, such-not, Tied, tied, tied-not}
 use Rattle.rows.specs.Rows.{offTheTable, unnamed, noSuchNumber, looseLink, muddled, openEdge, rowsOf}
-use Rattle.audit.proofs.Trying.{or-left, or-right}
+use Rattle.audit.proofs.Testing.{or-left, or-right}
 use Rattle.accepting.specs.Accept.{answer, acceptOf}
 use Rattle.accepting.proofs.Accepting.{Whole, read-whole}
 use Rattle.mending.specs.Mend.{prevAt, lastBefore}

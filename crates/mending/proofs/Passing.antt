@@ -19,7 +19,7 @@ use Rattle.audit.specs.declared.Verdict.{Verdict}
 use Rattle.audit.specs.declared.Verdict.the-variants as verdict
 use Rattle.audit.proofs.Saying.{none-of, such}
 use Rattle.rows.specs.Rows.{offTheTable, noSuchNumber}
-use Rattle.audit.proofs.Trying.{or-left}
+use Rattle.audit.proofs.Testing.{or-left}
 use Rattle.accepting.proofs.Accepting.{Whole, read-whole}
 use Rattle.audit.specs.declared.Reply.{Reply}
 use Rattle.audit.specs.declared.Reply.the-variants as reply

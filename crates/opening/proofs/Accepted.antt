@@ -21,7 +21,7 @@ use Rattle.reading.specs.declared.fill.Outcome.the-variants as outcome
 use Rattle.reading.specs.Fill as fill
 use Rattle.visits.specs.Rings.{onRing}
 use Rattle.rows.specs.Rows.{onOpen}
-use Rattle.audit.proofs.Trying.{or-left, or-right}
+use Rattle.audit.proofs.Testing.{or-left, or-right}
 use Rattle.accepting.specs.Accept.{acceptOf}
 use Rattle.converting.specs.declared.pairs.Converted.the-variants as converted
 use Rattle.converting.specs.Make.{Made, made, convertHorzSegsToJoins}

@@ -15,7 +15,7 @@ use Rattle.store.specs.States.{isName, nameAt, Apart}
 use Rattle.store.specs.Named.{firstOf, recordsOf}
 use Rattle.store.specs.Boxes.{Boxed}
 use Rattle.bounds.proofs.Beside.{behind-all, set-boxed}
-use Rattle.audit.proofs.Handing.{usable-handed}
+use Rattle.handed.proofs.Handing.{usable-handed}
 use Rattle.reading.specs.declared.fill.Outcome.the-variants as outcome
 use Rattle.reading.specs.Fill as fill
 use Rattle.accepting.specs.Accept.{acceptOf}

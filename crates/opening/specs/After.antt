@@ -12,7 +12,7 @@ use Rattle.store.specs.Good.{Sound}
 use Rattle.store.specs.Boxes.{sidesAt, sidesOf, ringBox}
 use Rattle.store.specs.States.{isName, nameAt}
 use Rattle.audit.specs.declared.Verdict.the-variants as audit
-use Rattle.audit.specs.Handed.{handedOf}
+use Rattle.handed.specs.Handed.{handedOf}
 use Rattle.joins.specs.Resolved.{Ready}
 use Rattle.acts.specs.Opened.{Fresh}
 

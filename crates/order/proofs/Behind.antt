@@ -21,9 +21,9 @@ use Rattle.store.specs.Boxes.{sideAt, sidesAt, rectOf, ringBox, differs, misbox
 use Rattle.audit.specs.declared.Verdict.{Verdict}
 use Rattle.audit.specs.declared.Verdict.the-variants as verdict
 use Rattle.audit.specs.Tests.{isIn, anyBelow, reach, reachedBy, namesNothing, testsOf}
-use Rattle.audit.specs.Handed.{anyMisboxed, boxesTested, keptTwice, namesTested, testedOf, handedOf}
+use Rattle.handed.specs.Handed.{anyMisboxed, boxesTested, keptTwice, namesTested, testedOf, handedOf}
 use Rattle.audit.proofs.Agreeing.{passed-sound}
-use Rattle.audit.proofs.Handing.{handed-sound}
+use Rattle.handed.proofs.Handing.{handed-sound}
 use Rattle.laying.specs.Lay.{layOf}
 use Rattle.laying.proofs.Deciding.{lay-more, lay-second, lay-behind}
 use Rattle.acts.proofs.Beyond.{view-more}

@@ -21,7 +21,7 @@ use Rattle.rows.specs.Rows.{unnamed, noSuchNumber}
 use Rattle.rows.specs.Found.{Filled}
 use Rattle.owners.specs.Tables.{Long}
 use Rattle.owners.proofs.Following.{never, one-more, none-yet, long-end, long-hop, long-back, has-owner}
-use Rattle.audit.proofs.Trying.{or-left, or-right}
+use Rattle.audit.proofs.Testing.{or-left, or-right}
 
 -- a chain that ends has a length
 pub record Ends (w : List ℕ) (r : ℕ) : Type 0 where

@@ -19,7 +19,7 @@ use Rattle.owners.specs.Owners.{circles}
 use Rattle.visits.specs.Rings.{anyIn, onRing, alone, elsewhere, estranged}
 use Rattle.rows.specs.Rows.{muddled, onOpen, unnamed}
 use Rattle.rows.specs.Found.{Named}
-use Rattle.audit.proofs.Trying.{or-left, or-right}
+use Rattle.audit.proofs.Testing.{or-left, or-right}
 use Rattle.visits.proofs.Marking.{in-else}
 
 -- a test that holds of some number below n

@@ -17,7 +17,7 @@ use Rattle.visits.specs.Rings.{alone, estranged}
 use Rattle.rows.specs.Rows.{offTheTable, unnamed, noSuchNumber, looseLink, muddled, openEdge, rowsOf}
 use Rattle.rows.specs.Found.{firstRows, lastRows, faultyPoint, noSuchBeside, Filled, Named}
 use Rattle.visits.proofs.Chains.{none-chained}
-use Rattle.audit.proofs.Trying.{or-left, or-right}
+use Rattle.audit.proofs.Testing.{or-left, or-right}
 
 -- a loop that finds none
 pub none-found : (n : ℕ) (q : ℕ → Bool) (r : Bool) → r ≡ anyBelow n q → r ≡ false → anyBelow n q ≡ false

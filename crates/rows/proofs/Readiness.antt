@@ -35,7 +35,7 @@ use Rattle.owners.specs.Owners.{endsIn, circles}
 use Rattle.visits.specs.Rings.{alone, estranged}
 use Rattle.rows.specs.Rows.{offTheTable, unnamed, noSuchNumber, looseLink, muddled, openEdge, rowsOf}
 use Rattle.rows.specs.Found.{Filled, Clear}
-use Rattle.audit.proofs.Trying.{or-left, or-right}
+use Rattle.audit.proofs.Testing.{or-left, or-right}
 use Rattle.rows.proofs.Homes.{ring-home, has-home}
 
 -- a row that refuses was passed by a job that passes

@@ -10,8 +10,8 @@ use Rattle.job.specs.declared.refusal.Refusal.the-variants.{UnknownName, NoPlac
 use Rattle.store.specs.Field.{STATES, LENGTH}
 use Rattle.audit.specs.declared.Verdict.{Verdict}
 use Rattle.audit.specs.declared.Verdict.the-variants as verdict
-use Rattle.audit.specs.Handed.{handedOf}
-use Rattle.audit.proofs.Handing.{handed-usable}
+use Rattle.handed.specs.Handed.{handedOf}
+use Rattle.handed.proofs.Handing.{handed-usable}
 use Rattle.audit.specs.declared.Reply.{Reply}
 use Rattle.audit.specs.declared.Reply.the-variants.{Done, Refused}
 use Rattle.states.specs.Places.{placeOf, keepPlace}

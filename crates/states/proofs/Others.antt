@@ -13,9 +13,9 @@ use Rattle.store.specs.States.{nameAt, keptBlock}
 use Rattle.audit.specs.declared.Verdict.{Verdict}
 use Rattle.audit.specs.declared.Verdict.the-variants as verdict
 use Rattle.audit.specs.declared.Reply.the-variants.{Done, Refused}
-use Rattle.audit.specs.Handed.{handedOf}
+use Rattle.handed.specs.Handed.{handedOf}
 use Rattle.audit.specs.Left.{left}
-use Rattle.audit.proofs.Handing.{handed-usable}
+use Rattle.handed.proofs.Handing.{handed-usable}
 use Rattle.states.specs.Places.{placeOf, keepPlace}
 use Rattle.states.specs.Calls.{stored, restored, freed, keepBy, backBy, dropBy, keepOf, goBackOf, dropOf}
 use Rattle.states.proofs.Words.{stored-other, stored-others, restored-behind, freed-other, freed-copies}

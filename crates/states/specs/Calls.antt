@@ -10,7 +10,7 @@ use Rattle.store.specs.Field.{BLOCK, STATES, NAMES}
 use Rattle.store.specs.States.{wordOfName, copyAt, keptBlock}
 use Rattle.audit.specs.declared.Verdict.{Verdict}
 use Rattle.audit.specs.declared.Verdict.the-variants as verdict
-use Rattle.audit.specs.Handed.{handedOf}
+use Rattle.handed.specs.Handed.{handedOf}
 use Rattle.audit.specs.Left.{Left, left}
 use Rattle.audit.specs.declared.Reply.the-variants.{Done, Refused}
 use Rattle.states.specs.Places.{placeOf, keepPlace}

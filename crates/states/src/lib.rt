@@ -8,7 +8,7 @@ use crate::places::keep_place;
 use crate::places::place_of;
 use audit::Reply;
 use audit::Verdict;
-use audit::handed;
+use handed::handed;
 use job::refusal::Refusal;
 use store::STATES;
 use store::names::set_name_word;

@@ -10,8 +10,8 @@ use Rattle.job.specs.declared.refusal.Refusal.the-variants.{OutOfTurn}
 use Rattle.store.specs.Words.{view}
 use Rattle.audit.specs.declared.Verdict.{Verdict}
 use Rattle.audit.specs.declared.Verdict.the-variants as verdict
-use Rattle.audit.specs.Handed.{handedOf}
-use Rattle.audit.proofs.Handing.{handed-sound}
+use Rattle.handed.specs.Handed.{handedOf}
+use Rattle.handed.proofs.Handing.{handed-sound}
 use Rattle.paths.specs.declared.Written.{Written}
 use Rattle.paths.specs.declared.Written.the-variants.{Paths, Refused}
 use Rattle.paths.specs.Wrote.{Wrote, wrote, buildPaths64}

@@ -19,8 +19,8 @@ use Rattle.store.specs.Good.{Sound}
 use Rattle.store.specs.Value.{reverseSolution}
 use Rattle.audit.specs.declared.Verdict.{Verdict}
 use Rattle.audit.specs.declared.Verdict.the-variants as verdict
-use Rattle.audit.specs.Handed.{handedOf}
-use Rattle.audit.proofs.Handing.{handed-sound}
+use Rattle.handed.specs.Handed.{handedOf}
+use Rattle.handed.proofs.Handing.{handed-sound}
 use Rattle.steps.specs.Live.{anyLive}
 use Rattle.paths.specs.declared.PathEnd.{PathEnd}
 use Rattle.paths.specs.declared.PathEnd.the-variants.{Short, Small, Points}

@@ -1,6 +1,6 @@
 // Where a record's ring went: one of eight reasons, told of a work space whose closed rings are all done. `reason_of` has no `requires`.
 use audit::Verdict;
-use audit::handed;
+use handed::handed;
 use job::refusal::Refusal;
 use paths::PathEnd;
 use paths::is_open;

@@ -18,7 +18,7 @@ use Rattle.store.specs.Sound.{recs}
 use Rattle.store.specs.Value.{preserveCollinear}
 use Rattle.audit.specs.declared.Verdict.{Verdict}
 use Rattle.audit.specs.declared.Verdict.the-variants as verdict
-use Rattle.audit.specs.Handed.{handedOf}
+use Rattle.handed.specs.Handed.{handedOf}
 use Rattle.steps.specs.Live.{anyLive}
 use Rattle.acts.specs.Finish.{RingsEnd, ringsDone, ringsFull, finishW}
 use Rattle.paths.specs.declared.Written.the-variants.{Paths, Refused}

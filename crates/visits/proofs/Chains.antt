@@ -16,7 +16,7 @@ use Rattle.audit.specs.Tests.{anyBelow}
 use Rattle.audit.proofs.Saying.{none-of, all-none}
 use Rattle.joins.specs.Resolve.{findIn}
 use Rattle.owners.specs.Owners.{endsIn, circles, chained}
-use Rattle.audit.proofs.Trying.{or-right}
+use Rattle.audit.proofs.Testing.{or-right}
 
 module _ (owner : ℕ → ℕ) (q : ℕ) (F : Bool) where
   pub ends-here : (f o : ℕ) → 0 < f → o ≡ owner q → o ≡ NONE → not (endsIn f owner q) ≡ F → false ≡ F

@@ -21,8 +21,8 @@ use Rattle.store.specs.Good.{SoundWords}
 use Rattle.store.specs.Boxes.{sidesAt, rectOf}
 use Rattle.audit.specs.declared.Verdict.{Verdict}
 use Rattle.audit.specs.declared.Verdict.the-variants as verdict
-use Rattle.audit.specs.Handed.{handedOf}
-use Rattle.audit.proofs.Handing.{handed-sound}
+use Rattle.handed.specs.Handed.{handedOf}
+use Rattle.handed.proofs.Handing.{handed-sound}
 use Rattle.paths.specs.Tray.{padded}
 use Rattle.windows.specs.declared.Found.{Found}
 use Rattle.windows.specs.declared.Found.the-variants.{Records, Refused}

@@ -18,8 +18,8 @@ use Rattle.store.specs.Value.{pointAt}
 use Rattle.store.specs.Boxes.{boxAt, ringBox}
 use Rattle.audit.specs.declared.Verdict.{Verdict}
 use Rattle.audit.specs.declared.Verdict.the-variants as verdict
-use Rattle.audit.specs.Handed.{Usable}
-use Rattle.audit.proofs.Handing.{usable-handed}
+use Rattle.handed.specs.Handed.{Usable}
+use Rattle.handed.proofs.Handing.{usable-handed}
 use Rattle.windows.specs.Window.{boxMeets, insideOut}
 use Rattle.windows.specs.RecordsIn.{isIn, once, passing, allIn, listing, recordsBy, recordsIn}
 use Rattle.windows.specs.Windows.{Shared, ringMeets, Windows}

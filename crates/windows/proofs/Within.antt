@@ -13,8 +13,8 @@ use Rattle.store.specs.Words.{view}
 use Rattle.store.specs.Sound.{recs}
 use Rattle.audit.specs.declared.Verdict.{Verdict}
 use Rattle.audit.specs.declared.Verdict.the-variants as verdict
-use Rattle.audit.specs.Handed.{handedOf}
-use Rattle.audit.proofs.Handing.{handed-usable}
+use Rattle.handed.specs.Handed.{handedOf}
+use Rattle.handed.proofs.Handing.{handed-usable}
 use Rattle.paths.specs.Tray.{padded}
 use Rattle.windows.specs.declared.Found.the-variants.{Records, Refused}
 use Rattle.windows.specs.RecordsIn.{isIn, passing, allIn, found, recordsBy, recordsIn}

@@ -12,7 +12,7 @@ use Rattle.store.specs.Sound.{ringless}
 use Rattle.store.specs.Boxes.{boxAt}
 use Rattle.audit.specs.declared.Verdict.{Verdict}
 use Rattle.audit.specs.declared.Verdict.the-variants as verdict
-use Rattle.audit.specs.Handed.{handedOf}
+use Rattle.handed.specs.Handed.{handedOf}
 use Rattle.paths.specs.Tray.{padded}
 use Rattle.windows.specs.declared.Found.{Found}
 use Rattle.windows.specs.declared.Found.the-variants.{Records, Refused}

@@ -1,7 +1,7 @@
 // The records in a window: those whose boxes meet it. `records_in` has no `requires`.
 use audit::Verdict;
-use audit::handed;
 use geometry::Rect;
+use handed::handed;
 use job::Job;
 use job::refusal::Refusal;
 use opening::clear::clear;

@@ -1,8 +1,0 @@
--- handed meets its contract: the length, then the tests.
-use borrow.Author.Needs.{needs}
-use Rattle.audit.proofs.Handing.{says-short, says-tested}
-use Rattle.audit.proofs.handed.Statement.{statement}
-use Rattle.audit.proofs.handed.Tie as tie
-
-pub handed-spec : {M : Type 1} → statement M
-handed-spec = tie.close (tie.spec (λ c. search says-short) (λ c κs. search needs) (λ c. search says-tested))
