@@ -1,8 +1,8 @@
 -- `rewritten_number` meets its contract: the bytes are few.
 use borrow.Author.Needs.{needs}
-use Rattle.outline.proofs.Numbers.{half-fits, half-is}
-use Rattle.outline.proofs.rewritten_number.Statement.{statement}
-use Rattle.outline.proofs.rewritten_number.Tie as tie
+use Rattle.answers.proofs.Halves.{half-fits, half-is}
+use Rattle.answers.proofs.rewritten_number.Statement.{statement}
+use Rattle.answers.proofs.rewritten_number.Tie as tie
 
 pub rewritten-number-spec : {M : Type 1} → statement M
 rewritten-number-spec =

@@ -1,8 +1,8 @@
 -- `told_number` meets its contract.
 use borrow.Author.Needs.{needs}
-use Rattle.outline.proofs.Numbers.{reason-within, told-is}
-use Rattle.outline.proofs.told_number.Statement.{statement}
-use Rattle.outline.proofs.told_number.Tie as tie
+use Rattle.answers.proofs.Halves.{reason-within, told-is}
+use Rattle.answers.proofs.told_number.Statement.{statement}
+use Rattle.answers.proofs.told_number.Tie as tie
 
 pub told-number-spec : {M : Type 1} → statement M
 told-number-spec =

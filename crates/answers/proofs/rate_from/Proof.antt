@@ -1,8 +1,8 @@
 -- `rate_from` meets its contract.
 use borrow.Author.Needs.{needs}
-use Rattle.outline.proofs.Numbers.{no-rate, some-rate}
-use Rattle.outline.proofs.rate_from.Statement.{statement}
-use Rattle.outline.proofs.rate_from.Tie as tie
+use Rattle.answers.proofs.Halves.{no-rate, some-rate}
+use Rattle.answers.proofs.rate_from.Statement.{statement}
+use Rattle.answers.proofs.rate_from.Tie as tie
 
 pub rate-from-spec : {M : Type 1} → statement M
 rate-from-spec =

@@ -1,8 +1,8 @@
 -- `reason_word` meets its contract.
 use borrow.Author.Needs.{needs}
-use Rattle.outline.proofs.Numbers.{taker-within, place-within, joined-is, written-is}
-use Rattle.outline.proofs.reason_word.Statement.{statement}
-use Rattle.outline.proofs.reason_word.Tie as tie
+use Rattle.answers.proofs.Halves.{taker-within, place-within, joined-is, written-is}
+use Rattle.answers.proofs.reason_word.Statement.{statement}
+use Rattle.answers.proofs.reason_word.Tie as tie
 
 pub reason-word-spec : {M : Type 1} → statement M
 reason-word-spec =

@@ -1,8 +1,8 @@
 -- `found_number` meets its contract.
 use borrow.Author.Needs.{needs}
-use Rattle.outline.proofs.Numbers.{found-fits, found-is}
-use Rattle.outline.proofs.found_number.Statement.{statement}
-use Rattle.outline.proofs.found_number.Tie as tie
+use Rattle.answers.proofs.Halves.{found-fits, found-is}
+use Rattle.answers.proofs.found_number.Statement.{statement}
+use Rattle.answers.proofs.found_number.Tie as tie
 
 pub found-number-spec : {M : Type 1} → statement M
 found-number-spec =
