@@ -15,6 +15,7 @@ use Rattle.store.specs.Named.{pointsOf, nextOf, firstOf, progressOf, ringOf}
 use Rattle.bounds.specs.Along.{boxFrom}
 use Rattle.handed.specs.Handed.{anyMisboxed}
 use Rattle.audit.specs.Tests.{isIn, anyBelow, noSuchOf, lostTaker, misplaced, untold, testsOf}
+use Rattle.audit.specs.Marks.{isMarked, markFrom, marksBy, meets, faulty}
 
 -- each point that was marked since passes
 pub record Tried (w ms ms′ : List ℕ) : Type 0 where
