@@ -1,4 +1,4 @@
--- What the functions of a step require, and those that apply an act.
+-- What the functions that apply an act require.
 use Prim.Native.Nat.{ℕ, _+_, _≤_, _<_}
 use mathlib.Core.Path.{_≡_}
 use mathlib.Core.Bool.{Bool, true}

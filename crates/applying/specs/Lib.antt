@@ -1,2 +1,2 @@
--- What applying an act leaves: the list of its writes.
+-- What applying an act requires.
 pub mod Applies

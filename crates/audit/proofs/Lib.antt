@@ -8,4 +8,3 @@ pub mod Saying
 pub mod Ringing
 pub mod Deciding
 pub mod Agreeing
-mod Examples

@@ -15,7 +15,7 @@ ghost use Rattle.audit.specs.Marks.{Counted, faulty};
 // The word of the largest coordinate.
 pub const FAR: usize = 2 * (Job::COORDINATE as usize);
 
-pub fn off_table(w: &[u32], k: usize) -> bool
+pub(crate) fn off_table(w: &[u32], k: usize) -> bool
     requires { ⌜ BLOCK ≤ length (now w) ⌝ }
     ensures { λ r. ⌜ r ≡ offTable (now (w .entry)) k ⌝ }
 {
@@ -24,7 +24,7 @@ pub fn off_table(w: &[u32], k: usize) -> bool
     (FAR < x) | (FAR < y)
 }
 
-pub fn no_such(w: &[u32], k: usize) -> bool
+pub(crate) fn no_such(w: &[u32], k: usize) -> bool
     requires { ⌜ BLOCK ≤ length (now w) ⌝ }
     ensures { λ r. ⌜ r ≡ noSuch (now (w .entry)) k ⌝ }
 {
@@ -36,7 +36,7 @@ pub fn no_such(w: &[u32], k: usize) -> bool
     !(a < m) | (!(b < m) | !(r < n))
 }
 
-pub fn loose(w: &[u32], k: usize) -> bool
+pub(crate) fn loose(w: &[u32], k: usize) -> bool
     requires { ⌜ BLOCK ≤ length (now w) ⌝ }
     ensures { λ r. ⌜ r ≡ loose (now (w .entry)) k ⌝ }
 {

@@ -23,7 +23,7 @@ pub fn names_nothing(n: usize, v: usize) -> bool
     !(v == NONE) & !(v < n)
 }
 
-pub fn no_such_of(w: &[u32], i: usize) -> bool
+pub(crate) fn no_such_of(w: &[u32], i: usize) -> bool
     requires { ⌜ BLOCK ≤ length (now w) ⌝ }
     ensures { λ r. ⌜ r ≡ noSuchOf (now (w .entry)) i ⌝ }
 {
@@ -36,7 +36,7 @@ pub fn no_such_of(w: &[u32], i: usize) -> bool
     a | b
 }
 
-pub fn lost_taker(w: &[u32], i: usize) -> bool
+pub(crate) fn lost_taker(w: &[u32], i: usize) -> bool
     requires { ⌜ BLOCK ≤ length (now w) ⌝ }
     ensures { λ r. ⌜ r ≡ lostTaker (now (w .entry)) i ⌝ }
 {
@@ -47,7 +47,7 @@ pub fn lost_taker(w: &[u32], i: usize) -> bool
     (f == NONE) & ((r == JOINED) & !(t < n))
 }
 
-pub fn untold(w: &[u32], i: usize) -> bool
+pub(crate) fn untold(w: &[u32], i: usize) -> bool
     requires { ⌜ BLOCK ≤ length (now w) ⌝ }
     ensures { λ r. ⌜ r ≡ untold (now (w .entry)) i ⌝ }
 {
@@ -97,7 +97,7 @@ fn misplaced_on(w: &[u32], i: usize, f: usize) -> bool
     !on
 }
 
-pub fn misplaced(w: &[u32], i: usize) -> bool
+pub(crate) fn misplaced(w: &[u32], i: usize) -> bool
     requires { ⌜ BLOCK ≤ length (now w) ⌝ }
     ensures { λ r. ⌜ r ≡ misplaced (now (w .entry)) i ⌝ }
 {

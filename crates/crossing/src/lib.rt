@@ -34,7 +34,7 @@ pub enum Crossing {
 }
 
 // The differences of the edges from a to b and from c to d.
-pub fn edge_pair(a: Point, b: Point, c: Point, d: Point) -> EdgePair
+fn edge_pair(a: Point, b: Point, c: Point, d: Point) -> EdgePair
     requires { ⌜ InTable a ⌝ ∗ ⌜ InTable b ⌝ ∗ ⌜ InTable c ⌝ ∗ ⌜ InTable d ⌝ }
     ensures { λ r. ⌜ r ≡ edgePair a b c d ⌝ }
 {
@@ -56,14 +56,14 @@ pub fn edges_of(a: Point, b: Point, c: Point, d: Point) -> Edges
 }
 
 // The cross product of the two edges.
-pub fn divisor(e: EdgePair) -> f64
+fn divisor(e: EdgePair) -> f64
     ensures { λ r. ⌜ r ≡ divisorF e ⌝ }
 {
     e.dy1 * e.dx2 - e.dy2 * e.dx1
 }
 
 // The cross product of the edge (dx, dy) and the way from c to a.
-pub fn along(a: Point, c: Point, dx: f64, dy: f64) -> f64
+fn along(a: Point, c: Point, dx: f64, dy: f64) -> f64
     requires { ⌜ InTable a ⌝ ∗ ⌜ InTable c ⌝ }
     ensures { λ r. ⌜ r ≡ alongF (a .x) (a .y) (c .x) (c .y) dx dy ⌝ }
 {
@@ -71,7 +71,7 @@ pub fn along(a: Point, c: Point, dx: f64, dy: f64) -> f64
 }
 
 // Whether t lies strictly between 0 and cp.
-pub fn strictly_within(t: f64, cp: f64) -> bool
+fn strictly_within(t: f64, cp: f64) -> bool
     ensures { λ r. ⌜ r ≡ strictlyWithinF t cp ⌝ }
 {
     if t > 0.0 {
@@ -100,7 +100,7 @@ pub fn segments_intersect(e: Edges) -> bool
 }
 
 // num / det, rounded once; 0 is plus, also where num is -0.
-pub fn quotient(num: f64, det: f64) -> f64
+fn quotient(num: f64, det: f64) -> f64
     ensures { λ r. ⌜ r ≡ quotientF num det ⌝ }
 {
     if num == 0.0 {
@@ -110,7 +110,7 @@ pub fn quotient(num: f64, det: f64) -> f64
 }
 
 // The crossing, by the numerators of both fractions and their divisor.
-pub fn fraction(num1: f64, num2: f64, det: f64) -> Crossing
+fn fraction(num1: f64, num2: f64, det: f64) -> Crossing
     ensures { λ r. ⌜ r ≡ fractionF num1 num2 det ⌝ }
 {
     if det == 0.0 {
@@ -138,7 +138,7 @@ pub fn get_segment_intersect_pt(e: Edges) -> Crossing
 }
 
 // From a by the fraction t of the difference d: product and sum rounded once each, then dropped toward zero.
-pub fn stepped(a: i32, d: f64, t: f64) -> i32
+fn stepped(a: i32, d: f64, t: f64) -> i32
     requires { ⌜ Reach a d t ⌝ }
     ensures { λ r. ⌜ r ≡ steppedF a d t ⌝ }
 {

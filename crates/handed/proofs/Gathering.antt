@@ -21,10 +21,9 @@ use Rattle.bounds.proofs.Widening.{widen-is, widen-none}
 use Rattle.bounds.proofs.Walking.{rest, found, begins, over, back, on, bare-not, says-misboxed}
 use Rattle.audit.specs.Tests.{isIn, namesNothing, noSuchOf, lostTaker, misplaced, untold}
 use Rattle.audit.specs.Marks.{Counted, isMarked, markFrom, meets, faulty}
-use Rattle.handed.specs.Rounds.{Tried, Unless, misplacedIf, faultyOf, Rounded, RingPassed, RecordPassed, RecordsPassed}
-use Rattle.audit.proofs.Testing.{none, more, unmarked, mark-out, mark-met, mark-over, marks-none, marks-more}
+use Rattle.handed.specs.Rounds.{Tried, Unless, misplacedIf, faultyOf, RoundPassed, RingPassed, RecordPassed, RecordsPassed}
+use Rattle.audit.proofs.Testing.{none, more, unmarked, mark-out, mark-met, mark-over, marks-none, marks-more, clash, or-parts}
 use Rattle.handed.proofs.Meeting.{met-first, met-on, met-over, met-back}
-use Rattle.audit.proofs.Testing.{clash, or-parts}
 use Rattle.handed.proofs.Trying.{tried-none, tried-both, tested}
 
 pub something : {P : Type 0} → Unless true P
@@ -78,7 +77,7 @@ module _ {w ms : List ℕ} {a k p left : ℕ} {e : Bool} {b : Sides} where
   gathers-back (going n f i) u h = (met-back w a k e p left h f, back w a p b left h i)
 
   module _ {ms₀ : List ℕ} (t : Tried w ms₀ ms) (g : Gathers w ms a k p left e b) (x : markFrom left (nextOf w) (pointsOf w) ms p ≡ markFrom limit.POINTS (nextOf w) (pointsOf w) ms₀ a) where
-    pub round-back : (m : ℕ) → m ≡ pointsOf w → p < m → getD ms p 0 ≢ 0 → Unless (not (eqb p a)) (Rounded w ms₀ a k ms e b)
+    pub round-back : (m : ℕ) → m ≡ pointsOf w → p < m → getD ms p 0 ≢ 0 → Unless (not (eqb p a)) (RoundPassed w ms₀ a k ms e b)
     round-back m em l u =
         record {
           none = λ h.
@@ -91,7 +90,7 @@ module _ {w ms : List ℕ} {a k p left : ℕ} {e : Bool} {b : Sides} where
               };
         }
 
-    pub round-over : left ≤ 0 → Unless false (Rounded w ms₀ a k ms e b)
+    pub round-over : left ≤ 0 → Unless false (RoundPassed w ms₀ a k ms e b)
     round-over z =
         record {
           none = λ h.
@@ -113,10 +112,10 @@ placed-open w i g on e h = rw (eq-eqb (flagsOf w i % 2) 1 (ap (λ (x : ℕ). x %
 pub placed-else : (w : List ℕ) (i g d : ℕ) (on : Bool) → g ≡ flagsOf w i → g % 2 ≢ 1 → d ≡ progressOf w i → (ltb 4 d || (ltb d 4 && not on)) ≡ misplacedIf w i on
 placed-else w i g d on e h ed = rw (ne-eqb (flagsOf w i % 2) 1 (λ z. h (ap (λ (x : ℕ). x % 2) e ∙ z)), ← ed)
 
-pub ring-same : (w ms ms′ : List ℕ) (i a k : ℕ) (b c : Sides) (bad met lost same : Bool) → a ≡ firstOf w i → a ≢ NONE → k ≡ presentOf w i → Unless bad (Rounded w ms a k ms′ met c) → bad ≡ false → lost ≡ misplacedIf w i met → lost ≡ false
+pub ring-same : (w ms ms′ : List ℕ) (i a k : ℕ) (b c : Sides) (bad met lost same : Bool) → a ≡ firstOf w i → a ≢ NONE → k ≡ presentOf w i → Unless bad (RoundPassed w ms a k ms′ met c) → bad ≡ false → lost ≡ misplacedIf w i met → lost ≡ false
     → b ≡ sidesAt w i → same ≡ sameSides c b → Unless (not same) (RingPassed w ms i ms′)
 ring-same w ms ms′ i a k b c bad met lost same e d ek g h el hl eb es =
-    let r : Rounded w ms a k ms′ met c = g .none h in
+    let r : RoundPassed w ms a k ms′ met c = g .none h in
     record {
       none = λ z. record {
         marks = r .marks ∙ ap (markFrom limit.POINTS (nextOf w) (pointsOf w) ms) e;

@@ -29,12 +29,12 @@ pub record Unless (found : Bool) (P : Type 0) : Type 0 where
 abbrev pub misplacedIf : List ℕ → ℕ → Bool → Bool
 misplacedIf w i on = not (isOpen (view w) i) && (ltb 4 (progressOf w i) || (ltb (progressOf w i) 4 && not on))
 
--- a record fails one of its four
+-- a record fails one of its four tests: numbers, taker, progress, reason
 abbrev pub faultyOf : List ℕ → ℕ → Bool
 faultyOf w i = noSuchOf w i || (lostTaker w i || (misplaced w i || untold w i))
 
 -- what a round from a that looks for k comes to: its points are marked and pass, e is whether k is on the ring that starts there, and b is its box
-pub record Rounded (w ms : List ℕ) (a k : ℕ) (ms′ : List ℕ) (e : Bool) (b : Sides) : Type 0 where
+pub record RoundPassed (w ms : List ℕ) (a k : ℕ) (ms′ : List ℕ) (e : Bool) (b : Sides) : Type 0 where
   pub marks : ms′ ≡ markFrom limit.POINTS (nextOf w) (pointsOf w) ms a
   pub tried : Tried w ms ms′
   pub met : e ≡ isIn k (ringOf w a)

@@ -19,7 +19,7 @@ ghost use Rattle.job.specs.Limits as limit;
 ghost use Rattle.store.specs.Field as field;
 ghost use Rattle.store.specs.Named.{pointsOf, recordsOf, firstOf};
 ghost use Rattle.audit.specs.Marks.{Counted, Clear};
-ghost use Rattle.handed.specs.Rounds.{Unless, misplacedIf, Rounded, RingPassed, RecordPassed, RecordsPassed};
+ghost use Rattle.handed.specs.Rounds.{Unless, misplacedIf, RoundPassed, RingPassed, RecordPassed, RecordsPassed};
 
 // What a round finds: whether a point fails a test or it did not come back to its beginning; and else whether it met the point that it was to look for, and the box of its ring.
 struct Trail {
@@ -31,7 +31,7 @@ struct Trail {
 // Goes round from a, which is one of the m points and not marked, up to a marked point, and looks for k on its way.
 fn try_from(w: &[u32], marks: &mut [u8], m: usize, n: usize, a: usize, k: usize) -> Trail
     requires { ⌜ Counted (now w) × (pointsOf (now w) ≤ length (now marks)) × (m ≡ pointsOf (now w)) × (n ≡ recordsOf (now w)) × (a < m) × (getD (now marks) a 0 ≡ 0) ⌝ }
-    ensures { λ r. ⌜ Unless (r .bad) (Rounded (now (w .entry)) (now (marks .entry)) a k (now (marks .exit)) (r .met) (r .sides)) ⌝ }
+    ensures { λ r. ⌜ Unless (r .bad) (RoundPassed (now (w .entry)) (now (marks .entry)) a k (now (marks .exit)) (r .met) (r .sides)) ⌝ }
 {
     // no point is in it, and any is beyond it
     let mut b = Sides {
@@ -75,7 +75,7 @@ fn try_from(w: &[u32], marks: &mut [u8], m: usize, n: usize, a: usize, k: usize)
     }
 }
 
-// Whether record i's progress has no meaning: its ring is closed, and its mark is none, or it is unfinished and its present place is not on it.
+// Whether record i's progress has no meaning: its ring is closed, and its mark is none of the five, or it is unfinished and its present place is not on the ring.
 fn is_misplaced(w: &[u32], i: usize, on: bool) -> bool
     requires { ⌜ Counted (now w) × (i < recordsOf (now w)) ⌝ }
     ensures { λ r. ⌜ r ≡ misplacedIf (now (w .entry)) i on ⌝ }

@@ -1,4 +1,4 @@
-// Two drawings on one table: the second's points and records after the first's, in the first's work space.
+// Laying two drawings together: the tests of both work spaces, one by one, then the second's drawing beside the first's.
 use audit::Reply;
 use audit::Verdict;
 use handed::tested;

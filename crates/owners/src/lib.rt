@@ -1,4 +1,4 @@
-// Owner chains, before they are known to end: does one circle? Each is followed only as far as nothing is known of it, so that all take linear time; and not at all where every owner is before its record.
+// Owner chains, before they are known to end: does one circle? Each is followed only as far as nothing is known of it, so that all take linear time; and whether any need be followed.
 pub mod tables;
 
 use crate::tables::BLANK;

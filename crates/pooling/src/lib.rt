@@ -24,7 +24,7 @@ pub struct Used {
 // ---- the columns
 
 // A number that names one of n things is raised by m; any other stays.
-pub fn raise(m: usize, n: usize, v: usize) -> usize
+fn raise(m: usize, n: usize, v: usize) -> usize
     requires { ⌜ (m + n ≤ limit.POINTS) × (v < 2 ^ 32) ⌝ }
     ensures { λ r. ⌜ (r ≡ raise m n v) × (r < 2 ^ 32) ⌝ }
 {
@@ -35,15 +35,7 @@ pub fn raise(m: usize, n: usize, v: usize) -> usize
 }
 
 // The second's n numbers of a column, each raised, after the first's m. (A number that names one of `of` things is raised by `by`.)
-pub fn lay_column(
-    first: &mut [u32],
-    second: &[u32],
-    c: Col,
-    m: usize,
-    n: usize,
-    by: usize,
-    of: usize,
-)
+fn lay_column(first: &mut [u32], second: &[u32], c: Col, m: usize, n: usize, by: usize, of: usize)
     requires { ⌜ (layout.BLOCK ≤ length (now first)) × (layout.BLOCK ≤ length (now second)) × (m + n ≤ size (columnOf c)) × (m + n ≤ limit.POINTS) × (by + of ≤ limit.POINTS) ⌝ }
     ensures { λ _. ⌜ now (first .exit) ≡ layColumn (columnOf c) (raise by of) m n (now (second .entry)) (now (first .entry)) ⌝ }
 {
@@ -57,7 +49,7 @@ pub fn lay_column(
 }
 
 // The points' columns.
-pub fn lay_points(first: &mut [u32], second: &[u32], a: Used, b: Used)
+fn lay_points(first: &mut [u32], second: &[u32], a: Used, b: Used)
     requires { ⌜ RoomForBoth (now first) (now second) a b ⌝ }
     ensures { λ _. ⌜ now (first .exit) ≡ layPoints a b (now (second .entry)) pointColumns (now (first .entry)) ⌝ }
 {
@@ -72,7 +64,7 @@ pub fn lay_points(first: &mut [u32], second: &[u32], a: Used, b: Used)
 }
 
 // The records' columns: what a record is.
-pub fn lay_records(first: &mut [u32], second: &[u32], a: Used, b: Used)
+fn lay_records(first: &mut [u32], second: &[u32], a: Used, b: Used)
     requires { ⌜ RoomForBoth (now first) (now second) a b ⌝ }
     ensures { λ _. ⌜ now (first .exit) ≡ layRecords a b (now (second .entry)) givenColumns (now (first .entry)) ⌝ }
 {
@@ -84,7 +76,7 @@ pub fn lay_records(first: &mut [u32], second: &[u32], a: Used, b: Used)
 }
 
 // How far it is, and what it was cut from.
-pub fn lay_progress(first: &mut [u32], second: &[u32], a: Used, b: Used)
+fn lay_progress(first: &mut [u32], second: &[u32], a: Used, b: Used)
     requires { ⌜ RoomForBoth (now first) (now second) a b ⌝ }
     ensures { λ _. ⌜ now (first .exit) ≡ layRecords a b (now (second .entry)) progressColumns (now (first .entry)) ⌝ }
 {
@@ -97,7 +89,7 @@ pub fn lay_progress(first: &mut [u32], second: &[u32], a: Used, b: Used)
 }
 
 // Why a record has no ring, and the record that took it.
-pub fn lay_reasons(first: &mut [u32], second: &[u32], a: Used, b: Used)
+fn lay_reasons(first: &mut [u32], second: &[u32], a: Used, b: Used)
     requires { ⌜ RoomForBoth (now first) (now second) a b ⌝ }
     ensures { λ _. ⌜ now (first .exit) ≡ layRecords a b (now (second .entry)) reasonColumns (now (first .entry)) ⌝ }
 {
@@ -108,7 +100,7 @@ pub fn lay_reasons(first: &mut [u32], second: &[u32], a: Used, b: Used)
 }
 
 // All columns.
-pub fn lay_columns(first: &mut [u32], second: &[u32], a: Used, b: Used)
+fn lay_columns(first: &mut [u32], second: &[u32], a: Used, b: Used)
     requires { ⌜ RoomForBoth (now first) (now second) a b ⌝ }
     ensures { λ _. ⌜ now (first .exit) ≡ layRecords a b (now (second .entry)) recordColumns (layPoints a b (now (second .entry)) pointColumns (now (first .entry))) ⌝ }
 {
@@ -119,7 +111,7 @@ pub fn lay_columns(first: &mut [u32], second: &[u32], a: Used, b: Used)
 }
 
 // The boxes of the second's n records after those of the first's m, as they are.
-pub fn lay_boxes(first: &mut [u32], second: &[u32], m: usize, n: usize)
+fn lay_boxes(first: &mut [u32], second: &[u32], m: usize, n: usize)
     requires { ⌜ (layout.BLOCK ≤ length (now first)) × (layout.BLOCK ≤ length (now second)) × (m + n ≤ limit.RECORDS) ⌝ }
     ensures { λ _. ⌜ now (first .exit) ≡ laySides m n (now (second .entry)) (now (first .entry)) ⌝ }
 {

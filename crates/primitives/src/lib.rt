@@ -54,7 +54,7 @@ pub fn point(w: &[u32], k: usize) -> Point
 // ---- writes
 
 // A point's words and record go to place k, the next free one.
-pub fn take_point(w: &mut [u32], k: usize, vx: usize, vy: usize, vz: usize, r: usize)
+fn take_point(w: &mut [u32], k: usize, vx: usize, vy: usize, vz: usize, r: usize)
     requires { ⌜ (BLOCK ≤ length (now w)) × (k < limit.POINTS) × (vx < 2 ^ 32) × (vy < 2 ^ 32) × (vz < 2 ^ 32) × (r < 2 ^ 32) ⌝ }
     ensures { λ _. ⌜ now (w .exit) ≡ onWords (now (w .entry)) (pointWrites k vx vy vz r) ⌝ }
 {
@@ -102,7 +102,7 @@ pub fn start_record(w: &mut [u32], k: usize, o: usize, b: usize, i: usize)
 // ---- the primitives
 
 // The word of a coordinate.
-pub fn raise(x: i32) -> usize
+fn raise(x: i32) -> usize
     requires { ⌜ Within limit.COORDINATE x ⌝ }
     ensures { λ r. ⌜ (r ≡ wordOf x) × (r < 2 ^ 32) ⌝ }
 {

@@ -1,4 +1,4 @@
--- Decimal numbers, as bytes.
+-- Bytes of a text: signs, and decimal numbers.
 use Prim.Native.Nat.{ℕ, zero, suc, _+_, _/_, _%_}
 use mathlib.Core.Bool.{cond}
 use mathlib.Core.List.{List, [], _∷_, _++_}

@@ -188,7 +188,7 @@ fn gather(w: &[u32], homes: &[u32], n: usize, from: Place) -> Gathered
 }
 
 // Whether a point has no mark.
-pub fn any_bare(w: &[u32], marks: Marks) -> bool
+fn any_bare(w: &[u32], marks: Marks) -> bool
     requires { ⌜ BLOCK ≤ length (now w) ⌝ }
     ensures { λ r. ⌜ r ≡ not (allBelow (pointsOf (now (w .entry))) (marked (marks .words))) ⌝ }
 {

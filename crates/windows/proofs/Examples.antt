@@ -48,7 +48,7 @@ ascending = refl
 
 -- ---- the words of a box
 
--- "raised as coordinates are": a side a column, left, top, right and bottom, a word for each record
+-- a side a column: left, top, right and bottom, a word for each record
 columns : map (λ (k : ℕ). sideAt k 0) (0 ∷ 1 ∷ 2 ∷ 3 ∷ []) ≡ 16912 ∷ 17424 ∷ 17936 ∷ 18448 ∷ []
 columns = refl
 
@@ -58,6 +58,7 @@ last-word = refl
 sides-in-order : sidesAt (replicate BOXES 9 ++ replicate 512 1 ++ replicate 512 2 ++ replicate 512 3 ++ replicate 512 4) 5 ≡ record { left = 1; top = 2; right = 3; bottom = 4 }
 sides-in-order = refl
 
+-- "raised as coordinates are"
 said : rectOf (record { left = 0; top = 1048575; right = 2097152; bottom = 1048577 }) ≡ rect (negsuc 1048575) (negsuc 0) (pos 1048576) (pos 1)
 said = refl
 

@@ -1,4 +1,4 @@
--- `geometry::divisor` meets its contract.
+-- `crossing::divisor` meets its contract.
 use mathlib.Core.Path.{refl}
 use Rattle.crossing.proofs.divisor.Statement.{statement}
 use Rattle.crossing.proofs.divisor.Tie as tie

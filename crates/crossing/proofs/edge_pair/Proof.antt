@@ -1,4 +1,4 @@
--- `geometry::edge_pair` meets its contract.
+-- `crossing::edge_pair` meets its contract.
 use Rattle.crossing.proofs.Differences.{edge-pair-of}
 use Rattle.crossing.proofs.edge_pair.Statement.{statement}
 use Rattle.crossing.proofs.edge_pair.Tie as tie

@@ -1,4 +1,4 @@
--- `geometry::edges_of` meets its contract.
+-- `crossing::edges_of` meets its contract.
 use borrow.Author.Needs.{needs}
 use Rattle.crossing.proofs.edges_of.Statement.{statement}
 use Rattle.crossing.proofs.edges_of.Tie as tie

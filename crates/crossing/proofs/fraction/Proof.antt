@@ -1,4 +1,4 @@
--- `geometry::fraction` meets its contract.
+-- `crossing::fraction` meets its contract.
 use borrow.Author.Needs.{needs}
 use Rattle.crossing.specs.Floats.{fractionF}
 use Rattle.crossing.proofs.fraction.Statement.{statement}

@@ -1,4 +1,4 @@
--- `geometry::get_segment_intersect_pt` meets its contract.
+-- `crossing::get_segment_intersect_pt` meets its contract.
 use borrow.Author.Needs.{needs}
 use Rattle.crossing.proofs.Fractions.{crossing-of}
 use Rattle.crossing.proofs.get_segment_intersect_pt.Statement.{statement}

@@ -1,4 +1,4 @@
--- `geometry::point_inside` meets its contract.
+-- `crossing::point_inside` meets its contract.
 use borrow.Author.Needs.{needs}
 use Rattle.crossing.proofs.Crossings.{on-x, on-y, inside-of}
 use Rattle.crossing.proofs.point_inside.Statement.{statement}

@@ -1,4 +1,4 @@
--- `geometry::quotient` meets its contract.
+-- `crossing::quotient` meets its contract.
 use Rattle.crossing.specs.Floats.{quotientF}
 use Rattle.crossing.proofs.quotient.Statement.{statement}
 use Rattle.crossing.proofs.quotient.Tie as tie

@@ -1,4 +1,4 @@
--- `geometry::segments_intersect` meets its contract.
+-- `crossing::segments_intersect` meets its contract.
 use borrow.Author.Needs.{needs}
 use Rattle.crossing.proofs.Differences.{parallel-of, apart-of, intersect-of}
 use Rattle.crossing.proofs.segments_intersect.Statement.{statement}

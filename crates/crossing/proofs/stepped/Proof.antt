@@ -1,4 +1,4 @@
--- `geometry::stepped` meets its contract.
+-- `crossing::stepped` meets its contract.
 use Rattle.crossing.proofs.Box.{stepped-range, stepped-cast, stepped-is}
 use Rattle.crossing.proofs.stepped.Statement.{statement}
 use Rattle.crossing.proofs.stepped.Tie as tie

@@ -1,4 +1,4 @@
--- `geometry::strictly_within` meets its contract.
+-- `crossing::strictly_within` meets its contract.
 use Rattle.crossing.specs.Floats.{strictlyWithinF}
 use Rattle.crossing.proofs.strictly_within.Statement.{statement}
 use Rattle.crossing.proofs.strictly_within.Tie as tie

@@ -1,4 +1,4 @@
--- `rewriting::fields::put_byte` meets its contract.
+-- `fields::put_byte` meets its contract.
 use borrow.Author.Needs.{needs}
 use Rattle.fields.proofs.Pours.{byte-poured}
 use Rattle.fields.proofs.put_byte.Statement.{statement}

@@ -1,4 +1,4 @@
--- `rewriting::fields::put_coordinate` meets its contract: the word is lowered.
+-- `fields::put_coordinate` meets its contract: the word is lowered.
 use borrow.Author.Needs.{needs}
 use Rattle.fields.proofs.Pours.{coordinate-poured}
 use Rattle.fields.proofs.put_coordinate.Statement.{statement}

@@ -1,4 +1,4 @@
--- `rewriting::fields::put_header` meets its contract.
+-- `fields::put_header` meets its contract.
 use borrow.Author.Needs.{needs}
 use Rattle.fields.proofs.Pours.{header-poured}
 use Rattle.fields.proofs.put_header.Statement.{statement}

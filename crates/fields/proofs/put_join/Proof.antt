@@ -1,4 +1,4 @@
--- `rewriting::fields::put_join` meets its contract.
+-- `fields::put_join` meets its contract.
 use borrow.Author.Needs.{needs}
 use Rattle.fields.proofs.Pours.{join-poured}
 use Rattle.fields.proofs.put_join.Statement.{statement}

@@ -1,4 +1,4 @@
--- `rewriting::fields::put_point` meets its contract.
+-- `fields::put_point` meets its contract.
 use borrow.Author.Needs.{needs}
 use Rattle.fields.proofs.Pours.{point-poured}
 use Rattle.fields.proofs.put_point.Statement.{statement}

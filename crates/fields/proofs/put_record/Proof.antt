@@ -1,4 +1,4 @@
--- `rewriting::fields::put_record` meets its contract.
+-- `fields::put_record` meets its contract.
 use borrow.Author.Needs.{needs}
 use Rattle.fields.proofs.Pours.{record-poured}
 use Rattle.fields.proofs.put_record.Statement.{statement}

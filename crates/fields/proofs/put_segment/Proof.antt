@@ -1,4 +1,4 @@
--- `rewriting::fields::put_segment` meets its contract.
+-- `fields::put_segment` meets its contract.
 use borrow.Author.Needs.{needs}
 use Rattle.fields.proofs.Pours.{segment-poured}
 use Rattle.fields.proofs.put_segment.Statement.{statement}

@@ -1,4 +1,4 @@
--- `rewriting::fields::put_settings` meets its contract.
+-- `fields::put_settings` meets its contract.
 use borrow.Author.Needs.{needs}
 use Rattle.fields.proofs.Pours.{settings-poured}
 use Rattle.fields.proofs.put_settings.Statement.{statement}

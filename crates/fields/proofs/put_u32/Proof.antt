@@ -1,4 +1,4 @@
--- `rewriting::fields::put_u32` meets its contract.
+-- `fields::put_u32` meets its contract.
 use borrow.Author.Needs.{needs}
 use Rattle.fields.proofs.Pours.{u32-poured}
 use Rattle.fields.proofs.put_u32.Statement.{statement}

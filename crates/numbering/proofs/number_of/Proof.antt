@@ -1,4 +1,4 @@
--- `rewriting::numbering::number_of` meets its contract.
+-- `numbering::number_of` meets its contract.
 use borrow.Author.Needs.{needs}
 use Rattle.numbering.proofs.Rounds.{past-table}
 use Rattle.numbering.proofs.number_of.Statement.{statement}

@@ -1,4 +1,4 @@
--- `rewriting::numbering::number_record` meets its contract: a record without points has nothing to number.
+-- `numbering::number_record` meets its contract: a record without points has nothing to number.
 use borrow.Author.Needs.{needs}
 use Rattle.numbering.proofs.Rounds.{ringless-numbered, ring-numbered}
 use Rattle.numbering.proofs.number_record.Statement.{statement}

@@ -1,4 +1,4 @@
--- `rewriting::numbering::number_ring` meets its contract: the loop follows the ring, with `left` points to go.
+-- `numbering::number_ring` meets its contract: the loop follows the ring, with `left` points to go.
 use borrow.Author.Needs.{needs}
 use Rattle.numbering.proofs.Rounds.{Numbering, numbering-begun, numbering-back, numbering-on, numbering-over}
 use Rattle.numbering.proofs.number_ring.Statement.{statement}

@@ -1,4 +1,4 @@
--- `rewriting::numbering::number_rings` meets its contract: the rings of the records below i are numbered.
+-- `numbering::number_rings` meets its contract: the rings of the records below i are numbered.
 use Prim.Native.Nat.{_-_}
 use borrow.Author.Needs.{needs}
 use Rattle.numbering.proofs.Rounds.{NumberingAll, all-begun, all-few, all-on, all-over}

@@ -1,4 +1,4 @@
--- `rewriting::numbering::set_number` meets its contract: a number past the table has no place.
+-- `numbering::set_number` meets its contract: a number past the table has no place.
 use mathlib.Core.Path.{sym}
 use lib.Seq.{set-out}
 use borrow.Author.Needs.{needs}

@@ -1,4 +1,4 @@
--- `rows::owners::any_chained` meets its contract: the first such record ends the loop.
+-- `owners::any_chained` meets its contract: the first such record ends the loop.
 use mathlib.Core.Path.{_≡_}
 use mathlib.Core.Bool.{false}
 use Prim.Native.Nat.{_-_, _≤_}

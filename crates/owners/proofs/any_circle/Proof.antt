@@ -1,4 +1,4 @@
--- `rows::owners::any_circle` meets its contract: the first chain that circles ends the loop.
+-- `owners::any_circle` meets its contract: the first chain that circles ends the loop.
 use mathlib.Core.Path.{_≡_}
 use mathlib.Core.Bool.{false}
 use Prim.Native.Nat.{_-_, _≤_}

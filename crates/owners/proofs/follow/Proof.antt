@@ -1,4 +1,4 @@
--- `rows::owners::follow` meets its contract: after `h` owners the walk is at `q`.
+-- `owners::follow` meets its contract: after `h` owners the walk is at `q`.
 use Prim.Native.Nat.{_-_}
 use borrow.Author.Needs.{needs}
 use Rattle.job.specs.Limits.{RECORDS}

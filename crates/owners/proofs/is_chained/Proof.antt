@@ -1,4 +1,4 @@
--- `rows::owners::is_chained` meets its contract: the words read, compared.
+-- `owners::is_chained` meets its contract: the words read, compared.
 use borrow.Author.Needs.{needs}
 use Rattle.owners.proofs.is_chained.Statement.{statement}
 use Rattle.owners.proofs.is_chained.Tie as tie

@@ -1,4 +1,4 @@
--- `rows::owners::note` meets its contract: the chain from `q` has `d` owners to go.
+-- `owners::note` meets its contract: the chain from `q` has `d` owners to go.
 use mathlib.Core.Path.{_≡_, refl}
 use lib.ListN.{length}
 use borrow.Author.Needs.{needs}

@@ -1,4 +1,4 @@
--- `laying::lay_all` meets its contract: columns, boxes, counts.
+-- `pooling::lay_all` meets its contract: columns, boxes, counts.
 use borrow.Author.Needs.{needs}
 use Rattle.pooling.proofs.Columns.{all-laid}
 use Rattle.pooling.proofs.lay_all.Statement.{statement}

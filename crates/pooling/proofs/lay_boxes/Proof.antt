@@ -1,4 +1,4 @@
--- `laying::lay_boxes` meets its contract: the loop follows the definition.
+-- `pooling::lay_boxes` meets its contract: the loop follows the definition.
 use Prim.Native.Nat.{_-_, _≤_}
 use mathlib.Core.Path.{_≡_, refl}
 use native.Mathlib.Omega.{arith}

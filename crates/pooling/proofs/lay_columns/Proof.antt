@@ -1,4 +1,4 @@
--- `laying::lay_columns` meets its contract: points, then records.
+-- `pooling::lay_columns` meets its contract: points, then records.
 use borrow.Author.Needs.{needs}
 use Rattle.pooling.proofs.Columns.{columns-laid}
 use Rattle.pooling.proofs.lay_columns.Statement.{statement}

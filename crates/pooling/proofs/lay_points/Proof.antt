@@ -1,4 +1,4 @@
--- `laying::lay_points` meets its contract: column after column.
+-- `pooling::lay_points` meets its contract: column after column.
 use borrow.Author.Needs.{needs}
 use Rattle.pooling.proofs.Columns.{points-laid}
 use Rattle.pooling.proofs.lay_points.Statement.{statement}

@@ -1,4 +1,4 @@
--- `laying::lay_progress` meets its contract: column after column.
+-- `pooling::lay_progress` meets its contract: column after column.
 use borrow.Author.Needs.{needs}
 use Rattle.pooling.proofs.Columns.{progress-laid}
 use Rattle.pooling.proofs.lay_progress.Statement.{statement}

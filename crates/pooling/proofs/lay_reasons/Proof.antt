@@ -1,4 +1,4 @@
--- `laying::lay_reasons` meets its contract: column after column.
+-- `pooling::lay_reasons` meets its contract: column after column.
 use borrow.Author.Needs.{needs}
 use Rattle.pooling.proofs.Columns.{reasons-laid}
 use Rattle.pooling.proofs.lay_reasons.Statement.{statement}

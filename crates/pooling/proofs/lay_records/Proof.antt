@@ -1,4 +1,4 @@
--- `laying::lay_records` meets its contract: column after column.
+-- `pooling::lay_records` meets its contract: column after column.
 use borrow.Author.Needs.{needs}
 use Rattle.pooling.proofs.Columns.{given-laid}
 use Rattle.pooling.proofs.lay_records.Statement.{statement}

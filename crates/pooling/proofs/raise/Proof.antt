@@ -1,4 +1,4 @@
--- `laying::raise` meets its contract.
+-- `pooling::raise` meets its contract.
 use borrow.Author.Needs.{needs}
 use native.Mathlib.Omega.{arith}
 use Rattle.pooling.proofs.Columns.{is-raised, not-raised}

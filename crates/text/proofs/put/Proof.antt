@@ -1,4 +1,4 @@
--- `listing::put` meets its contract: within, at the end, past the end.
+-- `text::put` meets its contract: within, at the end, past the end.
 use borrow.Author.Needs.{needs}
 use Rattle.text.proofs.Pouring.{put-in, put-end, put-past}
 use Rattle.text.proofs.put.Statement.{statement}

@@ -1,4 +1,4 @@
--- `listing::put_text` meets its contract: the first i bytes are poured.
+-- `text::put_text` meets its contract: the first i bytes are poured.
 use Prim.Native.Nat.{_-_}
 use mathlib.Core.Path.{_≡_}
 use lib.ListN.{take}

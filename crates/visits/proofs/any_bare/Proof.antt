@@ -1,4 +1,4 @@
--- `rows::visits::any_bare` meets its contract: not every point is marked.
+-- `visits::any_bare` meets its contract: not every point is marked.
 use borrow.Author.Needs.{needs}
 use Rattle.visits.proofs.any_bare.Statement.{statement}
 use Rattle.visits.proofs.any_bare.Tie as tie

@@ -1,4 +1,4 @@
--- `rows::visits::any_stray` meets its contract: the loop goes from word to word, and what has no mark then is on no ring.
+-- `visits::any_stray` meets its contract: the loop goes from word to word, and what has no mark then is on no ring.
 use borrow.Author.Needs.{needs}
 use Rattle.visits.specs.Marks.{Standing, toGo}
 use Rattle.visits.proofs.Rounds.{stands-first, stray-met, stray-on, stray-less, stray-over}

@@ -1,4 +1,4 @@
--- `rows::visits::elsewhere` meets its contract: the record that the point names is the ring's own; or what it resolves to, compared.
+-- `visits::elsewhere` meets its contract: the record that the point names is the ring's own; or what it resolves to, compared.
 use borrow.Author.Needs.{needs}
 use Rattle.visits.proofs.Rounds.{own-here}
 use Rattle.visits.proofs.elsewhere.Statement.{statement}

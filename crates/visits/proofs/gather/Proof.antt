@@ -1,4 +1,4 @@
--- `rows::visits::gather` meets its contract: the loop goes from ring to ring as long as their points lie in one word.
+-- `visits::gather` meets its contract: the loop goes from ring to ring as long as their points lie in one word.
 use Prim.Native.Nat.{_-_, _/_}
 use borrow.Author.Needs.{needs}
 use Rattle.marks.specs.Marks.{BITS}

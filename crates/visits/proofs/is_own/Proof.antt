@@ -1,4 +1,4 @@
--- `rows::visits::is_own` meets its contract: the numbers, compared.
+-- `visits::is_own` meets its contract: the numbers, compared.
 use borrow.Author.Needs.{needs}
 use Rattle.visits.proofs.is_own.Statement.{statement}
 use Rattle.visits.proofs.is_own.Tie as tie

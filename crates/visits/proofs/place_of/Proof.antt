@@ -1,4 +1,4 @@
--- `rows::visits::place_of` meets its contract: a record without points has nothing to walk.
+-- `visits::place_of` meets its contract: a record without points has nothing to walk.
 use borrow.Author.Needs.{needs}
 use Rattle.visits.proofs.Rounds.{begins-ringless, begins-ring}
 use Rattle.visits.proofs.place_of.Statement.{statement}

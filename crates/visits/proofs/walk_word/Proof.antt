@@ -1,4 +1,4 @@
--- `rows::visits::walk_word` meets its contract: the loop follows the ring as long as its points lie in one word.
+-- `visits::walk_word` meets its contract: the loop follows the ring as long as its points lie in one word.
 use mathlib.Core.Path.{_≡_, refl}
 use mathlib.Core.Logic.{_⊎_, inl, inr}
 use Prim.Native.Nat.{_<_, _≤_}

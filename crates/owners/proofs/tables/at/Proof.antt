@@ -1,4 +1,4 @@
--- `rows::tables::at` meets its contract: of a number past the table nothing is known.
+-- `owners::tables::at` meets its contract: of a number past the table nothing is known.
 use native.Mathlib.Omega.{arith}
 use borrow.Author.Needs.{needs}
 use Rattle.owners.proofs.Tabling.{entry-in, entry-out}

@@ -1,4 +1,4 @@
--- `rows::tables::put` meets its contract: a number past the table has no place.
+-- `owners::tables::put` meets its contract: a number past the table has no place.
 use mathlib.Core.Path.{sym}
 use lib.Seq.{set-out}
 use borrow.Author.Needs.{needs}

@@ -1,4 +1,4 @@
--- `rows::resolving::find` meets its contract: what the table knows, or the walk.
+-- `visits::resolving::find` meets its contract: what the table knows, or the walk.
 use borrow.Author.Needs.{needs}
 use Rattle.visits.proofs.Reaching.{by-table}
 use Rattle.visits.proofs.resolving.find.Statement.{statement}

@@ -1,4 +1,4 @@
--- `rows::resolving::find_all` meets its contract: no chain circles, so each record's home can be reached and written down.
+-- `visits::resolving::find_all` meets its contract: no chain circles, so each record's home can be reached and written down.
 use mathlib.Core.Path.{_≡_, refl}
 use Prim.Native.Nat.{_-_, _≤_}
 use lib.ListN.{length}

@@ -1,4 +1,4 @@
--- `rows::resolving::note` meets its contract: every record on the way to the home has it too.
+-- `visits::resolving::note` meets its contract: every record on the way to the home has it too.
 use mathlib.Core.Path.{_≡_, refl}
 use lib.ListN.{length}
 use borrow.Author.Needs.{needs}

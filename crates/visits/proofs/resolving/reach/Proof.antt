@@ -1,4 +1,4 @@
--- `rows::resolving::reach` meets its contract: `q` resolves to what `r` does, and fits 32 bits.
+-- `visits::resolving::reach` meets its contract: `q` resolves to what `r` does, and fits 32 bits.
 use Prim.Native.Nat.{_<_, _^_}
 use borrow.Author.Needs.{needs}
 use Rattle.visits.proofs.Reaching.{Toward, toward, known-home, own-home, no-home, toward-on, spent-home}

@@ -1,4 +1,4 @@
--- `rows::resolving::walk` meets its contract: the walk follows `findIn`, with `left` records to go.
+-- `visits::resolving::walk` meets its contract: the walk follows `findIn`, with `left` records to go.
 use mathlib.Core.Path.{_≡_, refl}
 use borrow.Author.Needs.{needs}
 use Rattle.job.specs.Limits.{RECORDS}
