@@ -1,4 +1,6 @@
 // A job read and judged: rows 1 to 8.
+#![tactic(auto)]
+
 ghost use Rattle.std.specs.Prelude.{◌≡◌};
 ghost use Rattle.reading.specs.Fill.{end};
 ghost use Rattle.reading.specs.Needs.{Space};

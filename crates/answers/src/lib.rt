@@ -1,4 +1,6 @@
 // The numbers of answers, as the calls for C and Rust hand them over: 0 or the refusal's number, and in the high half what else there is to say.
+#![tactic(auto)]
+
 ghost use Rattle.std.specs.Prelude.{◌≡◌, ◌+◌, ◌*◌, ◌^◌, ◌<◌};
 ghost use Rattle.job.specs.Limits as limit;
 ghost use Rattle.prefix.specs.Decides.{LONGEST};

@@ -1,4 +1,6 @@
 // Applying an act: link surgery and progress, as the act's list of writes.
+#![tactic(auto)]
+
 ghost use Rattle.std.specs.Prelude.{◌≡◌, cond, ◌+◌, ◌<◌, ◌≤◌, ◌^◌, eqb, length};
 ghost use Rattle.job.specs.Limits as limit;
 ghost use Rattle.store.specs.Field.{rc, FIRST, PRESENT, START, BLOCK};

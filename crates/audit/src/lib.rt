@@ -1,4 +1,6 @@
 // The tests of the live block of a work space, in their order: read only, linear in points and records.
+#![tactic(auto)]
+
 pub mod points;
 pub mod records;
 mod walks;

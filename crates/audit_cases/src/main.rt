@@ -1,4 +1,6 @@
 // Runs the tests of a handed work space on a good one and on altered ones, and prints what each says.
+#![tactic(auto)]
+
 ghost use Rattle.std.specs.Prelude.{◌+◌, ◌<◌, ◌≤◌, ◌^◌, length};
 ghost use Rattle.job.specs.Limits as limit;
 ghost use Rattle.store.specs.Field.{size, BLOCK};

@@ -1,1 +1,2 @@
 // Boxes beside the rings, through steps: laws. No code.
+#![tactic(auto)]

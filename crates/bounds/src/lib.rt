@@ -1,4 +1,6 @@
 // The box of a ring, by one walk over the words of its points; and the box beside it, written and tested.
+#![tactic(auto)]
+
 ghost use Rattle.std.specs.Prelude.{◌≡◌, ◌<◌, ◌≤◌, length};
 ghost use Rattle.std.proofs.Math.Option.{some};
 ghost use Rattle.job.specs.Limits as limit;

@@ -1,4 +1,6 @@
 // A step on a record, and the boxes that it leaves beside the rings: the ring is walked again only where its box may have changed.
+#![tactic(auto)]
+
 ghost use Rattle.std.specs.Prelude.{◌≡◌};
 ghost use Rattle.store.specs.Boxes.{boxed_at};
 ghost use Rattle.turns.specs.Reads.{Steps};

@@ -1,5 +1,7 @@
 // The job on standard input, written the one way, on standard output: `rewrite` does the work, and `main` only reads, calls and writes. Of a job that is refused nothing is
 // printed there, and `refused` with its number on standard error.
+#![tactic(auto)]
+
 ghost use Rattle.std.specs.Prelude.{length};
 ghost use Rattle.rewriting.specs.Answers.{BytesWithin};
 

@@ -1,4 +1,6 @@
 // Whether an act may change the box of its ring, by what is at hand before it: only a spike that is dropped, or a point that is cut away, from a side of the box does; or the ring is discarded.
+#![tactic(auto)]
+
 ghost use Rattle.std.specs.Prelude.{◌≡◌, ◌≤◌, length};
 ghost use Rattle.store.specs.Field.{rc, PRESENT, BLOCK};
 ghost use Rattle.store.specs.Words.{view};

@@ -1,4 +1,6 @@
 // Whether one closed path contains another: `path2_contains_path1` of engine_fns.rs, with `get_bounds_path` and the middle of a box from core.rs, over paths that lie in a tray's bytes.
+#![tactic(auto)]
+
 ghost use Rattle.std.specs.Prelude.{◌≡◌, ◌<◌, ◌^◌};
 ghost use Rattle.std.proofs.Math.Option.{some};
 ghost use Rattle.exact.specs.Num.{Within};

@@ -1,4 +1,6 @@
 // Which shape lies in which: a job finished in one call, and a byte for every ordered pair of its closed paths, 1 where the second contains the first.
+#![tactic(auto)]
+
 ghost use Rattle.std.specs.Prelude.{◌≡◌, ◌++◌, ◌-◌, ◌<◌, ◌≤◌, length, replicate};
 ghost use Rattle.job.specs.Limits.{RECORDS};
 ghost use Rattle.job.specs.declared.refusal.Refusal.TheVariants.{SmallTray};

@@ -1,4 +1,6 @@
 // Whether two edges cross, over whole numbers: what the walk of the split loop asks of every point. It is `segments_intersect`, without a float.
+#![tactic(auto)]
+
 ghost use Rattle.std.specs.Prelude.{◌≡◌, ◌^◌, ◌-ℤ◌, ◌*ℤ◌};
 ghost use Rattle.exact.specs.Num.{Within};
 ghost use Rattle.geometry.specs.Plane.{divisor, strictly_within, segments_intersect};

@@ -1,4 +1,6 @@
 // Where two edges cross: core.rs and engine_fns.rs of the Rust, in floats that hold whole numbers but for one division for each fraction.
+#![tactic(auto)]
+
 ghost use Rattle.std.specs.Prelude.{◌≡◌};
 ghost use Rattle.geometry.specs.Plane.{segments_intersect};
 ghost use Rattle.geometry.specs.Table.{InTable};

@@ -1,5 +1,7 @@
 // The listing of the job on standard input, on standard output, with the charge at the rate that is the program's argument, if there is one: `list_job` does the
 // work, and `main` only reads, calls and writes.
+#![tactic(auto)]
+
 ghost use Rattle.std.specs.Prelude.{◌≡◌, ◌≤◌, length};
 ghost use Rattle.io.specs.Counts.{IsPrefixLen};
 ghost use Rattle.listing.specs.Needs.{Whole};

@@ -1,1 +1,2 @@
 // Why each record of a finished job has an outline or none. No code yet.
+#![tactic(auto)]

@@ -1,4 +1,6 @@
 // One field of a job, written into a tray from a place on; a byte past the tray's end is lost. Each function answers where the next byte goes.
+#![tactic(auto)]
+
 ghost use Rattle.std.specs.Prelude.{◌≡◌, ◌%◌, [], ◌∷◌};
 ghost use Rattle.numbers.specs.Raised.{lowered};
 ghost use Rattle.job.specs.Limits.{COORDINATE};

@@ -1,4 +1,6 @@
 // The public entry points: opening, a step, and writing out. No function of this file that is `pub` has a `requires`.
+#![tactic(auto)]
+
 pub mod finish;
 
 ghost use Rattle.std.specs.Prelude.{◌≡◌, ◌+◌, ◌<◌};

@@ -1,4 +1,5 @@
 // Geometry of rings: the tests on points that core.rs and engine_fns.rs have.
+#![tactic(auto)]
 
 ghost use Rattle.std.specs.Prelude.{◌≡◌, ◌^◌, ◌+ℤ◌, ◌-ℤ◌, ◌*ℤ◌};
 ghost use Rattle.exact.specs.Num.{Within};

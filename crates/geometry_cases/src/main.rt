@@ -1,6 +1,8 @@
 // Runs the stored cases on standard input, which the oracle made with the real Rust, through the functions that a step calls, and writes
 // how many there are and how many differ. `oracle vectors geometry 1 150` made them. A case is a line: the function's name, its numbers, ` = ` and
 // what the Rust answered (tests/oracle/README.md has the format).
+#![tactic(auto)]
+
 ghost use Rattle.std.specs.Prelude.{◌^◌};
 ghost use Rattle.exact.specs.Num.{Within};
 ghost use Rattle.geometry.specs.Table.{InTable};

@@ -1,4 +1,6 @@
 // What every call on an opened work space asks first: its length, then all tests at once; in their order only where something fails.
+#![tactic(auto)]
+
 mod boxes;
 mod names;
 mod rounds;

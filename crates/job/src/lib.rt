@@ -1,4 +1,6 @@
 // A job: its limits, what reading it carries along, its refusals and its fields.
+#![tactic(auto)]
+
 pub mod field;
 pub mod refusal;
 

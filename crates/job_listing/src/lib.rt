@@ -1,4 +1,6 @@
 // The listing of a job, from its bytes: finishing it in one call, then its answer and tray as text, with the charge at a rate.
+#![tactic(auto)]
+
 ghost use Rattle.std.specs.Prelude.{◌≡◌, length};
 ghost use Rattle.job.specs.Refusal.{number_of};
 ghost use Rattle.rates.specs.Rate.{asked};

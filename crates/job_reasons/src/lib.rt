@@ -1,4 +1,6 @@
 // Where each record of a job went, from its bytes: finishing it in one call, then a line for each record with the reason that `reason_of` tells.
+#![tactic(auto)]
+
 ghost use Rattle.std.specs.Prelude.{◌≡◌, ◌++◌};
 ghost use Rattle.store.specs.Words.{view};
 ghost use Rattle.telling.specs.Telling.{reason_at};

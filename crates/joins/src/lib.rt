@@ -1,4 +1,6 @@
 // Joins (`process_horz_joins`): document 01, "Segment and join". A join at its turn is refused (9, 10), splits one ring in two, or makes one ring of two.
+#![tactic(auto)]
+
 ghost use Rattle.std.specs.Prelude.{◌≡◌, ◌+◌, ◌<◌, ◌≤◌, length, get_or};
 ghost use Rattle.job.specs.Limits as limit;
 ghost use Rattle.store.specs.Field.{BLOCK};

@@ -1,1 +1,2 @@
 // Joins, worked: answers and rings that are computed. No code.
+#![tactic(auto)]

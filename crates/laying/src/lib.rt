@@ -1,4 +1,6 @@
 // Laying two drawings together: the tests of both work spaces, one by one, then the second's drawing beside the first's.
+#![tactic(auto)]
+
 ghost use Rattle.std.specs.Prelude.{◌≡◌, ◌+◌, ◌<◌, ◌≤◌, length};
 ghost use Rattle.store.specs.Field as layout;
 ghost use Rattle.store.specs.Good.{SoundWords};

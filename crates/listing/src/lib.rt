@@ -1,4 +1,6 @@
 // The listing of a tray, as text in a lent slice.
+#![tactic(auto)]
+
 pub mod charge;
 
 ghost use Rattle.std.specs.Prelude.{◌≡◌, cond, [], ◌∷◌, ◌++◌, ◌+◌, ◌-◌, ◌<◌, ◌≤◌, ◌^◌, nat_abs, length};

@@ -1,4 +1,6 @@
 // Marks of a job's points, a bit each: one is set, and all below a count are tested a word at a time.
+#![tactic(auto)]
+
 ghost use Rattle.std.specs.Prelude.{◌≡◌, ◌<◌, ◌≤◌, replicate};
 ghost use Rattle.marks.specs.Marks.{BITS, WORDS, bit, with_bit, marked, with_mark, with_bits, all_below};
 ghost use Rattle.marks.specs.Marks as spec;

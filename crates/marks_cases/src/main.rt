@@ -1,5 +1,7 @@
 // Runs `all_set` on the cases of standard input and prints each answer, 1 or 0, on a line. A case is four numbers of two bytes, low byte first: a count, two points from and up to
 // which all points are marked, and a point that is not. The cases, and what the crate's file `stdout` has, come from `tests/marks_cases`.
+#![tactic(auto)]
+
 ghost use Rattle.std.specs.Prelude.{◌^◌, ◌<◌};
 
 use libc::{STDIN_FILENO, STDOUT_FILENO};

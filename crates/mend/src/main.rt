@@ -1,5 +1,7 @@
 // The job on standard input with its backward links mended, on standard output: `mend` does the work, and `main` only reads, calls and writes. Of a job that is refused nothing is
 // printed there, and `refused` with its number on standard error.
+#![tactic(auto)]
+
 use audit::Reply;
 use job::refusal::Refusal;
 use libc::{STDERR_FILENO, STDIN_FILENO, STDOUT_FILENO};

@@ -1,4 +1,6 @@
 // Mends the backward links of a job, in its bytes. No function of this file that is `pub` has a `requires`.
+#![tactic(auto)]
+
 ghost use Rattle.std.specs.Prelude.{◌≡◌, ◌+◌, ◌*◌, ◌<◌, ◌≤◌, ◌^◌, length, set};
 ghost use Rattle.job.specs.Field as field;
 ghost use Rattle.job.specs.declared.field.Kind.TheVariants as kind;

@@ -1,4 +1,6 @@
 // Numbers in bytes, low byte first, and signed numbers as raised words.
+#![tactic(auto)]
+
 ghost use Rattle.std.specs.Prelude.{◌≡◌, ◌+◌, ◌-◌, ◌%◌, ◌<◌, ◌≤◌, length, slice_set};
 ghost use Rattle.numbers.specs.Bytes.{le};
 ghost use Rattle.numbers.specs.Written.{put_le, Number, Part};

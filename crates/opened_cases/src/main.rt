@@ -1,5 +1,7 @@
 // Opens the stored jobs on standard input, each after its length (four bytes, low byte first), and prints what the oracle's command `opened` prints: both counts
 // and each record's ring, or the refusal's number. The jobs are cases written by hand and the generator's; `tests/opened_cases ORACLE crates/opened_cases` makes both files.
+#![tactic(auto)]
+
 ghost use Rattle.std.specs.Prelude.{◌≤◌, length};
 ghost use Rattle.store.specs.Field.{BLOCK};
 

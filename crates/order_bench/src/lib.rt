@@ -1,1 +1,2 @@
 // Document 01's starred bench examples, from a job's bytes to the tray, by computing the definition of finishing. No code.
+#![tactic(auto)]

@@ -1,4 +1,6 @@
 // The entry points for C and Rust: the same calls, answering 0 or the refusal's number; the listing; rewriting; laying two drawings together; telling a record's reason; which shape lies in which; mending a job's backward links; and the records in a window.
+#![tactic(auto)]
+
 ghost use Rattle.std.specs.Prelude.{◌≡◌, ◌<◌, length};
 ghost use Rattle.store.specs.Field.{LENGTH};
 ghost use Rattle.outline.specs.Calls.{text_short, worked, wrote, finished, listing, pairs, found_in, window, open_c, step_c, keep_c, back_c, drop_c, lay_c, write_c, finish_c, list_c, rewrite_c, reason_c, contained_c, mended_job, mend_c, records_c};

@@ -1,4 +1,6 @@
 // Owner chains, before they are known to end: does one circle? Each is followed only as far as nothing is known of it, so that all take linear time; and whether any need be followed.
+#![tactic(auto)]
+
 pub mod tables;
 
 ghost use Rattle.std.specs.Prelude.{◌≡◌, ◌≤◌, length};

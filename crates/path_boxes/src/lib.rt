@@ -1,4 +1,6 @@
 // The boxes of a tray's first paths, in a table of four words each: a path is walked once for its box, not once for every pair.
+#![tactic(auto)]
+
 ghost use Rattle.std.specs.Prelude.{◌≡◌, ◌+◌, ◌*◌, ◌<◌, ◌≤◌, pos, length, get_or, set};
 ghost use Rattle.geometry.specs.Box.{box_of};
 ghost use Rattle.listing.specs.Fields.{path_in};

@@ -1,4 +1,6 @@
 // One record's path, how many bytes all paths take, and the tray's fields.
+#![tactic(auto)]
+
 mod field;
 mod round;
 

@@ -1,6 +1,8 @@
 // Writes the path of each ring on standard input and lists it. The rings, and the listings that the crate's file `stdout` has, come from the real Rust:
 // `tests/paths_cases` makes both from `oracle vectors paths`. A ring is a byte each for reverse, open and how many points, a byte 0, then x, y and z of
 // each point (four bytes each, low byte first).
+#![tactic(auto)]
+
 ghost use Rattle.std.specs.Prelude.{◌+◌, ◌*◌, ◌≤◌, ◌<◌, ◌^◌, length};
 ghost use Rattle.job.specs.Limits as limit;
 ghost use Rattle.store.specs.Field.{BLOCK};

@@ -1,4 +1,6 @@
 // Where a point lies in respect of a closed path: `point_in_polygon` of core.rs, over a path that lies in a tray's bytes.
+#![tactic(auto)]
+
 ghost use Rattle.std.specs.Prelude.{◌≡◌, not, ◌+◌, ◌-◌, ◌*◌, ◌<◌};
 ghost use Rattle.geometry.specs.Table.{InTable};
 ghost use Rattle.paths.specs.Tray as trays;

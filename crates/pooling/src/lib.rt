@@ -1,4 +1,6 @@
 // The second's columns, boxes and counts after the first's, in the first's work space.
+#![tactic(auto)]
+
 ghost use Rattle.std.specs.Prelude.{◌≡◌, ◌+◌, ◌<◌, ◌≤◌, ◌^◌, length};
 ghost use Rattle.store.specs.Field as layout;
 ghost use Rattle.store.specs.Field.{size};

@@ -1,4 +1,6 @@
 // How many bytes of its input decide a job, whatever follows them.
+#![tactic(auto)]
+
 ghost use Rattle.std.specs.Prelude.{◌≡◌};
 ghost use Rattle.prefix.specs.Decides as decides;
 

@@ -1,4 +1,6 @@
 // Points by value, and the Rust's primitives that make and unlink them.
+#![tactic(auto)]
+
 ghost use Rattle.std.specs.Prelude.{◌≡◌, ◌+◌, ◌*◌, ◌<◌, ◌≤◌, ◌^◌, length};
 ghost use Rattle.job.specs.Limits as limit;
 ghost use Rattle.numbers.specs.Raised.{coordinate};

@@ -1,4 +1,6 @@
 // The rate that a program is given as its argument, and the charge of an area at that rate.
+#![tactic(auto)]
+
 ghost use Rattle.std.specs.Prelude.{◌≡◌, true, not, ◌+◌, ◌-◌, ◌*◌, ◌≤◌, ◌^◌, min};
 ghost use Rattle.rates.specs.Rate.{LARGEST, is_digit, in_range, rate_in, asked, arguments, rate_of};
 ghost use Rattle.rates.specs.Rate as rates;

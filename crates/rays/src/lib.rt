@@ -1,4 +1,6 @@
 // How an edge goes, seen from a point: the crossing rule of `point_in_polygon` of core.rs, for one edge. A ray goes from the point to its left, along its level.
+#![tactic(auto)]
+
 ghost use Rattle.std.specs.Prelude.{◌≡◌};
 ghost use Rattle.std.specs.Bool.{beq};
 ghost use Rattle.std.specs.Int.Signed.{lt_z};

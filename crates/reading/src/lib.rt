@@ -1,4 +1,6 @@
 // A job read into the work space.
+#![tactic(auto)]
+
 pub mod fill;
 mod points;
 

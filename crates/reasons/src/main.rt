@@ -1,4 +1,6 @@
 // Where each record of the job on standard input went, a line each on standard output: `tell_job` does the work, and `main` only reads, calls and writes.
+#![tactic(auto)]
+
 ghost use Rattle.std.specs.Prelude.{length};
 ghost use Rattle.listing.specs.Needs.{Whole};
 

@@ -2,6 +2,8 @@
 // examples, then the other stored answers, then the jobs at the limits, then those with a rate. A case is two lines, `case NAME` and `job HEX`; between them a
 // line `at "ARGUMENT"` may say the rate. In the job a space begins a field, and `+N` after it is N more of it (see `again`). `tests/replay_cases ORACLE
 // crates/replay_cases` makes both files from what the real Rust answers.
+#![tactic(auto)]
+
 ghost use Rattle.std.specs.Prelude.{◌<◌};
 
 use job::Job;

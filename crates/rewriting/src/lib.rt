@@ -1,4 +1,6 @@
 // One way to write a job: an accepted job's bytes with its points numbered ring by ring, each ring from its first point in walk order.
+#![tactic(auto)]
+
 mod writing;
 
 ghost use Rattle.std.specs.Prelude.{◌≡◌, ◌≤◌, length};

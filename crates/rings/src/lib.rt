@@ -1,1 +1,2 @@
 // Circles and links: definitions and laws for the crates above. No code.
+#![tactic(auto)]

@@ -1,4 +1,6 @@
 // Rows 4 to 8 of document 01's table, each over the whole job as it was read.
+#![tactic(auto)]
+
 mod points;
 
 ghost use Rattle.std.specs.Prelude.{◌≡◌, false, ◌*◌, ◌≤◌, length, get_or, replicate};

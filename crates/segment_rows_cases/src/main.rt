@@ -1,6 +1,8 @@
 // Sorts the lists of level segments on standard input both ways, as records and over parallel slices, and prints them in order: key (---: above every x), left point, right
 // point (255: not valid) and heading of each. A list is two bytes that add up to how many, then a byte each for left x, left point, right point and heading of each. The
 // lists, and what the crate's file `stdout` has, come from `tests/segment_rows_cases`: the Rust's own comparison and sort.
+#![tactic(auto)]
+
 ghost use Rattle.std.specs.Prelude.{◌≡◌, ◌+◌, ◌*◌, ◌≤◌, ◌<◌, ◌^◌, length};
 ghost use Rattle.job.specs.Limits as limit;
 ghost use Rattle.sorting.specs.Columns.{Even};

@@ -1,5 +1,7 @@
 // Which shape lies in which, of the job on standard input: a byte for each ordered pair of its closed paths, 1 or 0, on standard output. `contained` does the work, and `main` only reads, calls and writes. Of a job
 // that is refused nothing is written there, and `refused` with its number on standard error. (`./shapes` says the bytes in words.)
+#![tactic(auto)]
+
 ghost use Rattle.std.specs.Prelude.{length};
 ghost use Rattle.containment.specs.Needs.{AnswersWithin};
 

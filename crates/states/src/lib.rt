@@ -1,4 +1,6 @@
 // States to come back to: four places, each with a name of one byte and a copy of the live block. No function of this file that is `pub` has a `requires`.
+#![tactic(auto)]
+
 mod copies;
 mod places;
 

@@ -1,5 +1,7 @@
 // Keeps states of the job on standard input, goes back to them and drops them, between steps on record 0, and prints what each call answers: its own letter, and the refusal's number, 0 for none.
 // After every call the counts of points and records follow.
+#![tactic(auto)]
+
 use audit::Reply;
 use finishing::{open, step};
 use libc::{STDIN_FILENO, STDOUT_FILENO};

@@ -1,5 +1,7 @@
 // Steps stored rings with the entry points and prints each step: the step that was due, the act that the proved decision names, the step then due; then the rings,
 // and the paths that writing out gives. Input and the file `stdout` are the oracle's: `oracle stepped make tests/answers`, `oracle stepped`.
+#![tactic(auto)]
+
 mod print;
 mod progress;
 

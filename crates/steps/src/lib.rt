@@ -1,4 +1,5 @@
 // Steps carried out: an act that `turns` decided, applied as a list of writes; and records stepped until they are done.
+#![tactic(auto)]
 
 // What a step on a record answers: carried out, refused with 10, refused with 12.
 #[derive(Drop)]

@@ -1,4 +1,6 @@
 // The work space: every word is read and written by its column's name.
+#![tactic(auto)]
+
 ghost use Rattle.std.specs.Prelude.{◌≡◌, ◌+◌, ◌<◌, ◌≤◌, ◌^◌, length, get_or};
 ghost use Rattle.store.specs.Field.{size, base, BLOCK};
 ghost use Rattle.store.specs.Field as field;

@@ -1,4 +1,6 @@
 // Where a record's ring went: one of eight reasons, told of a work space whose closed rings are all done. `reason_of` has no `requires`.
+#![tactic(auto)]
+
 ghost use Rattle.std.specs.Prelude.{◌≡◌, ◌<◌, ◌≤◌, length};
 ghost use Rattle.job.specs.Limits as limit;
 ghost use Rattle.store.specs.Field.{rc, REASON, TAKER, BLOCK};

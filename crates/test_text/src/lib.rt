@@ -1,4 +1,6 @@
 // What the test programs share: reading stored cases from a slice of bytes, and a ring's text. Every answer is defined past the end too, so that no caller needs a bound.
+#![tactic(auto)]
+
 pub mod ring;
 pub mod words;
 

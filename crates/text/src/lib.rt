@@ -1,4 +1,6 @@
 // Text into a lent slice, from a place on: a byte, a word, a decimal number. A byte past the end is lost; each function answers where the next one goes.
+#![tactic(auto)]
+
 ghost use Rattle.std.specs.Prelude.{◌≡◌, [], ◌∷◌, ◌+◌, ◌-◌, ◌<◌};
 ghost use Rattle.text.specs.Pour.{poured, pour};
 ghost use Rattle.text.specs.Text.{decimal};

@@ -1,4 +1,6 @@
 // What a ring's next step is to do, decided by reading only; the crate `steps` carries it out.
+#![tactic(auto)]
+
 use geometry::Point;
 
 // The step due, or done.

@@ -1,4 +1,6 @@
 // Walks round the rings of a job, with a mark for each point.
+#![tactic(auto)]
+
 pub mod resolving;
 
 ghost use Rattle.std.specs.Prelude.{◌≡◌, not, ◌&&◌, ◌||◌, ◌≤◌, eqb, length};

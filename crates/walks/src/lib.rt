@@ -1,4 +1,6 @@
 // Walks round a ring: the doubled area, whether it is valid.
+#![tactic(auto)]
+
 ghost use Rattle.std.specs.Prelude.{◌≡◌, true};
 ghost use Rattle.geometry.specs.Plane.{edge_area, area_outpt, is_very_small_triangle};
 ghost use Rattle.lone.specs.Lone.{is_valid_closed_path};
