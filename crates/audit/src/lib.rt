@@ -20,21 +20,21 @@ use job::refusal::Refusal;
 use store::{Col, get};
 
 // What the tests of a work space say.
-#[derive(Drop)]
+#[derive(Clone, Copy)]
 pub enum Verdict {
     Passed,
     Refused(Refusal),
 }
 
 // What a call answers that changes what it is lent: done, or a refusal.
-#[derive(Drop)]
+#[derive(Clone, Copy)]
 pub enum Reply {
     Done,
     Refused(Refusal),
 }
 
 // A test of a reached point: its coordinates, its numbers, its links.
-#[derive(Drop)]
+#[derive(Clone, Copy)]
 pub enum PointTest {
     Table,
     Numbers,
@@ -42,7 +42,7 @@ pub enum PointTest {
 }
 
 // A test of a record: its numbers, the record that took it, its progress, why it has no ring.
-#[derive(Drop)]
+#[derive(Clone, Copy)]
 pub enum RecordTest {
     Named,
     Taken,

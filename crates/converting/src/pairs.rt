@@ -17,7 +17,7 @@ use sorting::{load, save};
 use store::{Col, NONE, get};
 
 // How many joins there are now, or that there is no room for a point.
-#[derive(Drop)]
+#[derive(Clone, Copy)]
 pub enum Converted {
     Joins(usize),
     Full,

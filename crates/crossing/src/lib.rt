@@ -11,7 +11,7 @@ ghost use Rattle.crossing.specs.Floats.{divisor_f, along_f, strictly_within_f, q
 use geometry::Point;
 
 // The differences of two edges: the first from a to b, the second from c to d.
-#[derive(Drop)]
+#[derive(Clone, Copy)]
 pub struct EdgePair {
     pub dx1: f64,
     pub dy1: f64,
@@ -20,7 +20,7 @@ pub struct EdgePair {
 }
 
 // Two edges by value, the first from a to b, the second from c to d, with their differences, made once.
-#[derive(Drop)]
+#[derive(Clone, Copy)]
 pub struct Edges {
     pub a: Point,
     pub b: Point,
@@ -31,7 +31,7 @@ pub struct Edges {
 
 // Where the line of the second edge meets the first: nowhere, at or before its start, at or after its end, or inside, with the fractions
 // of the first edge and of the second at which they meet.
-#[derive(Drop)]
+#[derive(Clone, Copy)]
 pub enum Crossing {
     Parallel,
     Start,

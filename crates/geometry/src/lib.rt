@@ -7,7 +7,7 @@ ghost use Rattle.geometry.specs.Plane.{same_point, is_collinear, sign_of, cross_
 ghost use Rattle.geometry.specs.Table.{InTable};
 
 // A point: x and y in micrometres, and its depth z, a signed number of 32 bits kept as its word in two's complement. Only x and y are compared.
-#[derive(Drop)]
+#[derive(Clone, Copy)]
 pub struct Point {
     pub x: i32,
     pub y: i32,
@@ -15,7 +15,7 @@ pub struct Point {
 }
 
 // A box: the least and greatest x and y. As in core.rs, top is the least y.
-#[derive(Drop)]
+#[derive(Clone, Copy)]
 pub struct Rect {
     pub left: i32,
     pub top: i32,

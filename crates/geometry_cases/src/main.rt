@@ -260,7 +260,7 @@ fn one_more(n: u64) -> u64 {
 }
 
 // The counts of cases and of those that differ.
-#[derive(Drop)]
+#[derive(Clone, Copy)]
 struct Counts {
     cases: u64,
     differ: u64,

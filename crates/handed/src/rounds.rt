@@ -14,7 +14,7 @@ use store::boxed::{Sides, sides_of};
 use store::{Col, NONE, get};
 
 // What a round finds: whether a point fails a test or it did not come back to its beginning; and else whether it met the point that it was to look for, and the box of its ring.
-#[derive(Drop)]
+#[derive(Clone, Copy)]
 struct Trail {
     bad: bool,
     met: bool,

@@ -25,7 +25,7 @@ pub const FIRST_AT: usize = 3;
 
 pub const SECOND_AT: usize = 2;
 
-#[derive(Drop)]
+#[derive(Clone, Copy)]
 pub enum Kind {
     Settings,
     Point,
@@ -35,7 +35,7 @@ pub enum Kind {
 }
 
 // A field's numbers; x and y as words raised by the limit, z as a word in two's complement.
-#[derive(Drop)]
+#[derive(Clone, Copy)]
 pub enum Field {
     Settings {
         bits: u32,
@@ -63,7 +63,7 @@ pub enum Field {
 }
 
 // What reading finds: a field and its whole length, or a refusal.
-#[derive(Drop)]
+#[derive(Clone, Copy)]
 pub enum Reading {
     Read { field: Field, length: usize },
     Refused(Refusal),

@@ -12,7 +12,7 @@ use crate::field::Field;
 
 // What reading carries from field to field: how far it is, the last tag (0 before the first field), the settings' bits, and
 // how many fields of each kind there were.
-#[derive(Drop)]
+#[derive(Clone, Copy)]
 pub struct Job {
     pub at: usize,
     pub last: u8,
@@ -103,10 +103,10 @@ impl Job {
 
 // The limits that definitions cite are the code's.
 fn limits_agree()
-    ensures* do_value { do ⌜ (← (⟦Job::POINTS⟧).entry) ≡ limit.POINTS ⌝ }
-    ensures* do_value_2 { do ⌜ (← (⟦Job::RECORDS⟧).entry) ≡ limit.RECORDS ⌝ }
-    ensures* do_value_3 { do ⌜ (← (⟦Job::SEGMENTS⟧).entry) ≡ limit.SEGMENTS ⌝ }
-    ensures* do_value_4 { do ⌜ (← (⟦Job::JOINS⟧).entry) ≡ limit.JOINS ⌝ }
-    ensures* do_value_5 { do ⌜ (← (⟦Job::COORDINATE⟧).entry) ≡ limit.COORDINATE ⌝ }
-    ensures* do_value_6 { do ⌜ (← (⟦Job::NONE⟧).entry) ≡ limit.NONE ⌝ }
+    ensures points { Job.POINTS ≡ limit.POINTS }
+    ensures records { Job.RECORDS ≡ limit.RECORDS }
+    ensures segments { Job.SEGMENTS ≡ limit.SEGMENTS }
+    ensures joins { Job.JOINS ≡ limit.JOINS }
+    ensures coordinate { Job.COORDINATE ≡ limit.COORDINATE }
+    ensures none { Job.NONE ≡ limit.NONE }
 {}

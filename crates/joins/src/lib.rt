@@ -13,7 +13,7 @@ use job::Job;
 use store::{Col, JOINED, NONE, get, set};
 
 // How a join, or the list of them, ends: done, or refused as a knot (9) or full (10).
-#[derive(Drop)]
+#[derive(Clone, Copy)]
 pub enum Joined {
     Done,
     Knot,

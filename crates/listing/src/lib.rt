@@ -249,7 +249,7 @@ fn put_line(t: &[u8], from: usize, rev: bool, opened: bool, out: &mut [u8], at: 
 // ---- the listing
 
 // Where reading and writing are.
-#[derive(Drop)]
+#[derive(Clone, Copy)]
 struct Places {
     from: usize,
     at: usize,
@@ -292,7 +292,7 @@ fn put_counts(closed: usize, opened: usize, out: &mut [u8]) -> usize
 }
 
 // What listing answers: how many bytes the text has, or that there is no room for it.
-#[derive(Drop)]
+#[derive(Clone, Copy)]
 pub enum Listed {
     Bytes(usize),
     NoRoom,

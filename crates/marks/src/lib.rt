@@ -2,7 +2,7 @@
 #![tactic(auto)]
 
 ghost use Rattle.std.specs.Prelude.{◌≡◌, ◌<◌, ◌≤◌, replicate};
-ghost use Rattle.marks.specs.Marks.{BITS, WORDS, bit, with_bit, marked, with_mark, with_bits, all_below};
+ghost use Rattle.marks.specs.Marks.{bit, with_bit, marked, with_mark, with_bits, all_below};
 ghost use Rattle.marks.specs.Marks as spec;
 
 use job::Job;
@@ -17,13 +17,13 @@ const FULL: u64 = !0;
 
 // The numbers that definitions cite are the code's.
 fn numbers_agree()
-    ensures* do_value { do ⌜ (← (⟦BITS⟧).entry) ≡ spec.BITS ⌝ }
-    ensures* do_value_2 { do ⌜ (← (⟦WORDS⟧).entry) ≡ spec.WORDS ⌝ }
+    ensures bits { BITS ≡ spec.BITS }
+    ensures words { WORDS ≡ spec.WORDS }
 {}
 
 // A word with bit i set.
 pub fn with_bit(w: u64, i: usize) -> u64
-    requires { i < BITS }
+    requires { i < spec.BITS }
     ensures { result ≡ with_bit w i }
 {
     w | (1 << i)
@@ -31,14 +31,14 @@ pub fn with_bit(w: u64, i: usize) -> u64
 
 // Whether all bits of a word are set.
 fn is_full(w: u64) -> bool
-    ensures { result ≡ all_below BITS (bit w) }
+    ensures { result ≡ all_below spec.BITS (bit w) }
 {
     w == FULL
 }
 
 // Whether the n low bits of a word are set.
 fn low_set(w: u64, n: usize) -> bool
-    requires { n < BITS }
+    requires { n < spec.BITS }
     ensures { result ≡ all_below n (bit w) }
 {
     let low = (1 << n) - 1;
@@ -46,7 +46,7 @@ fn low_set(w: u64, n: usize) -> bool
 }
 
 // The marks by value: bit i % BITS of word i / BITS is point i's.
-#[derive(Drop)]
+#[derive(Clone, Copy)]
 pub struct Marks {
     pub words: [u64; WORDS],
 }
@@ -54,7 +54,7 @@ pub struct Marks {
 impl Marks {
     // No point is marked.
     pub fn none() -> Marks
-        ensures { result.words ≡ replicate WORDS 0 }
+        ensures { result.words ≡ replicate spec.WORDS 0 }
     {
         Marks { words: [0; WORDS] }
     }

@@ -28,9 +28,9 @@ const POINT: usize = HEADER + 18;
 
 // The numbers that definitions cite are the code's.
 fn sizes_agree()
-    ensures value { SETTINGS ≡ field.HEADER + field.size_of kind.Settings }
-    ensures value_2 { POINT ≡ field.HEADER + field.size_of kind.Point }
-    ensures value_3 { NOBODY ≡ limit.NONE }
+    ensures settings { SETTINGS ≡ field.HEADER + field.size_of kind.Settings }
+    ensures point { POINT ≡ field.HEADER + field.size_of kind.Point }
+    ensures nobody { NOBODY ≡ limit.NONE }
 {}
 
 // The place of point k's prev in the job.

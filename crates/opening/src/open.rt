@@ -22,7 +22,7 @@ use reading::fill::Outcome;
 use store::LENGTH;
 
 // What opening answers.
-#[derive(Drop)]
+#[derive(Clone, Copy)]
 pub enum Opened {
     Accepted,
     Refused(Refusal),

@@ -41,14 +41,14 @@ fn tray_agrees()
 {}
 
 // What writing out answers: how many closed and open paths the tray holds, or a refusal.
-#[derive(Drop)]
+#[derive(Clone, Copy)]
 pub enum Written {
     Paths { closed: usize, open: usize },
     Refused(Refusal),
 }
 
 // How building a record's path ends: no path, by the small test or by another one, or a path of so many points.
-#[derive(Drop)]
+#[derive(Clone, Copy)]
 pub enum PathEnd {
     Short,
     Small,
@@ -212,7 +212,7 @@ pub fn paths_below(w: &[u32], rev: bool, opened: bool, i: usize) -> usize
 // ---- how many bytes
 
 // What the open, or the closed, paths come to.
-#[derive(Drop)]
+#[derive(Clone, Copy)]
 struct Need {
     paths: usize,
     bytes: usize,

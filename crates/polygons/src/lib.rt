@@ -16,7 +16,7 @@ use paths::POINT;
 use rays::{Way, is_above, is_level, way_of};
 
 // Where a point lies in respect of a closed path.
-#[derive(Drop)]
+#[derive(Clone, Copy)]
 pub enum PointInPolygonResult {
     IsOn,
     IsInside,
@@ -24,7 +24,7 @@ pub enum PointInPolygonResult {
 }
 
 // Going round a path: whether the point was met, the side of its level, whether the crossings are odd.
-#[derive(Drop)]
+#[derive(Clone, Copy)]
 struct Tour {
     on: bool,
     above: bool,

@@ -14,7 +14,7 @@ use store::boxed::{set_sides, sides_of};
 use store::{Col, get, set};
 
 // The points and records that are in use.
-#[derive(Drop)]
+#[derive(Clone, Copy)]
 pub struct Used {
     pub points: usize,
     pub records: usize,

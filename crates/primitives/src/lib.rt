@@ -18,7 +18,7 @@ use job::Job;
 use store::{Col, NONE, get, set};
 
 // The place that was taken, or that there is none.
-#[derive(Drop)]
+#[derive(Clone, Copy)]
 pub enum Room {
     At(usize),
     Full,

@@ -2,7 +2,7 @@
 #![tactic(auto)]
 
 ghost use Rattle.std.specs.Prelude.{◌≡◌, true, not, ◌+◌, ◌-◌, ◌*◌, ◌≤◌, ◌^◌, min};
-ghost use Rattle.rates.specs.Rate.{LARGEST, is_digit, in_range, rate_in, asked, arguments, rate_of};
+ghost use Rattle.rates.specs.Rate.{is_digit, in_range, rate_in, asked, arguments, rate_of};
 ghost use Rattle.rates.specs.Rate as rates;
 ghost use Rattle.rates.specs.Charge.{charge_of};
 ghost use Rattle.rates.specs.Charge as charges;
@@ -14,7 +14,7 @@ pub const DIVISOR: u64 = 20000000000;
 
 // The numbers that definitions cite are the code's.
 fn largest_agrees()
-    ensures* { do ⌜ (← (⟦LARGEST⟧).entry) ≡ rates.LARGEST ⌝ }
+    ensures { LARGEST ≡ rates.LARGEST }
 {}
 
 fn divisor_agrees()
@@ -22,7 +22,7 @@ fn divisor_agrees()
 {}
 
 // What the arguments say: none, a rate in cents, or a bad one.
-#[derive(Drop)]
+#[derive(Clone, Copy)]
 pub enum Rate {
     NoRate,
     Cents(u64),
@@ -43,8 +43,8 @@ fn wide(b: u8) -> u64
 
 // A number with one digit more; one that has passed the largest rate stays past it.
 fn with_digit(v: u64, b: u8) -> u64
-    requires { (v ≤ LARGEST + 1) × (is_digit b ≡ true) }
-    ensures { result ≡ min (LARGEST + 1) (10 * v + (b - 48)) }
+    requires { (v ≤ rates.LARGEST + 1) × (is_digit b ≡ true) }
+    ensures { result ≡ min (rates.LARGEST + 1) (10 * v + (b - 48)) }
 {
     let n = 10 * v + (wide(b) - 48);
     if LARGEST < n {
@@ -110,7 +110,7 @@ pub fn rate_of(words: usize, first: &[u8]) -> Rate
 }
 
 // A charge in cents, and what is left of the division.
-#[derive(Drop)]
+#[derive(Clone, Copy)]
 pub struct Charge {
     pub quotient: u64,
     pub remainder: u64,
@@ -118,7 +118,7 @@ pub struct Charge {
 
 // The charge of a doubled area's magnitude.
 pub fn charge_of(magnitude: u64, rate: u64) -> Charge
-    requires { (magnitude ≤ 2 ^ 53) × (rate ≤ LARGEST) }
+    requires { (magnitude ≤ 2 ^ 53) × (rate ≤ rates.LARGEST) }
     ensures { result ≡ charge_of magnitude rate }
 {
     let n = magnitude * rate;

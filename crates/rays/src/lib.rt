@@ -13,7 +13,7 @@ ghost use Rattle.rays.specs.Needs.{BeginsOn, GoesOver};
 use geometry::{Point, cross_product_sign};
 
 // An edge touches the point, stays on its side of the level, or goes over to the other side: past the point, or crossing the ray.
-#[derive(Drop)]
+#[derive(Clone, Copy)]
 pub enum Way {
     Touches,
     Stays,

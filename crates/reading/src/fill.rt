@@ -15,7 +15,7 @@ use job::{Job, field};
 use store::{Col, NO_RING, NONE};
 
 // What was counted up to here, of a field, of all fields or of an accepted job; or the refusal.
-#[derive(Drop)]
+#[derive(Clone, Copy)]
 pub enum Outcome {
     Ok(Job),
     Refused(Refusal),

@@ -35,7 +35,7 @@ fn longest_agrees()
 {}
 
 // What rewriting answers: how many bytes of the tray are the job, or a refusal.
-#[derive(Drop)]
+#[derive(Clone, Copy)]
 pub enum Rewritten {
     Bytes(usize),
     Refused(Refusal),

@@ -21,7 +21,7 @@ fn along(w: &[u32], on: bool, p: usize) -> usize
 }
 
 // What ends a walk: the wall of a ring with a front edge; the other end of a run without one; another segment's x.
-#[derive(Drop)]
+#[derive(Clone, Copy)]
 pub enum Halt {
     Wall(usize),
     Stop(usize),
@@ -57,7 +57,7 @@ fn run(w: &[u32], on: bool, h: Halt, y: usize, start: usize) -> usize
     }
 }
 
-#[derive(Drop)]
+#[derive(Clone, Copy)]
 pub struct Two {
     pub one: usize,
     pub two: usize,
@@ -76,7 +76,7 @@ pub fn move_pair(w: &[u32], on: bool, y: usize, l1: usize, l2: usize) -> Two
 }
 
 // Both ends of a level run: back along prev, ahead along next.
-#[derive(Drop)]
+#[derive(Clone, Copy)]
 pub struct Ends {
     pub back: usize,
     pub ahead: usize,

@@ -15,7 +15,7 @@ use turns::Discard;
 use turns::decide::valid_without;
 
 // None, since the record is no unfinished closed ring; one that is to be decided; or the drop of the present point.
-#[derive(Drop)]
+#[derive(Clone, Copy)]
 pub enum Coming {
     Nothing,
     Step,

@@ -21,7 +21,7 @@ use turns::decide::{present_of, removable_at};
 use turns::ring::{due_at, next_of, point_at, prev_of};
 
 // How a loop's walk ended: at a point where a step is to be decided, at one that the removal loop drops, or past the loop's end, at the point that its last turn moved on to.
-#[derive(Drop)]
+#[derive(Clone, Copy)]
 pub enum WalkEnd {
     At(usize),
     Gone(usize),

@@ -2,7 +2,7 @@
 #![tactic(auto)]
 
 // What a step on a record answers: carried out, refused with 10, refused with 12.
-#[derive(Drop)]
+#[derive(Clone, Copy)]
 pub enum Answer {
     Ok,
     Full,
@@ -10,7 +10,7 @@ pub enum Answer {
 }
 
 // How finishing all rings ends: every one is done, or a step was refused with 10.
-#[derive(Drop)]
+#[derive(Clone, Copy)]
 pub enum RingsEnd {
     Done,
     Full,

@@ -81,7 +81,7 @@ fn has_room(w: &[u32], act: Act) -> bool
 }
 
 // What a step answers; and, where it is carried out, whether it may have changed its ring's box.
-#[derive(Drop)]
+#[derive(Clone, Copy)]
 pub struct Stepped {
     pub answer: Answer,
     pub changes: bool,

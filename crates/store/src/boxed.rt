@@ -9,7 +9,7 @@ use crate::{BOXES, load};
 use job::Job;
 
 // A box by its words: the least x and y and the greatest, raised as coordinates are.
-#[derive(Drop)]
+#[derive(Clone, Copy)]
 pub struct Sides {
     pub left: usize,
     pub top: usize,

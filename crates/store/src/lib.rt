@@ -2,7 +2,7 @@
 #![tactic(auto)]
 
 ghost use Rattle.std.specs.Prelude.{◌≡◌, ◌+◌, ◌<◌, ◌≤◌, ◌^◌, length, get_or};
-ghost use Rattle.store.specs.Field.{size, base, BLOCK};
+ghost use Rattle.store.specs.Field.{size, base};
 ghost use Rattle.store.specs.Field as field;
 ghost use Rattle.store.specs.Reason.{reason_number};
 ghost use Rattle.store.specs.Reason as reason;
@@ -27,7 +27,7 @@ pub const WHILE_REMOVING: usize = 4;
 pub const AT_SPLIT: usize = 5;
 
 // The columns: the only index into the words of points and records.
-#[derive(Drop)]
+#[derive(Clone, Copy)]
 pub enum Col {
     X,
     Y,
@@ -100,7 +100,7 @@ fn base_of(c: Col) -> usize
 // Which word is number i of a column.
 fn word_of(c: Col, i: usize) -> usize
     requires { i < size (column_of c) }
-    ensures { (result ≡ base (column_of c) + i) × (result < BLOCK) }
+    ensures { (result ≡ base (column_of c) + i) × (result < field.BLOCK) }
 {
     let b = base_of(c);
     b + i
@@ -116,7 +116,7 @@ fn load(w: &[u32], k: usize) -> usize
 
 // Word i of a column.
 pub fn get(w: &[u32], c: Col, i: usize) -> usize
-    requires { (BLOCK ≤ length w.now) × (i < size (column_of c)) }
+    requires { (field.BLOCK ≤ length w.now) × (i < size (column_of c)) }
     ensures { (result ≡ cell (column_of c) w.now i) × (result < 2 ^ 32) }
 {
     let k = word_of(c, i);
@@ -151,7 +151,7 @@ fn size_of(c: Col) -> usize
 
 // Word i of a column, and 0 past its end: for words that were not tested yet.
 pub fn read(w: &[u32], c: Col, i: usize) -> usize
-    requires { BLOCK ≤ length w.now }
+    requires { field.BLOCK ≤ length w.now }
     ensures { (result ≡ cell (column_of c) w.now i) × (result < 2 ^ 32) }
 {
     let n = size_of(c);
@@ -163,7 +163,7 @@ pub fn read(w: &[u32], c: Col, i: usize) -> usize
 
 // Stores word i of a column.
 pub fn set(w: &mut [u32], c: Col, i: usize, v: usize)
-    requires { (BLOCK ≤ length w.old) × (i < size (column_of c)) × (v < 2 ^ 32) }
+    requires { (field.BLOCK ≤ length w.old) × (i < size (column_of c)) × (v < 2 ^ 32) }
     ensures { w.new ≡ put (column_of c) w.old i v }
 {
     let k = word_of(c, i);
@@ -172,18 +172,18 @@ pub fn set(w: &mut [u32], c: Col, i: usize, v: usize)
 
 // The code's constants are those of the definitions.
 fn constants_agree()
-    ensures value { BOXES ≡ field.BOXES }
-    ensures* do_value { do ⌜ (← (⟦BLOCK⟧).entry) ≡ field.BLOCK ⌝ }
-    ensures value_2 { STATES ≡ field.STATES }
-    ensures value_3 { NAMES ≡ field.NAMES }
-    ensures value_4 { KEPT ≡ field.KEPT }
-    ensures value_5 { LENGTH ≡ field.LENGTH }
-    ensures value_6 { NONE ≡ field.NONE }
-    ensures no_ring_value { NO_RING ≡ reason.NO_RING }
-    ensures value_7 { JOINED ≡ reason.JOINED }
-    ensures at_validity_value { AT_VALIDITY ≡ reason_number at_validity }
-    ensures while_removing_value { WHILE_REMOVING ≡ reason_number while_removing }
-    ensures at_split_value { AT_SPLIT ≡ reason_number at_split }
+    ensures boxes { BOXES ≡ field.BOXES }
+    ensures block { BLOCK ≡ field.BLOCK }
+    ensures states { STATES ≡ field.STATES }
+    ensures names { NAMES ≡ field.NAMES }
+    ensures kept { KEPT ≡ field.KEPT }
+    ensures length_at { LENGTH ≡ field.LENGTH }
+    ensures none { NONE ≡ field.NONE }
+    ensures no_ring { NO_RING ≡ reason.NO_RING }
+    ensures joined { JOINED ≡ reason.JOINED }
+    ensures at_validity { AT_VALIDITY ≡ reason_number at_validity }
+    ensures while_removing { WHILE_REMOVING ≡ reason_number while_removing }
+    ensures at_split { AT_SPLIT ≡ reason_number at_split }
 {}
 
 pub mod boxed;

@@ -19,7 +19,7 @@ use store::{AT_SPLIT, AT_VALIDITY, Col, JOINED, NONE, WHILE_REMOVING, get};
 
 // The eight: no ring in the job; joined into another record; discarded, by the validity test, while points were removed, at a split; no path, which was too short or too small; a path, at a
 // place of its list.
-#[derive(Drop)]
+#[derive(Clone, Copy)]
 pub enum Reason {
     NoRing,
     Joined(usize),
@@ -32,7 +32,7 @@ pub enum Reason {
 }
 
 // What asking answers: the reason, or a refusal.
-#[derive(Drop)]
+#[derive(Clone, Copy)]
 pub enum Told {
     Because(Reason),
     Refused(Refusal),

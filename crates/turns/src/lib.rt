@@ -4,7 +4,7 @@
 use geometry::Point;
 
 // The step due, or done.
-#[derive(Drop)]
+#[derive(Clone, Copy)]
 pub enum Due {
     Validity,
     Removal,
@@ -14,7 +14,7 @@ pub enum Due {
 }
 
 // The rule by which a ring is discarded: too small at the validity test; fell invalid while points were removed; area under 2.0 at a split.
-#[derive(Drop)]
+#[derive(Clone, Copy)]
 pub enum Discard {
     AtValidity,
     WhileRemoving,
@@ -22,7 +22,7 @@ pub enum Discard {
 }
 
 // What a step does, with the step due then.
-#[derive(Drop)]
+#[derive(Clone, Copy)]
 pub enum Act {
     Stay,
     Discard(Discard),

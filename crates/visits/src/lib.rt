@@ -41,7 +41,7 @@ fn elsewhere(w: &[u32], homes: &[u32], i: usize, k: usize) -> bool
 }
 
 // Where the walks stand: the record whose ring is walked, the point that the ring began at, the one that it goes on at, and how many points are to go at most.
-#[derive(Drop)]
+#[derive(Clone, Copy)]
 pub struct Place {
     pub ring: usize,
     pub first: usize,
@@ -73,7 +73,7 @@ fn place_of(w: &[u32], i: usize) -> Place
 
 // A stretch of a ring whose points lie in one word of the marks: whether it ended at a point that resolves elsewhere, or where the ring ends; the points' bits; where the ring goes on, and how
 // many points are to go.
-#[derive(Drop)]
+#[derive(Clone, Copy)]
 struct Stretch {
     found: bool,
     back: bool,
@@ -133,7 +133,7 @@ fn walk_word(w: &[u32], homes: &[u32], c: Place, word: usize) -> Stretch
 }
 
 // What is gathered in one word: whether a point resolves elsewhere; the word and its points' bits; where the walks go on.
-#[derive(Drop)]
+#[derive(Clone, Copy)]
 pub struct Gathered {
     pub found: bool,
     pub word: usize,

@@ -25,7 +25,7 @@ use store::boxed::{Sides, sides_of};
 use store::{Col, NONE, get};
 
 // What asking answers: how many records there are, or a refusal.
-#[derive(Drop)]
+#[derive(Clone, Copy)]
 pub enum Found {
     Records(usize),
     Refused(Refusal),
