@@ -17,7 +17,7 @@ use Rattle.job.specs.declared.field.Reading.TheVariants.{Read, Refused}
 use Rattle.job.specs.Field.{tag_of, length_of, kind_of, size_of, field_in, strange_tag, torn_value, strange_bits, crowded, body_of, field_of}
 
 pub or_right : (a b : Bool) → (a || b) ≡ false → b ≡ false
-or_right true b h = elim b [ true ↦ h | false ↦ refl ]
+or_right true b h = elim b as (λ k. k ≡ false) [ true ↦ h | false ↦ refl ]
 or_right false b h = h
 
 -- a value that is not torn is there
