@@ -42,6 +42,10 @@ HERE = {
 }
 
 
+# Fields of this repository's records that have a dash: they turn behind a made head too.
+FIELDS = set()
+
+
 def respelled(name):
     if name in MEETS:
         return MEETS[name]
@@ -80,17 +84,16 @@ def from_kit(code, ours):
     return out
 
 
-def turn_code(text, table, stay):
-    """Code: names behind a made head stay."""
+def turn_code(text, table, stay, made=True):
+    """Code: in the proof of a function, names with a dash behind a made head stay, unless they are fields of ours."""
 
     def word(m):
         return table.get(m[0], m[0]) if m[0] not in stay else m[0]
 
     out, at = [], 0
-    for m in MADE.finditer(text):
+    for m in MADE.finditer(text) if made else []:
         out.append(WORD.sub(word, text[at : m.start()]))
-        # a field of ours at the end of such a path has no dash that Rattle made: only camel case turns there
-        out.append(".".join(table.get(p, p) if p not in stay and "-" not in p else p for p in m[0].split(".")))
+        out.append(".".join(table.get(p, p) if p not in stay and ("-" not in p or p in FIELDS) else p for p in m[0].split(".")))
         at = m.end()
     out.append(WORD.sub(word, text[at:]))
     return "".join(out)
@@ -100,13 +103,13 @@ def turn_span(span, table, stay):
     return WORD.sub(lambda m: re.sub(r"[^`\[\]|/:\\*…⟨⟩#]+", lambda p: table.get(p[0], p[0]) if p[0] not in stay else p[0], m[0]), span)
 
 
-def turn_antt(text, table, stay):
+def turn_antt(text, table, stay, made):
     out, at = [], 0
     for m in QUIET.finditer(text):
-        out.append(turn_code(text[at : m.start()], table, stay))
+        out.append(turn_code(text[at : m.start()], table, stay, made))
         out.append(SPAN.sub(lambda s: turn_span(s[0], table, stay), m[0]) if m[0][0] != '"' else m[0])
         at = m.end()
-    out.append(turn_code(text[at:], table, stay))
+    out.append(turn_code(text[at:], table, stay, made))
     return "".join(out)
 
 
@@ -150,6 +153,8 @@ def main(check):
     for path in files(".antt"):
         code = QUIET.sub(" ", read(path))
         for m in DECLARED.finditer(code):
+            if m[1] and turns(m[3]) and not path.endswith("/Proof.antt"):
+                FIELDS.add(m[3])
             if turns(m[3]):
                 table[m[3]] = respelled(m[3])
     # A lemma with a dash that would fall together with another name of a file gets `_lem`, everywhere.
@@ -180,7 +185,7 @@ def main(check):
                 print(f"meets: {path}: {', '.join(sorted(olds))} -> {new}")
         if check:
             continue
-        new = turn_antt(text, table, stay) if path.endswith(".antt") else turn_rt(text, table, stay)
+        new = turn_antt(text, table, stay, path.endswith("/Proof.antt")) if path.endswith(".antt") else turn_rt(text, table, stay)
         if new != text:
             with open(path, "w", encoding="utf-8") as f:
                 f.write(new)

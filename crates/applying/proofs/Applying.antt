@@ -44,11 +44,11 @@ reach w i s =
     let g : Going w i = going w i s in
     record {
       long = s.long;
-      record_in = g.record-in;
-      present_in = low w _ g.present-on;
-      next_in = low w _ (on_next w _ g.present-on);
-      prev_in = low w _ (on_prev w _ g.present-on);
-      second_in = low w _ (on_next w _ (on_next w _ g.present-on));
+      record_in = g.record_in;
+      present_in = low w _ g.present_on;
+      next_in = low w _ (on_next w _ g.present_on);
+      prev_in = low w _ (on_prev w _ g.present_on);
+      second_in = low w _ (on_next w _ (on_next w _ g.present_on));
     }
 
 -- ---- what is read is in its column

@@ -59,7 +59,7 @@ module _ {P : Type 0} (f : Coding P) (s : Store) (o : Sound s) (i : ℕ) (c : Cl
   good_t j g =
       record {
         linked = g.linked;
-        points_in_lem = λ k p. let q : PointIn s k = g.points-in k p in record { below = q.below; x_in = q.x_in; y_in = q.y_in; record_in = q.record_in };
+        points_in_lem = λ k p. let q : PointIn s k = g.points_in_lem k p in record { below = q.below; x_in = q.x_in; y_in = q.y_in; record_in = q.record_in };
         owner = g.owner;
         meant = λ z. g.meant (record { known = z.known; ringed = z.ringed; closed = z.closed });
         going = λ z e. g.going (record { known = z.known; ringed = z.ringed; closed = z.closed }) e;

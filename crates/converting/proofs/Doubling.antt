@@ -117,7 +117,7 @@ module _ (w : List ℕ) (o : Ready w) (room : points_of w < 2048) (i q like : �
         ready = record { long = long; resolved = grown_resolved (view w) (view (on_words w writes)) o.resolved i q like room a b g };
         more = omega (arith, g.points);
         old = λ j k z. grown_lives (view w) (view (on_words w writes)) o.resolved i q like room a b g j k z;
-        xs = λ k h. g.x-else k (λ e. omega arith);
+        xs = λ k h. g.x_else k (λ e. omega arith);
       }
 
   pub copy_points : points_of (on_words w (copy_writes (view w) like ++ link_writes (prev_of w q) (points_of w) q)) ≡ suc (points_of w)
@@ -144,10 +144,10 @@ module _ (w : List ℕ) (o : Ready w) (room : points_of w < 2048) (i q like : �
           points = omega (arith, g.points);
           flags = λ j h. words_same FLAGS j;
           new = λ j h e. absurd (omega (arith, g.records));
-          rings = λ j h e. ring_kept (view w) (view (on_words w writes)) j (g.first j) (λ k p. g.links.next-else k (λ z. omega (arith, (o.resolved.whole j h).below k p)) (off j h (λ z. apart j e z) k p));
-          xs = λ k h. g.x-else k (λ e. omega arith);
-          ys = λ k h. g.y-else k (λ e. omega arith);
-          zs = λ k h. g.z-else k (λ e. omega arith);
+          rings = λ j h e. ring_kept (view w) (view (on_words w writes)) j (g.first j) (λ k p. g.links.next_else k (λ z. omega (arith, (o.resolved.whole j h).below k p)) (off j h (λ z. apart j e z) k p));
+          xs = λ k h. g.x_else k (λ e. omega arith);
+          ys = λ k h. g.y_else k (λ e. omega arith);
+          zs = λ k h. g.z_else k (λ e. omega arith);
           shut = λ k h s.
               let z = home_of_lem (view w) o.resolved k h in
               at_home k z.0 (grown_lives (view w) (view (on_words w writes)) o.resolved i q like room a b g z.0 k z.1) (rw (words_same FLAGS z.0) (s z.0 z.1));

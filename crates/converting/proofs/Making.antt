@@ -60,7 +60,7 @@ module _ (w js : List ℕ) (m a b : ℕ) (t : Making w js m a b) where
   pub making_low : (d : Room) (k : ℕ) (x : List ℕ) → taken d x ≡ duplicate_op w a true → d ≡ room.At k → k < 2048
   making_low d k x e f =
       let g : Grew w x k = subst (λ (c : Room). Doubles w (taken c x)) f (first d x e) in
-      omega (arith, g.is, g.points, g.keeps.ready.resolved.few-points)
+      omega (arith, g.is, g.points, g.keeps.ready.resolved.few_points)
 
   pub making_room : (d : Room) (k : ℕ) (x : List ℕ) → taken d x ≡ duplicate_op w a true → d ≡ room.At k → 2 * m + 1 < length js
   making_room d k x e f = omega (arith, making_low d k x e f, t.few, t.room, low d k x e f)
@@ -68,7 +68,7 @@ module _ (w js : List ℕ) (m a b : ℕ) (t : Making w js m a b) where
       low : (d : Room) (k : ℕ) (x : List ℕ) → taken d x ≡ duplicate_op w a true → d ≡ room.At k → points_of w < 2048
       low d k x e f =
           let g : Grew w x k = subst (λ (c : Room). Doubles w (taken c x)) f (first d x e) in
-          omega (arith, g.points, g.keeps.ready.resolved.few-points)
+          omega (arith, g.points, g.keeps.ready.resolved.few_points)
 
   pub make_gives : GivesOf w js m (make_join w js m a b)
   unfolding make_join
@@ -108,7 +108,7 @@ module _ (w js : List ℕ) (m a b : ℕ) (t : Making w js m a b) where
 pub doubled_low : (w : List ℕ) (b : ℕ) (after : Bool) → Point w b → (d : Room) (j : ℕ) (x : List ℕ) → taken d x ≡ duplicate_op w b after → d ≡ room.At j → j < 2048
 doubled_low w b after t d j x e f =
     let g : Grew w x j = subst (Doubles w) (sym e ∙ ap (λ (c : Room). taken c x) f) (doubles w b after t) in
-    omega (arith, g.is, g.points, g.keeps.ready.resolved.few-points)
+    omega (arith, g.is, g.points, g.keeps.ready.resolved.few_points)
 
 module _ (w js : List ℕ) (m k b : ℕ) (t : Point w b) where
   pub second_done : (d : Room) (j : ℕ) (x js₁ js₂ : List ℕ) → taken d x ≡ duplicate_op w b false → d ≡ room.At j → js₁ ≡ set js (2 * m) k → js₂ ≡ set js₁ (2 * m + 1) j
@@ -210,11 +210,11 @@ module _ (w ls rs fs : List ℕ) (i j : ℕ) (t : Overlapping w ls rs fs i j) wh
     named_more x js' m' g k h = rw g.is (go (ℕ_discrete k (2 * m + 1)) (ℕ_discrete k (2 * m)))
       where
         fits : 2 * m + 1 < length js
-        fits = omega (arith, p.few, p.room, g.points, g.keeps.ready.resolved.few-points)
+        fits = omega (arith, p.few, p.room, g.points, g.keeps.ready.resolved.few_points)
 
         go : Dec (k ≡ 2 * m + 1) → Dec (k ≡ 2 * m) → get_or (set (set js (2 * m) g.one) (2 * m + 1) g.two) k 0 < points_of x
-        go (yes e) f = rw (e, get_or-set_same (set js (2 * m) g.one) (2 * m + 1) g.two 0 (omega (arith, fits, length-set js (2 * m) g.one))) g.two-low
-        go (no d) (yes f) = rw (get_or-set_other (set js (2 * m) g.one) (2 * m + 1) k g.two 0 d, f, get_or-set_same js (2 * m) g.one 0 (omega (arith, fits))) g.one-low
+        go (yes e) f = rw (e, get_or-set_same (set js (2 * m) g.one) (2 * m + 1) g.two 0 (omega (arith, fits, length-set js (2 * m) g.one))) g.two_low
+        go (no d) (yes f) = rw (get_or-set_other (set js (2 * m) g.one) (2 * m + 1) k g.two 0 d, f, get_or-set_same js (2 * m) g.one 0 (omega (arith, fits))) g.one_low
         go (no d) (no f) = rw (get_or-set_other (set js (2 * m) g.one) (2 * m + 1) k g.two 0 d, get_or-set_other js (2 * m) k g.one 0 f) (omega (arith, g.points, p.named k (omega (arith, g.more))))
 
     pub pairing_on : (x js' : List ℕ) (m' : ℕ) → Gives w x js js' m m' → Pairing x (set (set ls i (first_one w ls fs i j)) j (second_one w ls fs i j)) rs fs js' m'

@@ -151,7 +151,7 @@ module _ {ρ : ℕ → ℕ} (w w' : List ℕ) (al : Renumbered ρ (view w) (view
           record {
             answer = refl;
             words = z.1;
-            joins = listed_two ρ m js js' k k' j j' l e z.0 (omega (arith, t.few, t.room, g.points, g.keeps.ready.resolved.few-points)) (omega (arith, t'.few, t'.room, g'.points, g'.keeps.ready.resolved.few_points));
+            joins = listed_two ρ m js js' k k' j j' l e z.0 (omega (arith, t.few, t.room, g.points, g.keeps.ready.resolved.few_points)) (omega (arith, t'.few, t'.room, g'.points, g'.keeps.ready.resolved.few_points));
           }
       second k k' x x' e g g' (taken (At j) y) (taken Full y') z = absurd z
       second k k' x x' e g g' (taken Full y) (taken (At j') y') z = absurd z

@@ -54,7 +54,7 @@ pub record Stands (b : Histories) (w : List ℕ) : Type 0 where
 
 -- what the steps of a history leave passes the tests
 pub state_usable : (h : History) → FromStart h → Usable (state_of h)
-state_usable h c = handed_usable (state_of h) (c.demand-3.after-every-list h.steps).tests_pass
+state_usable h c = handed_usable (state_of h) (c.demand_3.after_every_list h.steps).tests_pass
 
 -- a place that was not touched
 still_holds : (w u : List ℕ) (p : ℕ) (x : Option KeptState) → name_at u p ≡ name_at w p → kept_block u p ≡ kept_block w p → HoldsAt w p x → HoldsAt u p x

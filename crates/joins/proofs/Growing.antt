@@ -54,7 +54,7 @@ module _ (s u : Store) (o : Resolved s) (i q like : ℕ) (room : pts s < limit.P
 
   -- who lived on a ring still does
   pub grown_lives : (j k : ℕ) → Lives s j k → Lives u j k
-  grown_lives j k z = record { bound = omega (arith, z.bound, c.points); res = rw (c.named-else k (λ e. omega (arith, z.bound))) (grown_res (s (pt REC) k) j z.res) }
+  grown_lives j k z = record { bound = omega (arith, z.bound, c.points); res = rw (c.named_else k (λ e. omega (arith, z.bound))) (grown_res (s (pt REC) k) j z.res) }
 
   fresh : total s (pts s) ≡ 0
   fresh = go (dec_lt 0 (total s (pts s)))
@@ -116,12 +116,12 @@ module _ (s u : Store) (o : Resolved s) (i q like : ℕ) (room : pts s < limit.P
       spots k h (no d) = omega (arith, o.placed k (omega arith))
 
       xs : (k : ℕ) → k < suc (pts s) → Dec (k ≡ pts s) → u (pt X) k ≤ 2 * limit.COORDINATE
-      xs k h (yes e) = subst (λ (x : ℕ). u (pt X) x ≤ 2 * limit.COORDINATE) (sym e) (rw c.x-new (o.x_in like b.bound))
-      xs k h (no d) = rw (c.x-else k d) (o.x_in k (omega arith))
+      xs k h (yes e) = subst (λ (x : ℕ). u (pt X) x ≤ 2 * limit.COORDINATE) (sym e) (rw c.x_new (o.x_in like b.bound))
+      xs k h (no d) = rw (c.x_else k d) (o.x_in k (omega arith))
 
       ys : (k : ℕ) → k < suc (pts s) → Dec (k ≡ pts s) → u (pt Y) k ≤ 2 * limit.COORDINATE
-      ys k h (yes e) = subst (λ (x : ℕ). u (pt Y) x ≤ 2 * limit.COORDINATE) (sym e) (rw c.y-new (o.y_in like b.bound))
-      ys k h (no d) = rw (c.y-else k d) (o.y_in k (omega arith))
+      ys k h (yes e) = subst (λ (x : ℕ). u (pt Y) x ≤ 2 * limit.COORDINATE) (sym e) (rw c.y_new (o.y_in like b.bound))
+      ys k h (no d) = rw (c.y_else k d) (o.y_in k (omega arith))
 
       homes : (j k : ℕ) → j < recs s → 0 < occ k (ring_at u j) → Resolves u (u (pt REC) k) j
       homes j k h y = go (ℕ_discrete k (pts s)) (ℕ_discrete j i)
@@ -130,7 +130,7 @@ module _ (s u : Store) (o : Resolved s) (i q like : ℕ) (room : pts s < limit.P
           x = omega (arith, grown_occs j h k)
 
           old : k ≢ pts s → 0 < occ k (ring_at s j) → Resolves u (u (pt REC) k) j
-          old d z = rw (c.named-else k d) (grown_res (s (pt REC) k) j (o.home j k h z))
+          old d z = rw (c.named_else k d) (grown_res (s (pt REC) k) j (o.home j k h z))
 
           go : Dec (k ≡ pts s) → Dec (j ≡ i) → Resolves u (u (pt REC) k) j
           go (yes e) (yes f) = rw (e, c.named_new, f) (grown_res (s (pt REC) like) i b.res)

@@ -32,7 +32,7 @@ module _ (s u : Store) (o : Resolved s) (a b i j : ℕ) (l r : List ℕ) (ij : i
   empty : (x : ℕ) → s (rc FIRST) x ≡ NONE → (u (rc FIRST) x ≡ NONE) × (u (rc OWNER) x ≡ s (rc OWNER) x)
   empty x e =
       let d : x ≢ j = λ z. fj (ap (s (rc FIRST)) (sym z) ∙ e) in
-      (c.first_else x d ∙ e, c.owner-else x d)
+      (c.first_else x d ∙ e, c.owner_else x d)
 
   way : (x t : ℕ) (z : Resolves s x t) → Path (u (rc FIRST)) (u (rc OWNER)) x z.via t
   way x t z =
@@ -48,7 +48,7 @@ module _ (s u : Store) (o : Resolved s) (a b i j : ℕ) (l r : List ℕ) (ij : i
   taken x z =
       record {
         via = z.via ++ (j ∷ []);
-        path = path_join (u (rc FIRST)) (u (rc OWNER)) x z.via j (j ∷ []) i (way x j z) (refl, c.first-gone, c.owner-gone);
+        path = path_join (u (rc FIRST)) (u (rc OWNER)) x z.via j (j ∷ []) i (way x j z) (refl, c.first_gone, c.owner_gone);
         low = rw c.records (all_in (λ y. y < recs s) (z.via ++ (j ∷ [])) lows);
         real = rw c.records hi;
         some = λ e. fi (sym (c.first_else i ij) ∙ e);
@@ -72,7 +72,7 @@ module _ (s u : Store) (o : Resolved s) (a b i j : ℕ) (l r : List ℕ) (ij : i
   begin t h = go (ℕ_discrete t j) (ℕ_discrete t i) (starts s i)
     where
       go : Dec (t ≡ j) → Dec (t ≡ i) → Starts (s (rc FIRST) i) (ring_at s i) → Starts (u (rc FIRST) t) (with (with (ring_at s) i (a ∷ r ++ b ∷ l)) j [] t)
-      go (yes e) f x = nowhere (ap (u (rc FIRST)) e ∙ c.first-gone) (rw (eq-eqb t j e))
+      go (yes e) f x = nowhere (ap (u (rc FIRST)) e ∙ c.first_gone) (rw (eq-eqb t j e))
       go (no d) (yes f) (nowhere e z) = absurd (fi e)
       go (no d) (yes f) (on_it e z) = rw (ne_eqb t j d, eq-eqb t i f)
           (subst (λ (x : ℕ). Starts x (a ∷ r ++ b ∷ l)) (sym (c.first_else t d ∙ ap (s (rc FIRST)) f)) (on_it e (omega (arith, spliced (s (rc FIRST) i), ones (s (rc FIRST) i)))))
@@ -127,12 +127,12 @@ module _ (s u : Store) (o : Resolved s) (a b i j : ℕ) (l r : List ℕ) (ij : i
           go (no d) (no f) = merge_res (s (pt REC) k) t d (o.home t k h (rw (ne_eqb t j d, ne_eqb t i f) at x))
 
       owners : (t : ℕ) → t < recs s → Dec (t ≡ j) → (u (rc OWNER) t ≡ NONE) ⊎ (u (rc OWNER) t < recs s)
-      owners t h (yes e) = inr (subst (λ (x : ℕ). u (rc OWNER) x < recs s) (sym e) (rw c.owner-gone hi))
-      owners t h (no d) = rw (c.owner-else t d) (o.owner_in t h)
+      owners t h (yes e) = inr (subst (λ (x : ℕ). u (rc OWNER) x < recs s) (sym e) (rw c.owner_gone hi))
+      owners t h (no d) = rw (c.owner_else t d) (o.owner_in t h)
 
       why : (t : ℕ) → t < recs s → ringless u t ≡ true → Dec (t ≡ j) → Emptied u t
-      why t h e (yes d) = subst (Emptied u) (sym d) (inr (c.reason-gone, rw (c.taker-gone, c.records) hi))
-      why t h e (no d) = emptied_kept s u t (c.reason-else t d) (c.taker-else t d) (omega (arith, c.records)) (o.emptied t h (rw (c.first_else t d) at e))
+      why t h e (yes d) = subst (Emptied u) (sym d) (inr (c.reason_gone, rw (c.taker_gone, c.records) hi))
+      why t h e (no d) = emptied_kept s u t (c.reason_else t d) (c.taker_else t d) (omega (arith, c.records)) (o.emptied t h (rw (c.first_else t d) at e))
 
   -- the ring of both
   pub merge_whole : Whole (u (pt NEXT)) (u (pt PREV)) (pts s) (a ∷ r ++ b ∷ l)
@@ -143,7 +143,7 @@ module _ (s u : Store) (o : Resolved s) (a b i j : ℕ) (l r : List ℕ) (ij : i
   pub merge_others : (t : ℕ) → t < recs s → t ≢ i → t ≢ j → ring_at u t ≡ ring_at s t
   merge_others t h d e =
       ring_kept s u t (c.first_else t e)
-      (λ k p. c.crossed.next-else k (apart s o i t hi h d k a p (omega (arith, ones a, one_is a a refl))) (apart s o j t hj h e k b p (omega (arith, twos b, one_is b b refl))))
+      (λ k p. c.crossed.next_else k (apart s o i t hi h d k a p (omega (arith, ones a, one_is a a refl))) (apart s o j t hj h e k b p (omega (arith, twos b, one_is b b refl))))
 
   -- where both records are closed
   pub merge_opened : is_open s i ≡ false → is_open s j ≡ false → OpenKept s u

@@ -38,16 +38,16 @@ module _ (s u : Store) (o : Resolved s) (a b i : ℕ) (l r : List ℕ) (hi : i <
   point k h e = omega (arith, o.few_points, (lives k h).bound)
 
   some_own : u (rc FIRST) i ≢ NONE
-  some_own = point (u (rc FIRST) i) (omega (arith, halves (u (rc FIRST) i), c.first-own))
+  some_own = point (u (rc FIRST) i) (omega (arith, halves (u (rc FIRST) i), c.first_own))
 
   some_new : u (rc FIRST) (recs s) ≢ NONE
-  some_new = point (u (rc FIRST) (recs s)) (omega (arith, halves (u (rc FIRST) (recs s)), c.first-new))
+  some_new = point (u (rc FIRST) (recs s)) (omega (arith, halves (u (rc FIRST) (recs s)), c.first_new))
 
   -- records without points stay so, and those with points too
   still : (x : ℕ) → x < recs s → s (rc FIRST) x ≡ NONE → (u (rc FIRST) x ≡ NONE) × (u (rc OWNER) x ≡ s (rc OWNER) x)
   still x h e =
       let d : x ≢ recs s = λ z. omega arith in
-      (c.first_else x (λ z. fi (ap (s (rc FIRST)) (sym z) ∙ e)) d ∙ e, c.owner-else x d)
+      (c.first_else x (λ z. fi (ap (s (rc FIRST)) (sym z) ∙ e)) d ∙ e, c.owner_else x d)
 
   keeps : (x : ℕ) → x < recs s → s (rc FIRST) x ≢ NONE → u (rc FIRST) x ≢ NONE
   keeps x h e = go (ℕ_discrete x i)
@@ -68,13 +68,13 @@ module _ (s u : Store) (o : Resolved s) (a b i : ℕ) (l r : List ℕ) (hi : i <
       }
 
   own : (k : ℕ) → 0 < occ k (a ∷ r) → Resolves u (u (pt REC) k) i
-  own k h = go (ℕ_discrete k a) c.named-own
+  own k h = go (ℕ_discrete k a) c.named_own
     where
       old : u (pt REC) k ≡ s (pt REC) k → Resolves u (u (pt REC) k) i
       old e = rw e (split_res (s (pt REC) k) i (lives k (omega (arith, halves k))).res)
 
       go : Dec (k ≡ a) → (u (pt REC) a ≡ s (pt REC) a) ⊎ (u (pt REC) a ≡ i) → Resolves u (u (pt REC) k) i
-      go (no d) e = old (c.named-else k (omega (arith, w.once k, halves k)) d)
+      go (no d) e = old (c.named_else k (omega (arith, w.once k, halves k)) d)
       go (yes z) (inl e) = old (rw z e)
       go (yes z) (inr e) = record { via = []; path = rw z e; low = tt; real = omega (arith, c.records); some = some_own }
 
@@ -85,7 +85,7 @@ module _ (s u : Store) (o : Resolved s) (a b i : ℕ) (l r : List ℕ) (hi : i <
   other : (j k : ℕ) → j < recs s → j ≢ i → 0 < occ k (ring_at s j) → Resolves u (u (pt REC) k) j
   other j k h d y =
       let z : occ k (a ∷ l ++ b ∷ r) ≡ 0 = occs k ∙ elsewhere (s (pt NEXT)) (s (pt PREV)) (pts s) (recs s) (ring_at s) (table s o) j i k h hi d y in
-      rw (c.named-else k (omega (arith, halves k)) (λ e. omega (arith, one_is k a e))) (split_res (s (pt REC) k) j (o.home j k h y))
+      rw (c.named_else k (omega (arith, halves k)) (λ e. omega (arith, one_is k a e))) (split_res (s (pt REC) k) j (o.home j k h y))
 
   after : ℕ → List ℕ
   after = with (with (ring_at s) i (a ∷ r)) (recs s) (b ∷ l)
@@ -98,8 +98,8 @@ module _ (s u : Store) (o : Resolved s) (a b i : ℕ) (l r : List ℕ) (hi : i <
   start j h = go (ℕ_discrete j (recs s)) (ℕ_discrete j i)
     where
       go : Dec (j ≡ recs s) → Dec (j ≡ i) → Starts (u (rc FIRST) j) (with (with (ring_at s) i (a ∷ r)) (recs s) (b ∷ l) j)
-      go (yes e) f = rw (eq-eqb j (recs s) e) (subst (λ (x : ℕ). Starts (u (rc FIRST) x) (b ∷ l)) (sym e) (on_it some_new c.first-new))
-      go (no d) (yes f) = rw (ne_eqb j (recs s) d, eq-eqb j i f) (subst (λ (x : ℕ). Starts (u (rc FIRST) x) (a ∷ r)) (sym f) (on_it some_own c.first-own))
+      go (yes e) f = rw (eq-eqb j (recs s) e) (subst (λ (x : ℕ). Starts (u (rc FIRST) x) (b ∷ l)) (sym e) (on_it some_new c.first_new))
+      go (no d) (yes f) = rw (ne_eqb j (recs s) d, eq-eqb j i f) (subst (λ (x : ℕ). Starts (u (rc FIRST) x) (a ∷ r)) (sym f) (on_it some_own c.first_own))
       go (no d) (no f) = rw (ne_eqb j (recs s) d, ne_eqb j i f) (subst (λ (x : ℕ). Starts x (ring_at s j)) (sym (c.first_else j f d)) (starts s j))
 
   cut : Table (u (pt NEXT)) (u (pt PREV)) (pts s) (suc (recs s)) after
@@ -147,8 +147,8 @@ module _ (s u : Store) (o : Resolved s) (a b i : ℕ) (l r : List ℕ) (hi : i <
           go (no d) (no f) = other j k (omega arith) f (rw (ne_eqb j (recs s) d, ne_eqb j i f) at x)
 
       owners : (j : ℕ) → j < recs u → Dec (j ≡ recs s) → (u (rc OWNER) j ≡ NONE) ⊎ (u (rc OWNER) j < recs u)
-      owners j h (yes e) = inr (subst (λ (x : ℕ). u (rc OWNER) x < recs u) (sym e) (rw c.owner-new (omega (arith, c.records))))
-      owners j h (no d) = rw (c.owner-else j d) (more (o.owner_in j (omega (arith, c.records))))
+      owners j h (yes e) = inr (subst (λ (x : ℕ). u (rc OWNER) x < recs u) (sym e) (rw c.owner_new (omega (arith, c.records))))
+      owners j h (no d) = rw (c.owner_else j d) (more (o.owner_in j (omega (arith, c.records))))
         where
           more : (s (rc OWNER) j ≡ NONE) ⊎ (s (rc OWNER) j < recs s) → (s (rc OWNER) j ≡ NONE) ⊎ (s (rc OWNER) j < recs u)
           more (inl e) = inl e
@@ -163,7 +163,7 @@ module _ (s u : Store) (o : Resolved s) (a b i : ℕ) (l r : List ℕ) (hi : i <
   pub split_others : (j : ℕ) → j < recs s → j ≢ i → ring_at u j ≡ ring_at s j
   split_others j h d =
       ring_kept s u j (c.first_else j d (λ z. omega arith))
-      (λ k p. c.crossed.next-else k (apart s o i j hi h d k a p (omega (arith, occs a, one_is a a refl))) (apart s o i j hi h d k b p (omega (arith, occs b, halves b, one_is b b refl))))
+      (λ k p. c.crossed.next_else k (apart s o i j hi h d k a p (omega (arith, occs a, one_is a a refl))) (apart s o i j hi h d k b p (omega (arith, occs b, halves b, one_is b b refl))))
 
   -- where record i is closed
   pub split_opened : is_open s i ≡ false → OpenKept s u
@@ -171,8 +171,8 @@ module _ (s u : Store) (o : Resolved s) (a b i : ℕ) (l r : List ℕ) (hi : i <
       record {
         records = omega (arith, c.records);
         points = omega (arith, c.points);
-        flags = λ j h. c.flags-else j (λ z. omega arith);
-        new = λ j h g. let e : j ≡ recs s = omega (arith, c.records) in rw (e, c.flags-new);
+        flags = λ j h. c.flags_else j (λ z. omega arith);
+        new = λ j h g. let e : j ≡ recs s = omega (arith, c.records) in rw (e, c.flags_new);
         rings = λ j h g. split_others j h (differ s j i g shut);
         xs = λ k h. c.xs k;
         ys = λ k h. c.ys k;
@@ -183,7 +183,7 @@ module _ (s u : Store) (o : Resolved s) (a b i : ℕ) (l r : List ℕ) (hi : i <
       }
     where
       closed : (j : ℕ) → j < recs s → is_open s j ≡ false → is_open u j ≡ false
-      closed j h e = rw (c.flags-else j (λ z. omega arith)) e
+      closed j h e = rw (c.flags_else j (λ z. omega arith)) e
 
       go : (k h : ℕ) → Lives s h k → is_open s h ≡ false → Dec (h ≡ i) → Shut u k
       go k h z e (yes f) =
@@ -191,6 +191,6 @@ module _ (s u : Store) (o : Resolved s) (a b i : ℕ) (l r : List ℕ) (hi : i <
           side y (dec_lt 0 (occ k (b ∷ l)))
         where
           side : 0 < occ k (a ∷ l ++ b ∷ r) → Dec (0 < occ k (b ∷ l)) → Shut u k
-          side y (yes g) = shut_by u (recs s) k (record { bound = omega (arith, c.points, z.bound); res = new k g }) (rw c.flags-new)
+          side y (yes g) = shut_by u (recs s) k (record { bound = omega (arith, c.points, z.bound); res = new k g }) (rw c.flags_new)
           side y (no g) = shut_by u i k (record { bound = omega (arith, c.points, z.bound); res = own k (omega (arith, halves k)) }) (closed i hi shut)
       go k h z e (no d) = shut_by u h k (record { bound = omega (arith, c.points, z.bound); res = other h k z.res.real d (on_ring_lem s o h k z) }) (closed h z.res.real e)

@@ -187,7 +187,7 @@ module _ {S X : Type 0} (M : Machine S) where
               p = M.takes y.state.now + c.p;
               r = length (to_list (M.cuts y.state.now)) + c.r;
               costs = cost_before M F.entries i y.who y.state y.here y.unfinished c.costs;
-              sum_p = omega (arith, c.sum-p);
+              sum_p = omega (arith, c.sum_p);
               sum_r = omega (arith, c.sum_r, step_length M F.entries i y.who y.state);
             }
 
@@ -209,13 +209,13 @@ module _ {S X : Type 0} (M : Machine S) where
         step : (v : Unfinished M F.entries) → Accepted M lp lr F v.place ⊎ Refused M lp lr F v.place → (t : List ℕ) × AllDone M (run_forest M lp lr F t).entries
         step v (inl y) =
             let L : State S = y.state in
-            let s : AfterStep M (step_entries M F.entries v.place y.who L) L.now n g.points-due g.records-due = cost_after M F.entries v.place y.who L y.here y.unfinished g.costs in
+            let s : AfterStep M (step_entries M F.entries v.place y.who L) L.now n g.points_due g.records_due = cost_after M F.entries v.place y.who L y.here y.unfinished g.costs in
             let r : HasRoom M lp lr (carry_out M F v.place y.who L) s.left = record {
               points_due = s.points_left;
               records_due = s.records_left;
               costs = s.costs;
-              fits_points = omega (arith, g.fits-points, s.sum_p);
-              fits_records = omega (arith, g.fits-records, s.sum_r, step_length M F.entries v.place y.who L);
+              fits_points = omega (arith, g.fits_points, s.sum_p);
+              fits_records = omega (arith, g.fits_records, s.sum_r, step_length M F.entries v.place y.who L);
             } in
             let u = rec s.left s.sum_n (step_forest M lp lr F v.place) (rw y.becomes r) in
             (v.place ∷ u.0, u.1)
@@ -250,7 +250,7 @@ module _ {S X : Type 0} (M : Machine S) where
       split = parts (map enter os) (map enter ps) (subst (λ (es : List (Entry S X)). Costs M es c.n c.p c.r) entries_are c.costs)
 
       used_points : a + b + (split.p₁ + split.p₂) ≤ lp
-      used_points = omega (arith, w.0, c.sum-p, split.sum_p)
+      used_points = omega (arith, w.0, c.sum_p, split.sum_p)
 
       used_records : length os + length ps + (split.r₁ + split.r₂) ≤ lr
       used_records = omega (arith, w.1, c.sum_r, split.sum_r, length-map (os ++ ps) enter, length-append os ps)

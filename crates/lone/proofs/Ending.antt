@@ -54,8 +54,8 @@ module _ {S X : Type 0} (M : Machine S) where
     pub room_ok : (F : Forest S X) (n i : ℕ) → HasRoom F n → (q : Option ℕ) (L : State S) → at F.entries i ≡ closed_ring q L → M.over L.now ≡ false → answer M lp lr F i ≡ ok
     unfolding answer
     room_ok F n i g q L here unfinished =
-        let s : AfterStep M (step_entries M F.entries i q L) L.now n g.points-due g.records-due = cost_after M F.entries i q L here unfinished g.costs in
-        rw (here, unfinished, le-leb (F.points + M.takes L.now) lp (omega (arith, g.fits-points, s.sum_p)), le-leb (length F.entries + length (to_list (M.cuts L.now))) lr (omega (arith, g.fits-records, s.sum_r)))
+        let s : AfterStep M (step_entries M F.entries i q L) L.now n g.points_due g.records_due = cost_after M F.entries i q L here unfinished g.costs in
+        rw (here, unfinished, le-leb (F.points + M.takes L.now) lp (omega (arith, g.fits_points, s.sum_p)), le-leb (length F.entries + length (to_list (M.cuts L.now))) lr (omega (arith, g.fits_records, s.sum_r)))
 
     pub room_not_full : (F : Forest S X) (n i : ℕ) → HasRoom F n → answer M lp lr F i ≢ full
     unfolding answer
@@ -73,8 +73,8 @@ module _ {S X : Type 0} (M : Machine S) where
     step_room : (F : Forest S X) (n i : ℕ) → HasRoom F n → Accepted M lp lr F i → (k : ℕ) × (n ≡ suc k) × HasRoom (step_forest M lp lr F i) k
     step_room F n i g y =
         let L : State S = y.state in
-        let s : AfterStep M (step_entries M F.entries i y.who L) L.now n g.points-due g.records-due = cost_after M F.entries i y.who L y.here y.unfinished g.costs in
-        let r : HasRoom (carry_out M F i y.who L) s.left = record { points_due = s.points_left; records_due = s.records_left; costs = s.costs; fits_points = omega (arith, g.fits-points, s.sum_p); fits_records = omega (arith, g.fits-records, s.sum_r, step_length M F.entries i y.who L) } in
+        let s : AfterStep M (step_entries M F.entries i y.who L) L.now n g.points_due g.records_due = cost_after M F.entries i y.who L y.here y.unfinished g.costs in
+        let r : HasRoom (carry_out M F i y.who L) s.left = record { points_due = s.points_left; records_due = s.records_left; costs = s.costs; fits_points = omega (arith, g.fits_points, s.sum_p); fits_records = omega (arith, g.fits_records, s.sum_r, step_length M F.entries i y.who L) } in
         (s.left, s.sum_n, rw y.becomes r)
 
     step_room_any : (F : Forest S X) (n i : ℕ) → HasRoom F n → (k : ℕ) × HasRoom (step_forest M lp lr F i) k
@@ -127,7 +127,7 @@ module _ {S X : Type 0} (M : Machine S) where
         L = y.state
 
         go : CostTo (carry_out M F i y.who y.state) E → CostTo F E
-        go c = record { n = suc c.n; p = M.takes L.now + c.p; r = length (to_list (M.cuts L.now)) + c.r; costs = cost_before M F.entries i y.who L y.here y.unfinished c.costs; sum_p = omega (arith, c.sum-p); sum_r = omega (arith, c.sum_r, step_length M F.entries i y.who L) }
+        go c = record { n = suc c.n; p = M.takes L.now + c.p; r = length (to_list (M.cuts L.now)) + c.r; costs = cost_before M F.entries i y.who L y.here y.unfinished c.costs; sum_p = omega (arith, c.sum_p); sum_r = omega (arith, c.sum_r, step_length M F.entries i y.who L) }
 
     cost_any : (F E : Forest S X) (i : ℕ) → CostTo (step_forest M lp lr F i) E → CostTo F E
     cost_any F E i b = go (view M lp lr F i)
@@ -180,4 +180,4 @@ module _ {S X : Type 0} (M : Machine S) where
         let b : CostTo F (run_forest M lp lr F s) = cost_to_end s F h in
         let c : CostTo F (run_forest M lp lr F t) = cost_to_end t F k in
         let e = costs_one M b.costs c.costs in
-        (omega (arith, b.sum_p, c.sum-p, e.0), omega (arith, b.sum_r, c.sum_r, e.1))
+        (omega (arith, b.sum_p, c.sum_p, e.0), omega (arith, b.sum_r, c.sum_r, e.1))

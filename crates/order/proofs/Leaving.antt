@@ -72,7 +72,7 @@ module _ {P : Type 0} (G : Geo P) (f : Coding P) (Λ : Laws G f) (rest : List �
 -- and the boxes
 all_clean : (rest w : List ℕ) → Clean rest w → Clean rest (all_boxed w)
 all_clean rest w c =
-    record { long = omega (arith, c.long, length_all w); sound = subst Sound (sym (view_all w)) c.sound; behind = behind_all w c.long c.sound.few-records ∙ c.behind }
+    record { long = omega (arith, c.long, length_all w); sound = subst Sound (sym (view_all w)) c.sound; behind = behind_all w c.long c.sound.few_records ∙ c.behind }
 
 boxed_clean : (rest : List ℕ) (T : RingsEnd) → EndClean rest T → EndClean rest (then_boxed T)
 boxed_clean rest (rings_done w) c = all_clean rest w c

@@ -86,14 +86,14 @@ module _ (w : List ℕ) (rev : Bool) (a : ℕ) where
 
 module _ (w : List ℕ) (rev : Bool) (stop q : ℕ) where
   pub going_here : (Q : List ℕ → Type 0) → Going w rev stop q Q → q ≢ stop → PointIn (view w) q
-  going_here Q g d = go g.todo g.ahead g.points-in
+  going_here Q g d = go g.todo g.ahead g.points_in_lem
     where
       go : (l : List ℕ) → Ahead (link_of (view w) rev) stop q l → All (PointIn (view w)) l → PointIn (view w) q
       go [] a i = absurd (d a)
       go (x ∷ l) a i = subst (PointIn (view w)) (sym a.0) i.0
 
   pub going_on : (Q R : List ℕ → Type 0) (p : ℕ) → Going w rev stop q Q → q ≢ stop → p ≡ link_of (view w) rev q → ((l : List ℕ) → Q (q ∷ l) → R l) → Going w rev stop p R
-  going_on Q R p g d e f = go g.todo g.ahead g.points-in g.short g.says
+  going_on Q R p g d e f = go g.todo g.ahead g.points_in_lem g.short g.says
     where
       go : (l : List ℕ) → Ahead (link_of (view w) rev) stop q l → All (PointIn (view w)) l → length l < 2048 → Q l → Going w rev stop p R
       go [] a i h s = absurd (d a)

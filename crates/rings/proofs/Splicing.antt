@@ -15,37 +15,37 @@ use Rattle.rings.proofs.Members.{one_is, occ_append, seg_part, seg_next, whole_k
 pub crossed_sym : (n p n' p' : ℕ → ℕ) (a b : ℕ) → Crossed n p n' p' a b → Crossed n p n' p' b a
 crossed_sym n p n' p' a b c =
     record {
-      next_a = c.next-b;
-      next_b = c.next-a;
-      prev_a = c.prev-b;
-      prev_b = c.prev-a;
-      next_else = λ i x y. c.next-else i y x;
-      prev_else = λ i x y. c.prev-else i y x;
+      next_a = c.next_b;
+      next_b = c.next_a;
+      prev_a = c.prev_b;
+      prev_b = c.prev_a;
+      next_else = λ i x y. c.next_else i y x;
+      prev_else = λ i x y. c.prev_else i y x;
     }
 
 -- l is neither in the way of b's next nor of a and b themselves
 module _ (n p n' p' : ℕ → ℕ) (a b : ℕ) (c : Crossed n p n' p' a b) where
   -- the run from a to b closes at b
   half : (l : List ℕ) → Seg n p (a ∷ l ++ (b ∷ [])) → ((k : ℕ) → one k a + occ k l + one k b ≤ 1) → occ (n b) l + one (n b) b ≡ 0 → Linked n' p' (b ∷ l)
-  half [] s o e = (c.next-b ∙ s.0, subst (λ (x : ℕ). p' x ≡ b) s.0 c.prev-b, tt)
+  half [] s o e = (c.next_b ∙ s.0, subst (λ (x : ℕ). p' x ≡ b) s.0 c.prev_b, tt)
   half (z ∷ l) s o e =
       close n p n' p' b z l s.2
-      (all_in (λ k. n' k ≡ n k) (z ∷ l) (λ k h. c.next-else k (λ d. omega (arith, o k, one_is k a d)) (λ d. omega (arith, o k, one_is k b d))))
-      (all_in (λ k. p' k ≡ p k) (l ++ (b ∷ [])) (λ k h. c.prev-else k
+      (all_in (λ k. n' k ≡ n k) (z ∷ l) (λ k h. c.next_else k (λ d. omega (arith, o k, one_is k a d)) (λ d. omega (arith, o k, one_is k b d))))
+      (all_in (λ k. p' k ≡ p k) (l ++ (b ∷ [])) (λ k h. c.prev_else k
       (λ d. omega (arith, o k, one_is k z (d ∙ s.0), occ_append k l (b ∷ [])))
       (λ d. omega (arith, subst (λ (y : ℕ). occ y (z ∷ l) + one y b ≡ 0) (sym d) e, occ_append k l (b ∷ [])))))
-      (c.next-b ∙ s.0)
-      (subst (λ (y : ℕ). p' y ≡ b) s.0 c.prev-b)
+      (c.next_b ∙ s.0)
+      (subst (λ (y : ℕ). p' y ≡ b) s.0 c.prev_b)
 
   -- b's ring, less b, stands between a and b
   bridge : (r : List ℕ) → Seg n p (b ∷ r ++ (b ∷ [])) → ((k : ℕ) → one k a + occ k r + one k b ≤ 1) → occ (n a) r + one (n a) b ≡ 0 → Seg n' p' (a ∷ r ++ (b ∷ []))
-  bridge [] s o e = (c.next-a ∙ s.0, subst (λ (x : ℕ). p' x ≡ a) s.0 c.prev-a, tt)
+  bridge [] s o e = (c.next_a ∙ s.0, subst (λ (x : ℕ). p' x ≡ a) s.0 c.prev_a, tt)
   bridge (x ∷ r) s o e = (
-    c.next-a ∙ s.0,
-    subst (λ (y : ℕ). p' y ≡ a) s.0 c.prev-a,
+    c.next_a ∙ s.0,
+    subst (λ (y : ℕ). p' y ≡ a) s.0 c.prev_a,
     seg_keep n p n' p' x (r ++ (b ∷ [])) s.2
-        (rw (init_of_snoc x r b) (all_in (λ k. n' k ≡ n k) (x ∷ r) (λ k h. c.next-else k (λ d. omega (arith, o k, one_is k a d)) (λ d. omega (arith, o k, one_is k b d)))))
-        (all_in (λ k. p' k ≡ p k) (r ++ (b ∷ [])) (λ k h. c.prev-else k
+        (rw (init_of_snoc x r b) (all_in (λ k. n' k ≡ n k) (x ∷ r) (λ k h. c.next_else k (λ d. omega (arith, o k, one_is k a d)) (λ d. omega (arith, o k, one_is k b d)))))
+        (all_in (λ k. p' k ≡ p k) (r ++ (b ∷ [])) (λ k h. c.prev_else k
         (λ d. omega (arith, subst (λ (y : ℕ). occ y (x ∷ r) + one y b ≡ 0) (sym d) e, occ_append k r (b ∷ [])))
         (λ d. omega (arith, o k, one_is k x (d ∙ s.0), occ_append k r (b ∷ []))))),
   )
@@ -105,8 +105,8 @@ module _ (n p n' p' : ℕ → ℕ) (a b : ℕ) (c : Crossed n p n' p' a b) (m : 
   pub whole_apart : (l : List ℕ) → occ a l ≡ 0 → occ b l ≡ 0 → occ (n a) l ≡ 0 → occ (n b) l ≡ 0 → Whole n p m l → Whole n' p' m l
   whole_apart l oa ob na nb w =
       whole_kept n p n' p' m m l w (omega arith)
-      (λ k h. c.next-else k (λ d. off k a h d oa) (λ d. off k b h d ob))
-      (λ k h. c.prev-else k (λ d. off k (n a) h d na) (λ d. off k (n b) h d nb))
+      (λ k h. c.next_else k (λ d. off k a h d oa) (λ d. off k b h d ob))
+      (λ k h. c.prev_else k (λ d. off k (n a) h d na) (λ d. off k (n b) h d nb))
     where
       off : (k x : ℕ) → 0 < occ k l → k ≡ x → occ x l ≡ 0 → ⊥
       off k x h d e = omega (arith, subst (λ (y : ℕ). occ y l ≡ 0) (sym d) e)

@@ -85,7 +85,7 @@ found w q o h (suc f) r l e = by (ℕ_discrete (first_of w r) NONE) (o r l) (λ 
 module _ {w ss : List ℕ} {m : ℕ} {js : List ℕ} {n : ℕ} (g : Filled w ss m js n) (c : Clear w ss m js n) where
   -- row 4
   tabled : (k : ℕ) → k < points_of w → Placed w k
-  tabled k h = on_table w k (none_of (points_of w) (off_table w) c.on-the-table k h)
+  tabled k h = on_table w k (none_of (points_of w) (off_table w) c.on_the_table k h)
 
   -- row 5
   named : (k : ℕ) → k < points_of w → Numbered w k

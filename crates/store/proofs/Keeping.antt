@@ -102,7 +102,7 @@ module _ (s s' : Store) (o : Sound s) (i : ℕ) (K : Kept s s' i) where
               (all_in (λ k. s' (pt PREV) k ≡ s (pt PREV) k) (ring_at s j) (λ k p. K.prevs j k l d p)));
           points_in_lem = λ k p.
               let q : 0 < occ k (ring_at s j) = rw ring_other at p in
-              let t : PointIn s k = g.points-in k q in
+              let t : PointIn s k = g.points_in_lem k q in
               record {
                 below = omega (arith, t.below, K.points_up);
                 x_in = rw (K.xs k t.below) t.x_in;

@@ -45,7 +45,7 @@ use Rattle.turns.proofs.Sizes.{ring_fits}
 
 -- ---- what is read is on the ring
 pub found_present : (w : List ℕ) (i r : ℕ) → Going w i → r ≡ cell (rc PRESENT) w i → Found w (cell (rc PRESENT) w i) r
-found_present w i r g e = found w (cell (rc PRESENT) w i) r e g.present-on
+found_present w i r g e = found w (cell (rc PRESENT) w i) r e g.present_on
 
 pub found_first : (w : List ℕ) (i r : ℕ) → Going w i → r ≡ cell (rc FIRST) w i → Found w (cell (rc FIRST) w i) r
 found_first w i r g e = found w (cell (rc FIRST) w i) r e g.first_on

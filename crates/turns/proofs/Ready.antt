@@ -40,7 +40,7 @@ codes p t =
     made a b = record { x = a; y = b; z = p.z }
 
 pub in_codes : (p : Point) → Codes raised p → InTable p
-in_codes p c = subst InTable c.again (record { x = lowered_in (raised.xw p) c.x-in; y = lowered_in (raised.yw p) c.y-in })
+in_codes p c = subst InTable c.again (record { x = lowered_in (raised.xw p) c.x_in; y = lowered_in (raised.yw p) c.y_in })
 
 -- what a step needs of the geometry
 pub laws : (keep : Bool) → Laws (plane keep) raised

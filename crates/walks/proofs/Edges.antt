@@ -26,10 +26,10 @@ module _ (w : List ℕ) (op p : ℕ) (g : Edge w op) (ep : p ≡ prev_of w op) w
   prev_low = omega (arith, g.before.below, g.few)
 
   pub prev_x : view w (pt X) p ≤ 2 * limit.COORDINATE
-  prev_x = rw ep g.before.x-in
+  prev_x = rw ep g.before.x_in
 
   pub prev_y : view w (pt Y) p ≤ 2 * limit.COORDINATE
-  prev_y = rw ep g.before.y-in
+  prev_y = rw ep g.before.y_in
 
   pub prev_table : (a : Point) → a ≡ point_of w p → InTable a
   prev_table a e = rw (e, ep) (table_at w (prev_of w op) g.before)

@@ -10,5 +10,5 @@ edge_in_spec =
     (tie.spec
     (λ c κs. search rules)
     (λ c κs. search rules)
-    (λ c κs. (in_table _ _ _ c.before.before.before.requires.0 c.before.point-in.ensures, in_table _ _ _ c.before.before.before.requires.1 c.point-in2.ensures))
-    (λ c. edge_is _ _ _ _ _ _ c.before.before.before.before.requires.0 c.before.before.before.before.requires.1 c.before.before.point-in.ensures c.before.point-in2.ensures c.edge-area.ensures))
+    (λ c κs. (in_table _ _ _ c.before.before.before.requires.0 c.before.point_in_lem.ensures, in_table _ _ _ c.before.before.before.requires.1 c.point-in2.ensures))
+    (λ c. edge_is _ _ _ _ _ _ c.before.before.before.before.requires.0 c.before.before.before.before.requires.1 c.before.before.point_in_lem.ensures c.before.point-in2.ensures c.edge-area.ensures))

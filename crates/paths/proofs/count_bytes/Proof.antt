@@ -25,7 +25,7 @@ count_bytes_spec =
     (λ c κs. size_fits _ _ _ _ (tally_asked _ _ _ c.before.before.before.before.before.requires _ _ _ c.before.before.loop.invariant c.before.before.before.get.ensures.0 c.before.loop-test.true).of c.size-if.ensures)
     (λ c.
     let h = tally_on _ _ _ c.before.before.before.before.before.before.requires _ _ _ c.before.before.before.loop.invariant c.before.before.before.before.get.ensures.0 c.before.before.loop-test.true _ _ c.before.size-if.ensures c.field-size.ensures in
-    let f = c.before.before.before.before.before.before.requires.ready.sound.few-records in
+    let f = c.before.before.before.before.before.before.requires.ready.sound.few_records in
     record { fits = omega (arith, h.few_bytes, h.within) })
     (λ c. search rules)
     (λ c. search rules)

@@ -10,4 +10,4 @@ is_small_spec =
     (λ c. not_closed c.before.before.args.opened _ c.before.before.args.n c.if1.true)
     (λ c. not_three c.before.before.before.args.opened _ c.before.before.before.args.n c.before.if1.false c.if2.true)
     (λ c κs. three_of _ _ _ c.before.before.before.requires c.if2.false)
-    (λ c. is_three c.before.before.before.before.args.opened _ _ c.before.before.before.before.args.n c.before.before.if1.false c.before.if2.false c.is-small-ring.ensures))
+    (λ c. is_three c.before.before.before.before.args.opened _ _ c.before.before.before.before.args.n c.before.before.if1.false c.before.if2.false c.is_small_ring.ensures))

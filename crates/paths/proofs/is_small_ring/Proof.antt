@@ -26,4 +26,4 @@ is_small_ring_spec =
     c.before.before.before.point_at.ensures
     c.before.before.point-at2.ensures
     c.before.point-at3.ensures
-    c.is-very-small-triangle.ensures))
+    c.is_very_small_triangle.ensures))

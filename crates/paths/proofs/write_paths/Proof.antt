@@ -33,7 +33,7 @@ write_paths_spec =
     (λ c.
     let h = filled_on _ _ _ _ _ _ c.before.before.before.before.before.before.loop.invariant.0 _ c.before.before.before.before.before.before.before.before.before.before.requires.directed _ c.before.before.before.before.before.before.before.get.ensures.0 c.before.before.before.before.before.loop-test.true _ _ c.before.before.before.write-path.ensures in
     let p = paths_on _ _ _ _ _ _ c.before.before.before.before.before.before.loop.invariant.1 (ap (λ (x : Laid). x.at) c.before.before.before.write-path.ensures) c.path-count.ensures in
-    let f = c.before.before.before.before.before.before.before.before.before.before.requires.directed.ready.sound.few-records in
+    let f = c.before.before.before.before.before.before.before.before.before.before.requires.directed.ready.sound.few_records in
     record { fits = omega (arith, p.few, h.within) })
     (λ c. let l = filled_length _ _ _ _ _ _ c.before.before.before.before.before.before.loop.invariant.0 in let h = filled_fits _ _ _ _ _ _ c.before.before.before.before.before.before.loop.invariant.0 _ c.before.before.before.before.before.before.before.before.before.before.requires.directed _ c.before.before.before.before.before.before.before.get.ensures.0 c.before.before.before.before.before.loop-test.true _ _ c.before.before.before.write-path.ensures in search rules)
     (λ c. search rules)

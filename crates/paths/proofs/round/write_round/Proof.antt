@@ -30,6 +30,6 @@ write_round_spec =
     (h.0, h.1, laying_room _ _ _ _ _ _ _ _ g d))
     (λ c κs. let h = laying_here _ _ _ _ _ _ _ _ c.before.before.before.before.before.loop.invariant c.before.before.before.before.before.before.before.before.before.before.before.before.before.requires.round c.before.before.before.before.loop-test.true in search rules)
     (λ c. going_less _ _ _ _ _ _ c.before.before.before.before.before.before.loop.invariant c.before.before.before.before.before.loop-test.true c.link2.ensures)
-    (λ c. laying_on _ _ _ _ _ _ _ _ c.before.before.before.before.before.before.loop.invariant _ _ _ c.before.before.before.before.before.loop-test.true c.before.before.before.put-more.ensures c.link2.ensures)
+    (λ c. laying_on _ _ _ _ _ _ _ _ c.before.before.before.before.before.before.loop.invariant _ _ _ c.before.before.before.before.before.loop-test.true c.before.before.before.put_more.ensures c.link2.ensures)
     (λ c. let h = laying_length _ _ _ _ _ _ _ _ c.before.loop.invariant in search rules)
     (λ c. laying_ends _ _ _ _ _ _ _ _ c.before.loop.invariant _ c.loop-test.false c.before.before.before.before.before.before.before.before.before.requires c.before.before.before.before.before.put-point.ensures))

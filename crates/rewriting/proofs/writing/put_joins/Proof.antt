@@ -27,6 +27,6 @@ put_joins_spec =
     (λ c κs. search rules)
     (λ c. search rules)
     (λ c. search rules)
-    (λ c. pair_on _ _ c.before.before.before.before.before.before.before.loop.invariant _ _ _ _ c.before.before.before.before.before.before.loop-test.true c.before.before.before.before.before.new-number.ensures c.before.before.before.before.new-number2.ensures c.before.before.put-join.ensures)
+    (λ c. pair_on _ _ c.before.before.before.before.before.before.before.loop.invariant _ _ _ _ c.before.before.before.before.before.before.loop-test.true c.before.before.before.before.before.new_number_lem.ensures c.before.before.before.before.new-number2.ensures c.before.before.put-join.ensures)
     (λ c. search (rules, laid_length))
     (λ c. search (rules, laid_over)))

@@ -1,0 +1,7 @@
+-- `geometry::cross_product_sign` meets its contract.
+use borrow.Author.Rules.{rules}
+use Rattle.geometry.proofs.Signs.{cross_of}
+use Rattle.geometry.proofs.cross_product_sign.Goals as goal
+
+pub returns : goal.returns
+returns c = cross_of c.requires.fact_1 c.requires.fact_2 c.requires.fact_3 c.product-ab.ensures c.product-cd.ensures c.sign_of.ensures
