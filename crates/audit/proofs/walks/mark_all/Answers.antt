@@ -1,0 +1,16 @@
+-- mark_all meets its contract: after record i the marks are those of the records so far.
+use borrow.Author.Rules.{rules}
+use mathlib.Core.Path.{◌≡◌, refl, sym}
+use Prim.Native.Nat.{◌-◌, ◌≤◌}
+use lib.ListN.{length}
+use Rattle.store.specs.Named.{records_of}
+use Rattle.audit.specs.Tests.{any_below}
+use Rattle.audit.specs.Marks.{marks_by, meets}
+use Rattle.audit.proofs.Testing.{none, marks_none, marks_more, met_more, all_marked}
+use Rattle.audit.proofs.walks.mark_all.Goals as goal
+
+pub loop-i-init : goal.loop-i-init
+loop-i-init c = (search rules, marks_none _ _, sym (none _), refl)
+
+pub loop-i-preserved : goal.loop-i-preserved
+loop-i-preserved c = (search rules, search (rules, marks_more), search met_more, search rules)

@@ -1,0 +1,10 @@
+-- misboxed meets its contract.
+use borrow.Author.Rules.{rules}
+use Rattle.bounds.proofs.Walking.{bare_not, says_misboxed}
+use Rattle.bounds.proofs.misboxed.Goals as goal
+
+pub returns-then-a-eq-NONE : goal.returns-then-a-eq-NONE
+returns-then-a-eq-NONE c = search bare_not
+
+pub returns : goal.returns
+returns c = search says_misboxed

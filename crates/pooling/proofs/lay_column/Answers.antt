@@ -1,0 +1,17 @@
+-- `pooling::lay_column` meets its contract: the loop follows the definition.
+use Prim.Native.Nat.{◌-◌, ◌≤◌}
+use mathlib.Core.Path.{◌≡◌, refl}
+use native.Mathlib.Omega.{arith}
+use lib.ListN.{length}
+use borrow.Author.Rules.{rules}
+use Rattle.store.specs.Column.{column_of}
+use Rattle.pooling.specs.Pooled.{raise}
+use Rattle.pooling.specs.Words.{lay_column}
+use Rattle.pooling.proofs.Columns.{lay_none, lay_next, lay_done}
+use Rattle.pooling.proofs.lay_column.Goals as goal
+
+pub loop-i-init : goal.loop-i-init
+loop-i-init c = (lay_none _ _ _ _ _, omega arith, refl)
+
+pub loop-i-preserved : goal.loop-i-preserved
+loop-i-preserved c = (search lay_next, omega arith, search rules)
