@@ -1,6 +1,6 @@
 -- The marks are those of the points reached: the tests by the marks are the tests by the definition.
 use Prim.Native.Nat.{ℕ, zero, suc, ◌≤◌, ◌<◌}
-use mathlib.Core.Path.{◌≡◌, refl, ap, ◌∙◌, sym}
+use mathlib.Core.Path.{subst, ◌≡◌, refl, ap, ◌∙◌, sym}
 use mathlib.Core.Bool.{Bool, true, false, cond, not, ◌&&◌, ◌||◌}
 use mathlib.Core.List.{List, ◌∷◌}
 use native.Mathlib.Omega.{arith}
@@ -30,7 +30,7 @@ one_more : (m : ℕ) (ms l : List ℕ) (a : ℕ) → a < m → Marks m ms l → 
 one_more m ms l a h g = record { room = omega (arith, g.room, length-set ms a 1); is = λ k. go k (ℕ_discrete k a) }
   where
     go : (k : ℕ) → Dec (k ≡ a) → is_marked (set ms a 1) k ≡ is_in k (a ∷ l)
-    go k (yes e) = rw e (rw (get_or-set_same ms a 1 0 (omega (arith, g.room))) (sym (lt-ltb 0 (occ a (a ∷ l)) (occ_head a l))))
+    go k (yes e) = subst (λ (x : ℕ). is_marked (set ms a 1) x ≡ is_in x (a ∷ l)) (sym e) (rw (get_or-set_same ms a 1 0 (omega (arith, g.room))) (sym (lt-ltb 0 (occ a (a ∷ l)) (occ_head a l))))
     go k (no d) = rw (get_or-set_other ms a k 1 0 d, one_else k a (λ e. d (sym e)), zero-add (occ k l)) (g.is k)
 
 from : (f : ℕ) (n : ℕ → ℕ) (m : ℕ) (ms l : List ℕ) (a : ℕ) → Marks m ms l → Marks m (mark_from f n m ms a) (reach f n m l a)

@@ -306,7 +306,7 @@ module _ (w : List ℕ) (a c i k : ℕ) (t : Unknotted w a c i i) (kn : k ≡ re
       record {
         cols = λ g j e f. y_col g j e;
         long = y_long;
-        first_own = rw own_first (omega (arith, own_on, halves (first_of w i), off));
+        first_own = subst (λ (x : ℕ). 0 < occ x (a ∷ r)) (sym own_first) (omega (arith, own_on, halves (first_of w i), off));
         first_is = rw (le-ltb 0 (occ (first_of w i) (prev_of w c ∷ l)) (omega (arith, off))) own_first;
         first_else = λ j e. y_col (rc FIRST) j refl;
         rec_own = inl (y_else a a_out);
@@ -343,7 +343,7 @@ module _ (w : List ℕ) (a c i k : ℕ) (t : Unknotted w a c i i) (kn : k ≡ re
             (subst (λ (s : ℕ → ℕ). Crossed (next_of w) (prev_of w) (next_of x) s a (prev_of w c)) (fun_ext (λ j. col (pt PREV) j ∙ sym (z.cols (pt PREV) j refl refl))) crossed);
         points = z.cols (ct POINTS) 0 refl refl;
         records = z.cols (ct RECORDS) 0 refl refl ∙ omega arith;
-        first_new = rw (← kn, z.first_else k (λ e. ik (sym e)), eq-eqb k k refl) next_on_it;
+        first_new = subst (λ (x : ℕ). 0 < occ (first_of (move_first y i k a) x) (prev_of w c ∷ l)) kn (subst (λ (x : ℕ). 0 < occ x (prev_of w c ∷ l)) (sym split_first_new) next_on_it);
         first_own = z.first_own;
         first_else = λ j d e. z.first_else j d ∙ rw (ne_eqb j k (λ h. e (h ∙ kn)));
         owner_new = rw (← kn) (z.cols (rc OWNER) k refl refl ∙ rw (eq-eqb k k refl));

@@ -11,7 +11,7 @@ use Rattle.lone.specs.Forest.{answer, step_forest}
 use Rattle.lone.specs.Finish.{steps_on, finish_forest}
 use Rattle.lone.specs.Order.{machine}
 use Rattle.lone.specs.Bench.{result, expected, after, bench, edges, rules, depths, PathRow, path_result, lines, lone_result, lone_rows, open_after, open_result, open_expected, opens}
-use Rattle.lone.specs.Bench.{doubled_at_first, start_kept, start_cut_away, crossing_after, crossing_before, least_offcut, same_sign_lem, start_after_drop, start_moves_on, first_goes_back, area_under_two, toward_zero_lem, spike_goes, equals_go}
+use Rattle.lone.specs.Bench.{doubled_at_first, start_kept, start_cut_away, crossing_after, crossing_before, least_offcut, same_sign, start_after_drop, start_moves_on, first_goes_back, area_under_two, toward_zero, spike_goes, equals_go}
 use Rattle.lone.specs.Bench.{deep_crossing, onto_an_end, deep_doubling, equals_deep}
 
 -- the definitions that a row computes with: `unfolding computing` opens them all
@@ -53,7 +53,7 @@ least_offcut_lem : result least_offcut ≡ expected least_offcut
 unfolding computing
 least_offcut_lem = refl
 
-same_sign_lem : result same_sign_lem ≡ expected same_sign_lem
+same_sign_lem : result same_sign ≡ expected same_sign
 unfolding computing
 same_sign_lem = refl
 
@@ -73,7 +73,7 @@ area_under_two_lem : result area_under_two ≡ expected area_under_two
 unfolding computing
 area_under_two_lem = refl
 
-toward_zero_lem : result toward_zero_lem ≡ expected toward_zero_lem
+toward_zero_lem : result toward_zero ≡ expected toward_zero
 unfolding computing
 toward_zero_lem = refl
 

@@ -70,6 +70,7 @@ module _ {S X : Type 0} (M : Machine S) where
     sum_r : r ≡ r₁ + r₂
 
   focus : (es : List (Entry S X)) (i : ℕ) {n p r : ℕ} → Costs es n p r → i < length es → Focus es i n p r
+  focus [] i {n = n} {p = p} {r = r} _ h = elim h [ ]
   focus (e ∷ es) zero (cons {n₁ = n₁} {p₁ = p₁} {r₁ = r₁} {n₂ = n₂} {p₂ = p₂} {r₂ = r₂} c cs en ep er) h = record {
     n₁ = n₁;
     p₁ = p₁;

@@ -117,11 +117,11 @@ module _ (k : Job) (part : List ℕ) (b : Bool) (eb : b ≡ point_next k part) (
             record { turns = more k w n w' P.turns turned; within = rw en (record { points = omega (arith, fact.room); records = i.records; segments = i.segments; joins = i.joins }); kept = l ∙ P.kept; long = omega (arith, P.long) }
 
 -- ---- the loop over fields: a turn, and the points after it
-turns_going : {bytes : List ℕ} {F : ReadEnd} {j n : Job} {w v ss js : List ℕ} → Going bytes F j w ss js → PointTurns bytes j w n v → Going bytes F n v ss js
+turns_going : {bytes : List ℕ} {F : ReadEnd} {j : Job} {w : List ℕ} {n : Job} {v ss js : List ℕ} → Going bytes F j w ss js → PointTurns bytes j w n v → Going bytes F n v ss js
 turns_going g none = g
 turns_going {ss = ss} {js = js} g (more k u n v T t) = next (turns_going g T) t.here refl (t.is ss js)
 
-turns_fall : {bytes : List ℕ} {F : ReadEnd} {j n : Job} {w v ss js : List ℕ} → Going bytes F j w ss js → PointTurns bytes j w n v → length bytes - n.at ≤ length bytes - j.at
+turns_fall : {bytes : List ℕ} {F : ReadEnd} {j : Job} {w : List ℕ} {n : Job} {v ss js : List ℕ} → Going bytes F j w ss js → PointTurns bytes j w n v → length bytes - n.at ≤ length bytes - j.at
 turns_fall g none = omega arith
 turns_fall {ss = ss} {js = js} g (more k u n v T t) = omega (arith, turns_fall g T, falls (turns_going g T) t.here refl (t.is ss js))
 
