@@ -1,0 +1,15 @@
+-- area_outpt meets its contract: the edges yet to come, with the sum so far, make the area.
+use borrow.Author.Rules.{rules}
+use Rattle.walks.proofs.Visiting.{Summing, to_go, sum_begun, sum_edge, sum_low, sum_falls}
+use Rattle.walks.proofs.Edges.{add_fits, add_on, add_end}
+use mir.Syntax.{w64}
+use mir.Val.{to_z}
+use Rattle.geometry.specs.Plane.{area_outpt}
+use Rattle.walks.specs.Ring.{values_from}
+use Rattle.walks.proofs.area_outpt.Given as goal
+
+abbrev pub invariant-loop-op2 : goal.invariant-loop-op2
+invariant-loop-op2 l = Summing l.w l.op_start l.op2 (to_z w64 l.result) (area_outpt (values_from l.w l.op_start))
+
+abbrev pub decreases-loop-op2 : goal.decreases-loop-op2
+decreases-loop-op2 l = to_go l.w l.op_start l.op2
