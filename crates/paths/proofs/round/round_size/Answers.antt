@@ -1,0 +1,30 @@
+-- `paths::round_size` meets its contract: the points counted and those that the rest of the walk adds are all.
+use borrow.Author.Rules.{rules}
+use native.Mathlib.Omega.{arith}
+use lib.ListN.{length}
+use Rattle.store.specs.Words.{view}
+use Rattle.paths.specs.Walking.{link_of, to_go, Going, Counting, path_round}
+use Rattle.paths.proofs.Walks.{round_here, going_less}
+use Rattle.paths.proofs.Rounds.{counting_begins, counting_on, counting_fits, counting_here, counting_ends}
+use Rattle.paths.proofs.round.round_size.Goals as goal
+
+pub link-q-requires : goal.link-q-requires
+link-q-requires c = let h = round_here _ _ _ c.requires in search rules
+
+pub loop-q-init : goal.loop-q-init
+loop-q-init c = counting_begins _ _ _ _ c.requires c.link-q.ensures
+
+pub adds-d-requires : goal.adds-d-requires
+adds-d-requires c = counting_here _ _ _ _ _ _ c.requires c.loop-q.invariant c.loop-q-test.true
+
+pub link-q-requires-in-loop-q : goal.link-q-requires-in-loop-q
+link-q-requires-in-loop-q c = let h = counting_here _ _ _ _ _ _ c.requires c.loop-q.invariant c.loop-q-test.true in search rules
+
+pub loop-q-smaller : goal.loop-q-smaller
+loop-q-smaller c = going_less _ _ _ _ _ _ c.loop-q.invariant c.loop-q-test.true c.link-q-in-loop-q.ensures
+
+pub loop-q-preserved : goal.loop-q-preserved
+loop-q-preserved c = counting_on _ _ _ _ _ _ _ _ c.loop-q.invariant c.loop-q-test.true c.adds-d.ensures c.link-q-in-loop-q.ensures
+
+pub returns : goal.returns
+returns c = counting_ends _ _ _ _ _ _ c.loop-q.invariant c.loop-q-test.false
