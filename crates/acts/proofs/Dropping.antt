@@ -84,8 +84,11 @@ module _ (W : Type 0) (s : Store) (o : Sound s) (i : ℕ) (c : Closed s i) (m : 
         go (yes q) =
             let t : some 0 ≡ some b.far = sym (place_head (s (rc PRESENT) i) (z ∷ w ∷ r)) ∙ ap (λ (n : ℕ). place n (s (rc PRESENT) i ∷ z ∷ w ∷ r)) (sym q) ∙ at₀ in
             let t' : 0 ≡ b.far = cc in
-            rw (eq-eqb (s (rc FIRST) i) (s (rc PRESENT) i) q, prev_p) (place_last z (w ∷ r) (omega (arith, whole₀.once (last_of w r))) ∙ ap (λ (n : ℕ). some (ahead (suc (suc (length r))) n)) t')
-        go (no d) = rw (ne_eqb (s (rc FIRST) i) (s (rc PRESENT) i) d) (sym (place_drop (s (rc FIRST) i) (s (rc PRESENT) i) (z ∷ w ∷ r) (λ q. d (sym q))) ∙ ap (omap (ahead (length (z ∷ w ∷ r)))) at₀)
+            let p : cond (eqb (s (rc FIRST) i) (s (rc PRESENT) i)) (s (pt PREV) (s (rc PRESENT) i)) (s (rc FIRST) i) ≡ last_of z (w ∷ r) = rw (eq-eqb (s (rc FIRST) i) (s (rc PRESENT) i) q) prev_p in
+            ap (λ (n : ℕ). place n (z ∷ w ∷ r)) p ∙ place_last z (w ∷ r) (omega (arith, whole₀.once (last_of w r))) ∙ ap (λ (n : ℕ). some (ahead (suc (suc (length r))) n)) t'
+        go (no d) =
+            let p : cond (eqb (s (rc FIRST) i) (s (rc PRESENT) i)) (s (pt PREV) (s (rc PRESENT) i)) (s (rc FIRST) i) ≡ s (rc FIRST) i = rw (ne_eqb (s (rc FIRST) i) (s (rc PRESENT) i) d) refl in
+            ap (λ (n : ℕ). place n (z ∷ w ∷ r)) p ∙ (sym (place_drop (s (rc FIRST) i) (s (rc PRESENT) i) (z ∷ w ∷ r) (λ q. d (sym q))) ∙ ap (omap (ahead (length (z ∷ w ∷ r)))) at₀)
 
     positioned : Positioned (on_store s (drop_writes s i)) i z (w ∷ r) (ahead (length (z ∷ w ∷ r)) b.far) (some 0) removal
     positioned =

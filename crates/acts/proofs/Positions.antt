@@ -101,7 +101,7 @@ module _ (s : Store) (i x : ℕ) (l : List ℕ) (f : ℕ) (st : Option ℕ) (d :
         points_in_lem = λ k p. put k (rw (occ_from k) at p);
         owner = ow;
         meant = λ c. rw a.mark_is (mark_le d);
-        going = λ c e. rw (occ_from (s (rc PRESENT) i), a.present_is) (occ_head x l);
+        going = λ c e. rw (occ_from (s (rc PRESENT) i)) (subst (λ (y : ℕ). 0 < occ y (x ∷ l)) (sym a.present_is) (occ_head x l));
         explained = λ e. absurd (true≢false (sym e ∙ ringed));
       }
 

@@ -1,0 +1,15 @@
+-- `owners::follow` meets its contract: after `h` owners the walk is at `q`.
+use Prim.Native.Nat.{◌-◌}
+use borrow.Author.Rules.{rules}
+use Rattle.job.specs.Limits.{RECORDS}
+use Rattle.owners.proofs.Following.{Passing, begun, met, few_met, ended, passed, unended}
+use Rattle.owners.proofs.follow.Goals as goal
+
+pub returns-then-q-eq-NONE : goal.returns-then-q-eq-NONE
+returns-then-q-eq-NONE c = search (rules, ended)
+
+pub loop-h-preserved : goal.loop-h-preserved
+loop-h-preserved c = search (rules, passed)
+
+pub returns : goal.returns
+returns c = search (rules, unended)

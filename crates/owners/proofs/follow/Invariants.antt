@@ -1,0 +1,12 @@
+-- `owners::follow` meets its contract: after `h` owners the walk is at `q`.
+use Prim.Native.Nat.{◌-◌}
+use borrow.Author.Rules.{rules}
+use Rattle.job.specs.Limits.{RECORDS}
+use Rattle.owners.proofs.Following.{Passing, begun, met, few_met, ended, passed, unended}
+use Rattle.owners.proofs.follow.Given as goal
+
+abbrev pub invariant-loop-h : goal.invariant-loop-h
+invariant-loop-h l = Passing l.w l.i l.q l.h
+
+abbrev pub decreases-loop-h : goal.decreases-loop-h
+decreases-loop-h l = RECORDS - l.h

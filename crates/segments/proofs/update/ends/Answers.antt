@@ -1,0 +1,11 @@
+-- `segments::update::ends` meets its contract.
+use borrow.Author.Rules.{rules}
+use Rattle.segments.proofs.Updates.{home_point, home_self, ends_walled, ends_free}
+use Rattle.segments.proofs.Running.{home_low}
+use Rattle.segments.proofs.update.ends.Goals as goal
+
+pub returns-then-front : goal.returns-then-front
+returns-then-front c = search ends_walled
+
+pub returns : goal.returns
+returns c = search ends_free

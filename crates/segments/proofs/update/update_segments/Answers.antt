@@ -1,0 +1,19 @@
+-- `segments::update::update_segments` meets its contract: the loop follows the definition.
+use borrow.Author.Rules.{rules}
+use Prim.Native.Nat.{◌-◌}
+use mathlib.Core.Path.{refl}
+use Rattle.segments.specs.Update.{segments_of}
+use Rattle.segments.proofs.Updates.{Updating, updating_begun, updating_fits, updating_few, updating_point, updating_next, updating_done, through_low}
+use Rattle.segments.proofs.update.update_segments.Goals as goal
+
+pub loop-i-init : goal.loop-i-init
+loop-i-init c = search updating_begun
+
+pub claim-t-requires : goal.claim-t-requires
+claim-t-requires c = through_low _ _ _ (updating_point _ _ _ _ _ _ _ c.loop-i.invariant _ c.loop-i-test.true c.point_at-op.ensures) c.segment_through-s.ensures
+
+pub loop-i-preserved : goal.loop-i-preserved
+loop-i-preserved c = updating_next _ _ _ _ _ _ _ c.loop-i.invariant _ _ _ _ _ c.loop-i-test.true c.point_at-op.ensures c.segment_through-s.ensures c.claim-t.ensures refl
+
+pub returns : goal.returns
+returns c = updating_done _ _ _ _ _ _ _ c.loop-i.invariant c.loop-i-test.false

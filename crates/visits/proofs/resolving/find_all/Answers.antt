@@ -1,0 +1,18 @@
+-- `visits::resolving::find_all` meets its contract: no chain circles, so each record's home can be reached and written down.
+use mathlib.Core.Path.{◌≡◌, refl}
+use Prim.Native.Nat.{◌-◌, ◌≤◌}
+use lib.ListN.{length}
+use borrow.Author.Rules.{rules}
+use Rattle.store.specs.Named.{records_of}
+use Rattle.owners.specs.Tables.{Found}
+use Rattle.visits.proofs.Reaching.{none_found, no_circle, more_found, all_found}
+use Rattle.visits.proofs.resolving.find_all.Goals as goal
+
+pub loop-i-init : goal.loop-i-init
+loop-i-init c = (search rules, search (rules, none_found), refl)
+
+pub reach-h-requires : goal.reach-h-requires
+reach-h-requires c = search (rules, no_circle)
+
+pub note-requires : goal.note-requires
+note-requires c = search (rules, no_circle)

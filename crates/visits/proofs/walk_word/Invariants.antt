@@ -1,0 +1,14 @@
+-- `visits::walk_word` meets its contract: the loop follows the ring as long as its points lie in one word.
+use mathlib.Core.Path.{◌≡◌, refl}
+use mathlib.Core.Logic.{◌⊎◌, inl, inr}
+use Prim.Native.Nat.{◌<◌, ◌≤◌}
+use borrow.Author.Rules.{rules}
+use Rattle.visits.specs.Marks.{Stretching}
+use Rattle.visits.proofs.Rounds.{stretch_begun, stretch_on, stretch_met, stretch_back, stretch_more, stretch_over}
+use Rattle.visits.proofs.walk_word.Given as goal
+
+abbrev pub invariant-loop-n : goal.invariant-loop-n
+invariant-loop-n l = Stretching l.w l.c.ring l.c.first l.c.point l.c.left l.word l.bits l.q l.n × ((l.q ≡ l.c.point) ⊎ (l.n < l.c.left)) × (l.n ≤ l.c.left)
+
+abbrev pub decreases-loop-n : goal.decreases-loop-n
+decreases-loop-n l = l.n

@@ -1,0 +1,27 @@
+-- area_outpt meets its contract: the edges yet to come, with the sum so far, make the area.
+use borrow.Author.Rules.{rules}
+use Rattle.walks.proofs.Visiting.{Summing, to_go, sum_begun, sum_edge, sum_low, sum_falls}
+use Rattle.walks.proofs.Edges.{add_fits, add_on, add_end}
+use mir.Syntax.{w64}
+use mir.Val.{to_z}
+use Rattle.geometry.specs.Plane.{area_outpt}
+use Rattle.walks.specs.Ring.{values_from}
+use Rattle.walks.proofs.area_outpt.Goals as goal
+
+pub loop-op2-init : goal.loop-op2-init
+loop-op2-init c = search sum_begun
+
+pub edge_to-result-requires : goal.edge_to-result-requires
+edge_to-result-requires c = search sum_edge
+
+pub overflow_add-result : goal.overflow_add-result
+overflow_add-result c = search add_fits
+
+pub loop-op2-smaller : goal.loop-op2-smaller
+loop-op2-smaller c = search sum_falls
+
+pub loop-op2-preserved : goal.loop-op2-preserved
+loop-op2-preserved c = search add_on
+
+pub returns : goal.returns
+returns c = search add_end
