@@ -9,4 +9,4 @@ pub loop-k-preserved : goal.loop-k-preserved
 loop-k-preserved c = search (copy_on, rules)
 
 pub returns : goal.returns
-returns c = search (copied, rules)
+returns c = copied _ _ _ _ _ c.loop-k.invariant c.loop-k-test.false
