@@ -27,7 +27,7 @@ use Rattle.reading.specs.Needs.{Space}
 use Rattle.reading.specs.Read.{with_counts, read_of}
 use Rattle.reading.specs.Alike.{SameJob, SameEnd, Counts}
 use Rattle.reading.proofs.Ignoring.{ignores}
-use Rattle.audit.specs.Tests.{any_below_lem, off_table, no_such, no_such_of, names_nothing}
+use Rattle.audit.specs.Tests.{any_below, off_table, no_such, no_such_of, names_nothing}
 use Rattle.audit.specs.declared.Verdict.{Verdict}
 use Rattle.audit.specs.declared.Verdict.TheVariants as verdict
 use Rattle.rows.specs.Rows.{off_the_table, unnamed, no_such_number, loose_link, muddled, open_edge, rows_of}
@@ -108,8 +108,8 @@ abbrev verdict_in : ReadEnd → Verdict
 verdict_in (end (Ok j) w ss js) = first_rows w ss j.segments js j.joins
 verdict_in (end (Refused r) w ss js) = verdict.Refused r
 
-any_below_lem : (n : ℕ) (q r : ℕ → Bool) → ((k : ℕ) → k < n → q k ≡ r k) → any_below_lem n q ≡ any_below_lem n r
-unfolding any_below_lem
+any_below_lem : (n : ℕ) (q r : ℕ → Bool) → ((k : ℕ) → k < n → q k ≡ r k) → any_below n q ≡ any_below n r
+unfolding any_below
 any_below_lem zero q r h = refl
 any_below_lem (suc n) q r h = rw (any_below_lem n q r (λ k l. h k (omega arith)), h n (omega arith))
 
@@ -122,15 +122,15 @@ module _ (j : Job) (w w' ss ss' js js' : List ℕ) (c : Counts j w) (c' : Counts
   records_same = c.records ∙ sym c'.records
 
   four_same : off_the_table w ≡ off_the_table w'
-  four_same = any_below_lem (points_of w) (off_table w) (off_table w') (λ k l. each k (omega (arith, l, c.points))) ∙ ap (λ (n : ℕ). any_below_lem n (off_table w')) points_same
+  four_same = any_below_lem (points_of w) (off_table w) (off_table w') (λ k l. each k (omega (arith, l, c.points))) ∙ ap (λ (n : ℕ). any_below n (off_table w')) points_same
     where
       each : (k : ℕ) → k < j.points → off_table w k ≡ off_table w' k
       each k h =
           ap (λ (a : ℕ). ltb (2 * limit.COORDINATE) a || ltb (2 * limit.COORDINATE) (view w (pt Y) k)) (sym (s.points X k h))
           ∙ ap (λ (a : ℕ). ltb (2 * limit.COORDINATE) (view w' (pt X) k) || ltb (2 * limit.COORDINATE) a) (sym (s.points Y k h))
 
-  points_five : any_below_lem (points_of w) (no_such w) ≡ any_below_lem (points_of w') (no_such w')
-  points_five = any_below_lem (points_of w) (no_such w) (no_such w') (λ k l. each k (omega (arith, l, c.points))) ∙ ap (λ (n : ℕ). any_below_lem n (no_such w')) points_same
+  points_five : any_below (points_of w) (no_such w) ≡ any_below (points_of w') (no_such w')
+  points_five = any_below_lem (points_of w) (no_such w) (no_such w') (λ k l. each k (omega (arith, l, c.points))) ∙ ap (λ (n : ℕ). any_below n (no_such w')) points_same
     where
       each : (k : ℕ) → k < j.points → no_such w k ≡ no_such w' k
       each k h =
@@ -139,8 +139,8 @@ module _ (j : Job) (w w' ss ss' js js' : List ℕ) (c : Counts j w) (c' : Counts
           let d : rec_of w k ≡ rec_of w' k = sym (s.points REC k h) in
           cc (a, b, d, points_same, records_same)
 
-  records_five : any_below_lem (records_of w) (no_such_of w) ≡ any_below_lem (records_of w') (no_such_of w')
-  records_five = any_below_lem (records_of w) (no_such_of w) (no_such_of w') (λ k l. each k (omega (arith, l, c.records))) ∙ ap (λ (n : ℕ). any_below_lem n (no_such_of w')) records_same
+  records_five : any_below (records_of w) (no_such_of w) ≡ any_below (records_of w') (no_such_of w')
+  records_five = any_below_lem (records_of w) (no_such_of w) (no_such_of w') (λ k l. each k (omega (arith, l, c.records))) ∙ ap (λ (n : ℕ). any_below n (no_such_of w')) records_same
     where
       each : (k : ℕ) → k < j.records → no_such_of w k ≡ no_such_of w' k
       each k h =

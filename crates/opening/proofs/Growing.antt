@@ -24,7 +24,7 @@ use Rattle.reading.specs.Needs.{Room}
 use Rattle.reading.specs.Read.{counted, with_counts, read_of}
 use Rattle.reading.proofs.Placing.{has_room}
 use Rattle.reading.proofs.Counted.{filled}
-use Rattle.audit.specs.Tests.{any_below_lem}
+use Rattle.audit.specs.Tests.{any_below}
 use Rattle.rows.specs.Rows.{rows_of, unnamed, on_open}
 use Rattle.accepting.specs.Accept.{answer, judged, accept_of}
 use Rattle.audit.specs.declared.Verdict.{Verdict}
@@ -38,10 +38,10 @@ use Rattle.joins.specs.Join.{join_of, joins_from, process_horz_joins}
 abbrev pub grow : List ℕ → ReadEnd → ReadEnd
 grow z (end o w ss js) = end o w ss (js ++ z)
 
-any_below_lem : (n : ℕ) (q r : ℕ → Bool) → ((k : ℕ) → k < n → q k ≡ r k) → any_below_lem n q ≡ any_below_lem n r
-unfolding any_below_lem
+any_below_lem : (n : ℕ) (q r : ℕ → Bool) → ((k : ℕ) → k < n → q k ≡ r k) → any_below n q ≡ any_below n r
+unfolding any_below
 any_below_lem zero q r h = refl
-any_below_lem (suc n) q r h = ap (λ (b : Bool). b || q n) (any_below_lem n q r (λ k l. h k (omega arith))) ∙ ap (λ (b : Bool). any_below_lem n r || b) (h n (omega arith))
+any_below_lem (suc n) q r h = ap (λ (b : Bool). b || q n) (any_below_lem n q r (λ k l. h k (omega arith))) ∙ ap (λ (b : Bool). any_below n r || b) (h n (omega arith))
 
 module _ (z : List ℕ) where
   -- ---- reading
@@ -107,7 +107,7 @@ module _ (z : List ℕ) where
     unfolding rows_of
     rows_grown w ss m =
         let u : unnamed w (js ++ z) (2 * n) ≡ unnamed w js (2 * n) = any_below_lem (2 * n) _ _ (λ k l. ap (leb (points_of w)) (get_or-append js z 0 k (omega arith))) in
-        let o : any_below_lem (2 * n) (λ i. on_open w (get_or (js ++ z) i 0)) ≡ any_below_lem (2 * n) (λ i. on_open w (get_or js i 0)) = any_below_lem (2 * n) _ _ (λ k l. ap (on_open w) (get_or-append js z 0 k (omega arith))) in
+        let o : any_below (2 * n) (λ i. on_open w (get_or (js ++ z) i 0)) ≡ any_below (2 * n) (λ i. on_open w (get_or js i 0)) = any_below_lem (2 * n) _ _ (λ k l. ap (on_open w) (get_or-append js z 0 k (omega arith))) in
         rw (u, o)
 
   pub accept_grown : (bytes w ss js : List ℕ) → 2 * limit.JOINS ≤ length js → accept_of bytes w ss (js ++ z) ≡ grow z (accept_of bytes w ss js)

@@ -37,7 +37,7 @@ use Rattle.windows.specs.declared.Found.{Found}
 use Rattle.windows.specs.RecordsIn.{FoundIn, found, records_in}
 use Rattle.windows.specs.Within.{FoundWithin}
 use Rattle.windows.proofs.Within.{found_within}
-use Rattle.outline.specs.Calls.{text_short, worked, wrote, finished, listing, pairs, as_opened, as_replied, as_written_lem, as_finished, as_listed, as_contained, as_rewritten, as_mended, open_c, step_c, keep_c, back_c, drop_c, lay_c, write_c, finish_c, list_c, rewrite_c, reason_c, contained_c, mended_job, mend_c, found_in, window, as_found, records_c}
+use Rattle.outline.specs.Calls.{text_short, worked, wrote, finished, listing, pairs, as_opened, as_replied, as_written, as_finished, as_listed, as_contained, as_rewritten, as_mended, open_c, step_c, keep_c, back_c, drop_c, lay_c, write_c, finish_c, list_c, rewrite_c, reason_c, contained_c, mended_job, mend_c, found_in, window, as_found, records_c}
 use Rattle.answers.specs.Answers.{opened_number, reply_number, written_number, listed_bytes, rewritten_number, told_number, found_number, rate_from}
 
 pub as_opened_lem : (bytes lent : List ℕ) (k : ℕ) (a : Opened) (w : List ℕ) → end a w ≡ open_of bytes lent → k ≡ opened_number a → worked k w ≡ open_c bytes lent
@@ -67,7 +67,7 @@ as_laid w v k a u e h = ap (λ (z : ℕ). worked z u) h ∙ ap as_replied e
 
 pub as_written_lem : (w u : List ℕ) (k : ℕ) (a : Written) (t : List ℕ) → paths.wrote a t ≡ write_of w u → k ≡ written_number a → wrote k t ≡ write_c w u
 unfolding write_c
-as_written_lem w u k a t e h = ap (λ (z : ℕ). wrote z t) h ∙ ap as_written_lem e
+as_written_lem w u k a t e h = ap (λ (z : ℕ). wrote z t) h ∙ ap as_written e
 
 pub as_finished_lem : (bytes lent : List ℕ) (k : ℕ) (u : List ℕ) (a : Written) (w t : List ℕ) → call.finished a w t ≡ finish_of bytes lent u → k ≡ written_number a → finished k w t ≡ finish_c bytes lent u
 unfolding finish_c

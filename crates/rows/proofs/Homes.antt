@@ -10,7 +10,7 @@ use lib.ListN.{get_or}
 use borrow.Author.Tests.{eqb-true, leb-false, not-false}
 use Rattle.store.specs.Words.{view}
 use Rattle.store.specs.Named.{points_of, records_of}
-use Rattle.store.specs.Sound.{ring_at, is_open_lem}
+use Rattle.store.specs.Sound.{ring_at, is_open}
 use Rattle.audit.specs.Tests.{is_in, any_below}
 use Rattle.audit.proofs.Saying.{none_of, all_none}
 use Rattle.audit.proofs.Testing.{more, hit, whole}
@@ -61,33 +61,33 @@ module _ (w : List ℕ) (clear : muddled w ≡ false) where
       let e = ring_home s.0 k s.1 s.2 in
       rw e (s.1, s.2)
 
-  pub open_is : (k : ℕ) → k < points_of w → is_open_lem (view w) (home_of w k) ≡ on_open w k
-  open_is k h = by (is_open_lem (view w) (home_of w k)) refl
+  pub open_is : (k : ℕ) → k < points_of w → is_open (view w) (home_of w k) ≡ on_open w k
+  open_is k h = by (is_open (view w) (home_of w k)) refl
     where
-      with_ring : (i : ℕ) → i < records_of w → is_open_lem (view w) (home_of w k) ≡ false → (b : Bool) → on_ring w i k ≡ b → (is_open_lem (view w) i && b) ≡ false
-      with_ring i l o true r = rw (← ring_home i k l r) (and_true (is_open_lem (view w) (home_of w k)) ∙ o)
+      with_ring : (i : ℕ) → i < records_of w → is_open (view w) (home_of w k) ≡ false → (b : Bool) → on_ring w i k ≡ b → (is_open (view w) i && b) ≡ false
+      with_ring i l o true r = rw (← ring_home i k l r) (and_true (is_open (view w) (home_of w k)) ∙ o)
         where
           and_true : (b : Bool) → (b && true) ≡ b
           and_true true = refl
           and_true false = refl
-      with_ring i l o false r = and_false (is_open_lem (view w) i)
+      with_ring i l o false r = and_false (is_open (view w) i)
         where
           and_false : (b : Bool) → (b && false) ≡ false
           and_false true = refl
           and_false false = refl
 
-      by : (b : Bool) → is_open_lem (view w) (home_of w k) ≡ b → b ≡ on_open w k
+      by : (b : Bool) → is_open (view w) (home_of w k) ≡ b → b ≡ on_open w k
       by true o =
           let s = has_home k h in
-          hit (λ i. is_open_lem (view w) i && on_ring w i k) (records_of w) (records_of w) (home_of w k) (is_open_lem (view w) (home_of w k) && on_ring w (home_of w k) k) s.0 refl refl (rw (o, s.1))
-      by false o = sym (all_none (records_of w) (λ i. is_open_lem (view w) i && on_ring w i k) (λ i l. with_ring i l o (on_ring w i k) refl))
+          hit (λ i. is_open (view w) i && on_ring w i k) (records_of w) (records_of w) (home_of w k) (is_open (view w) (home_of w k) && on_ring w (home_of w k) k) s.0 refl refl (rw (o, s.1))
+      by false o = sym (all_none (records_of w) (λ i. is_open (view w) i && on_ring w i k) (λ i l. with_ring i l o (on_ring w i k) refl))
 
 -- a list of which no number names nothing
 pub named_at : (w l : List ℕ) (n : ℕ) → unnamed w l n ≡ false → (i : ℕ) → i < n → get_or l i 0 < points_of w
 named_at w l n e i h = leb-false (points_of w) (get_or l i 0) (none_of n (λ j. leb (points_of w) (get_or l j 0)) e i h)
 
 -- the loop over a list
-module _ {w l : List ℕ} {n : ℕ} (g : Named w l n) (i p : ℕ) (b : Bool) (h : i < n) (e : p ≡ get_or l i 0) (f : b ≡ is_open_lem (view w) (home_of w p)) where
+module _ {w l : List ℕ} {n : ℕ} (g : Named w l n) (i p : ℕ) (b : Bool) (h : i < n) (e : p ≡ get_or l i 0) (f : b ≡ is_open (view w) (home_of w p)) where
   is_open_lem : b ≡ on_open w (get_or l i 0)
   is_open_lem =
       let a = named_at w l n g.named i h in

@@ -39,7 +39,7 @@ use Rattle.turns.specs.declared.Due.TheVariants.{Validity, Removal, Triangle, Sp
 use Rattle.turns.specs.Code.{due_is}
 use Rattle.turns.specs.Form.{raised, geometry_of}
 use Rattle.turns.specs.Reads.{Found, Valued, Going, Three, Four, EdgesAt}
-use Rattle.turns.specs.Decide.{keeps_by, small_at_lem, remove_at, valid_without, removal_at, validity_at, triangle_at, three_from, three_left, due_on, ring_from, cut_at, split_op_at, crossed_at, split_at, decide_due, decide_at}
+use Rattle.turns.specs.Decide.{keeps_by, small_at, remove_at, valid_without, removal_at, validity_at, triangle_at, three_from, three_left, due_on, ring_from, cut_at, split_op_at, crossed_at, split_at, decide_due, decide_at}
 use Rattle.turns.proofs.Reading.{low, found}
 use Rattle.turns.proofs.Sizes.{ring_fits}
 
@@ -87,7 +87,7 @@ pub removable_at : (w : List ℕ) (p x n : ℕ) (keep r : Bool) (a b c : Point) 
     → r ≡ remove_at raised.of (geometry_of (view w)) (view w) p x n
 removable_at w p x n keep r a b c k A B C e = rw (e, k, A.is, B.is, C.is)
 
-pub small_at_lem : (w : List ℕ) (a b c : ℕ) (r : Bool) (p q s : Point) → Valued w a p → Valued w b q → Valued w c s → r ≡ is_very_small_triangle s p q → r ≡ small_at_lem raised.of (geometry_of (view w)) (view w) a b c
+pub small_at_lem : (w : List ℕ) (a b c : ℕ) (r : Bool) (p q s : Point) → Valued w a p → Valued w b q → Valued w c s → r ≡ is_very_small_triangle s p q → r ≡ small_at raised.of (geometry_of (view w)) (view w) a b c
 small_at_lem w a b c r p q s A B C e = rw (e, A.is, B.is, C.is)
 
 module _ (w : List ℕ) (x a : ℕ) (A : Found w (cell (pt NEXT) w x) a) where
@@ -106,7 +106,7 @@ module _ (w : List ℕ) (x a : ℕ) (A : Found w (cell (pt NEXT) w x) a) where
       valid_3 n m h = rw (← A.is) (rw (ne_eqb a x n, ← B.is) (rw (ne_eqb b x m, ← C.is) (rw (eq-eqb c x h))))
 
       module _ (e : ℕ) (E : Found w (cell (pt NEXT) w c) e) where
-        pub valid_4 : (t : Bool) → a ≢ x → b ≢ x → c ≢ x → e ≡ x → t ≡ small_at_lem raised.of (geometry_of (view w)) (view w) a b c → not t ≡ valid_without raised.of (geometry_of (view w)) (view w) x
+        pub valid_4 : (t : Bool) → a ≢ x → b ≢ x → c ≢ x → e ≡ x → t ≡ small_at raised.of (geometry_of (view w)) (view w) a b c → not t ≡ valid_without raised.of (geometry_of (view w)) (view w) x
         unfolding valid_without
         valid_4 t n m k h q = rw (← A.is) (rw (ne_eqb a x n, ← B.is) (rw (ne_eqb b x m, ← C.is) (rw (ne_eqb c x k, ← E.is) (rw (eq-eqb e x h) (ap not q)))))
 

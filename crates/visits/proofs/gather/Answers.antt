@@ -12,7 +12,7 @@ pub returns-then-s : goal.returns-then-s
 returns-then-s c = gather_met c.loop-c.invariant _ c.requires.2 c.loop-c-test.true c.walk_word-s.ensures c.if-s.true
 
 pub returns-then-not-s : goal.returns-then-not-s
-returns-then-not-s c = search (rules, gather_on)
+returns-then-not-s c = search gather_on
 
 pub loop-c-preserved : goal.loop-c-preserved
 loop-c-preserved c = search (rules, gather_more)

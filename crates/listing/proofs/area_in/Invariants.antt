@@ -1,0 +1,15 @@
+-- `listing::area_in` meets its contract: the sum so far and the edges left come to the area.
+use borrow.Author.Rules.{rules}
+use mir.Syntax.{w64}
+use mir.Val.{to_z}
+use Rattle.geometry.specs.Plane.{area_outpt}
+use Rattle.listing.specs.Fields.{points_in}
+use Rattle.listing.specs.Needs.{Adding}
+use Rattle.listing.proofs.Runs.{none_area, adding_begins, adding_here, adding_ends, adding_fits, adding_on}
+use Rattle.listing.proofs.area_in.Given as goal
+
+abbrev pub invariant-loop-left : goal.invariant-loop-left
+invariant-loop-left l = Adding l.t l.prev l.at l.left (to_z w64 l.a) (area_outpt (points_in l.t l.n l.from))
+
+abbrev pub decreases-loop-left : goal.decreases-loop-left
+decreases-loop-left l = l.left

@@ -1,0 +1,19 @@
+-- `rows::points::any_faulty` meets its contract: the first faulty point ends the loop.
+use mathlib.Core.Path.{◌≡◌}
+use mathlib.Core.Bool.{false}
+use Prim.Native.Nat.{◌-◌, ◌≤◌}
+use borrow.Author.Rules.{rules}
+use Rattle.store.specs.Named.{points_of}
+use Rattle.audit.specs.Tests.{any_below}
+use Rattle.audit.proofs.Testing.{none, more, hit, whole}
+use Rattle.rows.specs.Found.{faulty_point}
+use Rattle.rows.proofs.points.any_faulty.Goals as goal
+
+pub loop-k-init : goal.loop-k-init
+loop-k-init c = (search rules, none _)
+
+pub returns-then-found : goal.returns-then-found
+returns-then-found c = search hit
+
+pub loop-k-preserved : goal.loop-k-preserved
+loop-k-preserved c = (search rules, search more)

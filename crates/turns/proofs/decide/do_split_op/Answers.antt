@@ -1,0 +1,10 @@
+-- `do_split_op` meets its contract.
+use borrow.Author.Rules.{rules}
+use Rattle.turns.proofs.Decisions.{too_small, large}
+use Rattle.turns.proofs.decide.do_split_op.Goals as goal
+
+pub returns-then-n-lt4 : goal.returns-then-n-lt4
+returns-then-n-lt4 c = search (too_small)
+
+pub returns : goal.returns
+returns c = search (large)

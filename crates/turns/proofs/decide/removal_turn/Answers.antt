@@ -1,0 +1,13 @@
+-- `removal_turn` meets its contract.
+use borrow.Author.Rules.{rules}
+use Rattle.turns.proofs.Decisions.{three_of, turn_drops, turn_ends, turn_goes}
+use Rattle.turns.proofs.decide.removal_turn.Goals as goal
+
+pub returns-then-gone : goal.returns-then-gone
+returns-then-gone c = search (turn_drops)
+
+pub returns-then-n-s : goal.returns-then-n-s
+returns-then-n-s c = search (turn_ends)
+
+pub returns : goal.returns
+returns c = search (turn_goes)
