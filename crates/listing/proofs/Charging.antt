@@ -93,7 +93,7 @@ module _ (t : List ℕ) (n : ℕ) (s : Summable t n) (r : ℤ) (e : r ≡ net_ar
   bound = omega (arith, net_small t n 0 s.fields, s.few)
 
   held : to_z w64 (of_z w64 r) ≡ net_area (paths_in t n 0)
-  held = to_z-of_z (rw e (fits_size w64 (net_area (paths_in t n 0)) (omega (arith, bound)))) ∙ e
+  held = to_z-of_z {w = w64} (rw e (fits_size w64 (net_area (paths_in t n 0)) (omega (arith, bound)))) ∙ e
 
   pub net_asked : Within (2 ^ 62) (to_z w64 (of_z w64 r))
   net_asked = rw held (record { size = omega (arith, bound) })

@@ -34,7 +34,7 @@ module _ (t : List ℕ) (n at : ℕ) (s : Sized t n at) (r : ℤ) (e : r ≡ are
   small = omega (arith, (area_within (points_in t n at) s.run.small).size, length_points t n at, s.few)
 
   pub area_held : to_z w64 (of_z w64 r) ≡ area_outpt (points_in t n at)
-  area_held = to_z-of_z (rw e (fits_size w64 (area_outpt (points_in t n at)) (omega (arith, small)))) ∙ e
+  area_held = to_z-of_z {w = w64} (rw e (fits_size w64 (area_outpt (points_in t n at)) (omega (arith, small)))) ∙ e
 
   pub area_asked : Within (2 ^ 62) (to_z w64 (of_z w64 r))
   area_asked = rw area_held (record { size = omega (arith, small) })

@@ -3,6 +3,7 @@ use Prim.Native.Nat.{ℕ, suc}
 use mathlib.Core.Path.{◌≡◌, refl, ap, ◌∙◌, sym}
 use mathlib.Core.Logic.{◌≢◌}
 use mathlib.Core.List.{List, [], ◌∷◌, map}
+use mathlib.Core.Bool.{Bool, cond}
 use native.Mathlib.Omega.{arith}
 use lib.Dec.{eqb}
 use lib.ListN.{length, length-map}
@@ -15,7 +16,8 @@ use Rattle.rings.specs.Circle.{last_of, head_or, omap, ahead}
 use Rattle.rings.specs.Count.{occ}
 use Rattle.rings.specs.Links.{Linked}
 use Rattle.rings.specs.Place.{is_here, place}
-use Rattle.rings.specs.Progress.{removal, map_ring}
+use Rattle.rings.specs.Progress.{Ring, while_removing, triangle, removal, map_ring}
+use Rattle.lone.specs.Act.{Act, drop_point, discard, move_on}
 use Rattle.rings.specs.Whole.{Whole}
 use Rattle.lone.specs.Lone.{Geo, act_of, decide, removal_turn, is_valid_closed_path}
 use Rattle.store.specs.Field.{pt, rc, NEXT, PREV, PRESENT, START}
@@ -75,4 +77,12 @@ module _ {P : Type 0} (of : ℕ → ℕ → ℕ → P) (G : Geo P) (s : Store) w
       let nx : value of s (s (pt NEXT) x) ≡ head_or (value of s x) (map (value of s) b.others) = next_head x b.others b.whole.linked in
       let vd : valid_without of G s x ≡ is_valid_closed_path G (map (value of s) b.others) = valid_is x b.others b.whole in
       let tn : eqb (s (pt NEXT) x) (s (rc START) i) ≡ is_here (omap (ahead (suc (length (map (value of s) b.others)))) (place (s (rc START) i) (x ∷ b.others))) = turn_is x b.others (s (rc START) i) b.whole ∙ ap (λ (n : ℕ). is_here (omap (ahead (suc n)) (place (s (rc START) i) (x ∷ b.others)))) (sym (length-map b.others (value of s))) in
-      cc b.lone_is
+      let pl : P = last_of (value of s x) (map (value of s) b.others) in
+      let hd : P = head_or (value of s x) (map (value of s) b.others) in
+      let va : Bool = is_valid_closed_path G (map (value of s) b.others) in
+      let F : P → P → Bool → Bool → Act P = λ p q t u. cond (G.removable p (value of s x) q) (cond t drop_point (discard while_removing)) (move_on (cond u triangle removal)) in
+      ap (λ (p : P). F p (value of s (s (pt NEXT) x)) (valid_without of G s x) (eqb (s (pt NEXT) x) (s (rc START) i))) pv
+      ∙ ap (λ (q : P). F pl q (valid_without of G s x) (eqb (s (pt NEXT) x) (s (rc START) i))) nx
+      ∙ ap (λ (t : Bool). F pl hd t (eqb (s (pt NEXT) x) (s (rc START) i))) vd
+      ∙ ap (λ (u : Bool). F pl hd va u) tn
+      ∙ sym (ap (λ (R : Ring ℕ). act_of G (map_ring (value of s) R)) b.lone_is)

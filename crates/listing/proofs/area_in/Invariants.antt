@@ -9,7 +9,7 @@ use Rattle.listing.proofs.Runs.{none_area, adding_begins, adding_here, adding_en
 use Rattle.listing.proofs.area_in.Given as goal
 
 abbrev pub invariant-loop-left : goal.invariant-loop-left
-invariant-loop-left l = Adding l.t l.prev l.at l.left (to_z w64 l.a) (area_outpt (points_in l.t l.n l.from))
+invariant-loop-left l = Adding l.t l.prev l.at l.left l.a (area_outpt (points_in l.t l.n l.from))
 
 abbrev pub decreases-loop-left : goal.decreases-loop-left
 decreases-loop-left l = l.left

@@ -7,7 +7,7 @@ use Rattle.listing.proofs.Charging.{netting_begins, netting_field, netting_sized
 use Rattle.listing.proofs.charge.net_area.Given as goal
 
 abbrev pub invariant-loop-left : goal.invariant-loop-left
-invariant-loop-left l = Netting l.t l.n l.f l.left (to_z w64 l.a)
+invariant-loop-left l = Netting l.t l.n l.f l.left l.a
 
 abbrev pub decreases-loop-left : goal.decreases-loop-left
 decreases-loop-left l = l.left

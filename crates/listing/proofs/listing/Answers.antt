@@ -1,0 +1,7 @@
+-- `listing::listing` meets its contract.
+use borrow.Author.Rules.{rules}
+use Rattle.listing.proofs.Telling.{told_all}
+use Rattle.listing.proofs.listing.Goals as goal
+
+pub returns : goal.returns
+returns c = search told_all

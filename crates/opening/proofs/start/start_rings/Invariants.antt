@@ -1,0 +1,15 @@
+-- `opening::start::start_rings` meets its contract: the loop follows the definition.
+use borrow.Author.Rules.{rules}
+use native.Mathlib.Omega.{arith}
+use mathlib.Core.Path.{◌≡◌, refl}
+use Prim.Native.Nat.{◌-◌, ◌≤◌}
+use lib.ListN.{length}
+use Rattle.opening.specs.Start.{start_to}
+use Rattle.opening.proofs.Starting.{start_none, start_next, start_done}
+use Rattle.opening.proofs.start.start_rings.Given as goal
+
+abbrev pub invariant-loop-i : goal.invariant-loop-i
+invariant-loop-i l = (l.w ≡ start_to l.i l.initial.w) × (l.i ≤ l.n) × (length l.w ≡ length l.initial.w)
+
+abbrev pub decreases-loop-i : goal.decreases-loop-i
+decreases-loop-i l = l.n - l.i
