@@ -1,8 +1,7 @@
 -- `rate_in` meets its contract: the number so far, up to one past the largest rate.
 use Prim.Native.Nat.{◌-◌, ◌≤◌}
 use lib.ListN.{length}
-use borrow.Author.Rules.{rules}
-use Rattle.rates.proofs.Digits.{DigitsTo, begun, no_digit, one_more, read_whole, low_number, a_digit}
+use Rattle.rates.proofs.Digits.{DigitsTo}
 use Rattle.rates.proofs.rate_in.Given as goal
 
 abbrev pub invariant-loop-i : goal.invariant-loop-i
