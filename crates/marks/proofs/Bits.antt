@@ -2,16 +2,16 @@
 use mathlib.Core.Path.{◌≡◌, refl, sym, ap, ap₂, ◌∙◌}
 use mathlib.Core.Bool.{Bool, true, false, ◌&&◌, ◌||◌}
 use mathlib.Core.Logic.{◌≢◌}
-use Prim.Native.Nat.{ℕ, zero, suc, ◌+◌, ◌-◌, ◌*◌, ◌/◌, ◌%◌, ◌^◌, ◌<◌, ◌≤◌, max}
+use Prim.Native.Nat.{ℕ, zero, suc, ◌+◌, ◌-◌, ◌*◌, ◌/◌, ◌%◌, ◌^◌, ◌<◌, max}
 use native.Mathlib.Decide.{ℕ_discrete, dec_lt}
-use native.Mathlib.Nat.{mod-lt, mul-mod_left, mul-div_cancel, div-eq_of_lt, div_self, max-eq_left, pow-suc, zero-mod, max-zero, sub-add_cancel, mod-one}
+use native.Mathlib.Nat.{mod-lt, mul-mod_left, mul-div_cancel, div-eq_of_lt, div_self, pow-suc, max-zero, mod-one}
 use native.Mathlib.Numerals.{one-add}
 use native.Mathlib.Omega.{arith}
 use lib.Arith.{digits_mod, bin_ind}
 use lib.Bits.{bit_or, or_shr, or_step}
 use lib.Dec.{eqb}
 use lib.Pow.{pow_pos, pow-lt, pow-add, mod-pow-add}
-use borrow.Author.Tests.{eq-eqb, ne_eqb, eqb-true, eqb-false}
+use borrow.Author.Tests.{eq-eqb, ne_eqb}
 use Rattle.marks.specs.Marks.{bit, with_bit, all_below}
 
 -- a bit is 0 or 1

@@ -1,10 +1,6 @@
 -- `marks::Marks::all_set` meets its contract: before word i all points are marked.
-use mathlib.Core.Path.{◌≡◌}
-use mathlib.Core.Bool.{true}
-use Prim.Native.Nat.{◌-◌, ◌*◌, ◌/◌, ◌≤◌}
 use borrow.Author.Rules.{rules}
-use Rattle.marks.specs.Marks.{BITS, marked, all_below}
-use Rattle.marks.proofs.Marking.{past_count, none_yet, word_more, word_bare, no_rest, rest_is}
+use Rattle.marks.proofs.Marking.{past_count, none_yet, word_more, word_bare, rest_is}
 use Rattle.marks.proofs.Marks.all_set.Goals as goal
 
 pub returns-then-count-gt-POINTS : goal.returns-then-count-gt-POINTS

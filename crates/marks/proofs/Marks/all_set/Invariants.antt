@@ -2,9 +2,7 @@
 use mathlib.Core.Path.{◌≡◌}
 use mathlib.Core.Bool.{true}
 use Prim.Native.Nat.{◌-◌, ◌*◌, ◌/◌, ◌≤◌}
-use borrow.Author.Rules.{rules}
 use Rattle.marks.specs.Marks.{BITS, marked, all_below}
-use Rattle.marks.proofs.Marking.{past_count, none_yet, word_more, word_bare, no_rest, rest_is}
 use Rattle.marks.proofs.Marks.all_set.Given as goal
 
 abbrev pub invariant-loop-i : goal.invariant-loop-i
