@@ -1,7 +1,6 @@
 -- The test of equality of points decides whether they are one place: it is an equivalence, and z has no part in it.
 use mathlib.Core.Path.{◌≡◌, refl, sym, ap, ◌∙◌}
 use mathlib.Core.Bool.{Bool, true, false, ◌&&◌, true≢false, false≢true}
-use Prim.Native.Nat.{ℕ}
 use lib.IntN.{ℤ}
 use Rattle.exact.specs.Equal.{eq_z}
 use Rattle.exact.proofs.Size.{eq_z_true, eq_eq_z}

@@ -1,5 +1,4 @@
 -- `geometry::cross_product_sign` meets its contract.
-use borrow.Author.Rules.{rules}
 use Rattle.geometry.proofs.Signs.{cross_of}
 use Rattle.geometry.proofs.cross_product_sign.Goals as goal
 

@@ -1,5 +1,4 @@
 -- `geometry::is_very_small_triangle` meets its contract.
-use borrow.Author.Rules.{rules}
 use Rattle.geometry.specs.Plane.{is_very_small_triangle}
 use Rattle.geometry.proofs.is_very_small_triangle.Goals as goal
 
