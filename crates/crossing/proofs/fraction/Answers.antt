@@ -1,5 +1,4 @@
 -- `crossing::fraction` meets its contract.
-use Rattle.std.proofs.Common.{rules}
 use Rattle.crossing.specs.Floats.{fraction_f}
 use Rattle.crossing.proofs.fraction.Goals as goal
 

@@ -1,5 +1,4 @@
 -- `crossing::get_segment_intersect_pt` meets its contract.
-use Rattle.std.proofs.Common.{rules}
 use Rattle.crossing.proofs.Fractions.{crossing_of}
 use Rattle.crossing.proofs.get_segment_intersect_pt.Goals as goal
 

@@ -1,5 +1,4 @@
 -- `crossing::segments_intersect` meets its contract.
-use Rattle.std.proofs.Common.{rules}
 use Rattle.crossing.proofs.Differences.{parallel_of, apart_of, intersect_of}
 use Rattle.crossing.proofs.segments_intersect.Goals as goal
 
