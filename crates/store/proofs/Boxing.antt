@@ -1,15 +1,15 @@
 -- Laws of the boxes' words: no column reads them, and what one box's writes leave. And what four words stand for, and back.
-use Prim.Native.Nat.{ℕ, ◌+◌, ◌*◌, ◌≤◌, ◌<◌}
+use Prim.Native.Nat.{ℕ, ◌+◌, ◌≤◌, ◌<◌}
 use mathlib.Core.Path.{◌≡◌, refl, ap, ◌∙◌, sym, fun_ext}
 use mathlib.Core.Logic.{◌≢◌}
 use mathlib.Core.Bool.{Bool, true, false, cond}
 use mathlib.Core.List.{List, [], ◌∷◌, ◌++◌}
-use mathlib.Core.Option.{none, some}
+use mathlib.Core.Option.{some}
 use native.Mathlib.Omega.{arith}
 use lib.Dec.{ltb}
-use lib.IntN.{ℤ, pos, nat_abs, neg_ℤ, ◌+ℤ◌, ◌-ℤ◌, +ℤ_assoc, +ℤ_idr}
+use lib.IntN.{pos, nat_abs, neg_ℤ, +ℤ_assoc, +ℤ_idr}
 use lib.ListN.{length, get_or, set, drop, length-set}
-use lib.Seq.{get_or-set_same, get_or-set_other, set-set, set_comm, set-get_or, set-append_left, drop-set-lt}
+use lib.Seq.{get_or-set_same, get_or-set_other, set_comm, set-get_or, set-append_left, drop-set-lt}
 use borrow.Author.Tests.{ltb-true}
 use Rattle.numbers.specs.Raised.{coordinate}
 use Rattle.job.specs.Limits as limit

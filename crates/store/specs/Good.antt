@@ -4,7 +4,7 @@ use Rattle.job.specs.Limits as limit
 use Rattle.rings.specs.Count.{sum_to, occ}
 use Rattle.rings.specs.Links.{Linked}
 use Rattle.rings.specs.Progress.{is_done}
-use Rattle.store.specs.Field.{pt, rc, X, Y, NEXT, PREV, REC, OWNER, MARK, PRESENT, POINTS, RECORDS, NONE, BLOCK, REASON, TAKER}
+use Rattle.store.specs.Field.{pt, rc, X, Y, NEXT, PREV, REC, OWNER, MARK, PRESENT, NONE, BLOCK, REASON, TAKER}
 use Rattle.store.specs.Words.{Store, view}
 use Rattle.store.specs.Sound.{Closed, due_at, pts, recs, ring_at, ringless}
 use Rattle.store.specs.Reason.{JOINED, is_kept}
