@@ -1,7 +1,7 @@
 -- What unlinking a point and copying one leave, and what they ask.
 use Rattle.std.specs.Prelude.{ℕ, ◌≤◌, ◌<◌, List, length}
 use Rattle.job.specs.Limits as limit
-use Rattle.store.specs.Field.{POINTS, BLOCK, NONE}
+use Rattle.store.specs.Field.{BLOCK, NONE}
 use Rattle.store.specs.Words.{on_words}
 use Rattle.store.specs.Named.{next_of, prev_of, set_first}
 use Rattle.primitives.specs.Primitive.{unlink_writes}
