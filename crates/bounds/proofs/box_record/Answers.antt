@@ -1,5 +1,4 @@
 -- box_record meets its contract.
-use borrow.Author.Rules.{rules}
 use Rattle.bounds.proofs.Beside.{past_is, here_is}
 use Rattle.bounds.proofs.box_record.Goals as goal
 

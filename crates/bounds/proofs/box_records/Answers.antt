@@ -1,8 +1,6 @@
 -- box_records meets its contract: after record i the boxes of the records so far are written.
 use borrow.Author.Rules.{rules}
-use Prim.Native.Nat.{◌-◌}
-use Rattle.store.specs.Named.{records_of}
-use Rattle.bounds.proofs.Beside.{BoxedTo, boxing_begun, boxing_long, boxing_few, boxing_next, boxing_ends}
+use Rattle.bounds.proofs.Beside.{boxing_begun, boxing_next, boxing_ends}
 use Rattle.bounds.proofs.box_records.Goals as goal
 
 pub loop-i-init : goal.loop-i-init

@@ -1,8 +1,7 @@
 -- box_records meets its contract: after record i the boxes of the records so far are written.
-use borrow.Author.Rules.{rules}
 use Prim.Native.Nat.{◌-◌}
 use Rattle.store.specs.Named.{records_of}
-use Rattle.bounds.proofs.Beside.{BoxedTo, boxing_begun, boxing_long, boxing_few, boxing_next, boxing_ends}
+use Rattle.bounds.proofs.Beside.{BoxedTo}
 use Rattle.bounds.proofs.box_records.Given as goal
 
 abbrev pub invariant-loop-i : goal.invariant-loop-i

@@ -1,5 +1,4 @@
 -- misboxed meets its contract.
-use borrow.Author.Rules.{rules}
 use Rattle.bounds.proofs.Walking.{bare_not, says_misboxed}
 use Rattle.bounds.proofs.misboxed.Goals as goal
 

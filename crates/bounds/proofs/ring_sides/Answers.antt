@@ -1,11 +1,6 @@
 -- ring_sides meets its contract: the loop follows the walk, with `left` points to go.
 use borrow.Author.Rules.{rules}
-use mathlib.Core.Path.{◌≡◌}
-use Rattle.store.specs.Words.{view}
-use Rattle.store.specs.Named.{next_of}
-use Rattle.store.specs.Needs.{Small}
-use Rattle.bounds.specs.Along.{widen_along}
-use Rattle.bounds.proofs.Walking.{rest, found, begins, back, on, over}
+use Rattle.bounds.proofs.Walking.{begins, back, on, over}
 use Rattle.bounds.proofs.ring_sides.Goals as goal
 
 pub loop-left-init : goal.loop-left-init
