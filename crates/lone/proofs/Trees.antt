@@ -12,7 +12,7 @@ use lib.Seq.{take_all, take-suc, drop-cons}
 use borrow.Author.Tests.{eqb-true}
 use Rattle.rings.proofs.Counting.{sum_by_append}
 use Rattle.lone.specs.Forest.{Machine, initial, Entry, ringless, closed_ring, Fed, left_ringless, left_open, left_closed, is_named, names, naming}
-use Rattle.lone.specs.Forest.{enter, opening, at, cut_from, offcuts_of, rank, steps_state, steps_entry}
+use Rattle.lone.specs.Forest.{enter, at, cut_from, offcuts_of, rank, steps_state, steps_entry}
 use Rattle.lone.specs.Order.{IsOffcut, Alone, AllDone}
 use Rattle.lone.specs.Tree.{Trees, nothing, ended, EndsAs, no_more, and, HoldsTrees, seeds, roots}
 use Rattle.lone.specs.Table.{offcuts_from}
