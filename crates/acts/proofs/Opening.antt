@@ -1,14 +1,13 @@
 -- The start: a sound store as opening leaves it is in step with the forest that opening makes of it; so the words stay in step under every list of
 -- steps, and each lone ring is where it would be alone.
-use Prim.Native.Nat.{ℕ, zero, suc, ◌+◌, ◌<◌}
+use Prim.Native.Nat.{ℕ, ◌<◌}
 use mathlib.Core.Path.{◌≡◌, refl, ap, ◌∙◌, sym, subst}
 use mathlib.Core.Bool.{Bool, true, false, cond}
 use mathlib.Core.List.{List, map}
 use mathlib.Core.Option.{none}
-use native.Mathlib.Nat.{zero-add, le_of_suc-le-suc}
+use native.Mathlib.Nat.{zero-add}
 use native.Mathlib.Omega.{arith}
-use lib.ListN.{length, get_or, length-map, get_or-map}
-use Rattle.rings.specs.Count.{table}
+use lib.ListN.{length-map, get_or-map}
 use Rattle.rings.specs.Progress.{Ring, validity, at_start, map_ring}
 use Rattle.rings.specs.Walk.{walk}
 use Rattle.rings.proofs.Counting.{length_table, at_table}

@@ -19,7 +19,7 @@ use Rattle.rings.specs.Progress.{Due, tidy_at, resting, validity, removal, trian
 use Rattle.rings.specs.Walk.{walk}
 use Rattle.rings.specs.Whole.{Whole}
 use Rattle.store.proofs.Keeping.{Kept, once_same, sound_after}
-use Rattle.store.proofs.Soundness.{whole, first_on, from_first, present_on}
+use Rattle.store.proofs.Soundness.{first_on, from_first, present_on}
 use Rattle.store.specs.Field.{pt, rc, NEXT, PREV, OWNER, FIRST, MARK, PRESENT, START, NONE}
 use Rattle.store.specs.Sound.{pts, recs, ringless, ring_at, due_at, due_of, mark_of, Closed, looping, lone_due, lone_at}
 use Rattle.store.specs.Good.{PointIn, Good, Sound}

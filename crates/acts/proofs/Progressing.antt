@@ -28,7 +28,7 @@ use Rattle.store.specs.Sound.{pts, recs, ringless, ring_at, due_at, mark_of, Clo
 use Rattle.store.specs.Good.{PointIn, Good, Sound}
 use Rattle.store.specs.Words.{Store}
 use Rattle.store.specs.Stores.{on_store}
-use Rattle.acts.proofs.Positions.{Positioned, Loop, loop, ringed, occ_from, lone_is, good_is}
+use Rattle.acts.proofs.Positions.{Positioned, Loop, loop, occ_from, lone_is, good_is}
 use Rattle.acts.proofs.Representing.{ActDone}
 use Rattle.acts.specs.Rep.{in_loop}
 use Rattle.acts.specs.Writes.{move_writes, to_first_writes, discard_writes}

@@ -1,5 +1,5 @@
 -- The forest that opening makes: each record of the store as opening leaves it.
-use Rattle.std.specs.Prelude.{ℕ, zero, suc, ◌≡◌, false, cond, List, [], ◌∷◌, map}
+use Rattle.std.specs.Prelude.{ℕ, ◌≡◌, false, cond, List, map}
 use Rattle.rings.specs.Count.{table}
 use Rattle.rings.specs.Progress.{Ring, at_start}
 use Rattle.lone.specs.Forest.{Fed, left_ringless, left_open, left_closed}
