@@ -3,7 +3,7 @@ use Prim.Native.Nat.{ℕ, zero, suc, ◌+◌, ◌≤◌, ◌<◌}
 use mathlib.Core.Path.{◌≡◌, refl, ap, ◌∙◌, sym, subst}
 use mathlib.Core.Logic.{◌≢◌, ◌⊎◌, inl, inr}
 use mathlib.Core.Bool.{cond}
-use mathlib.Core.List.{List, [], ◌∷◌, map}
+use mathlib.Core.List.{List, map}
 use mathlib.Core.Option.{Option, none, some}
 use native.Mathlib.Omega.{arith}
 use native.Mathlib.Decide.{ℕ_discrete}
@@ -28,7 +28,6 @@ use Rattle.store.specs.Boxes.{sides_at, set_sides, sides_of, ring_box, Boxed, bo
 use Rattle.store.proofs.Keeping.{Kept, ring_other}
 use Rattle.bounds.proofs.Beside.{view_boxed, length_boxed, boxed_is, boxed_past, boxed_else, boxed_here, set_boxed, boxed_move}
 use Rattle.acts.specs.Apply.{Coding}
-use Rattle.acts.specs.Codes.{after}
 use Rattle.acts.specs.Laws.{Laws}
 use Rattle.acts.specs.Step.{act_at, answer_s, step_w}
 use Rattle.acts.specs.Run.{step_answered, step_s}
