@@ -20,7 +20,6 @@ use Rattle.store.specs.Words.{view}
 use Rattle.store.specs.Named.{points_of, records_of, next_of, prev_of, first_of, progress_of}
 use Rattle.store.specs.Sound.{ringless, ring_at, due_of}
 use Rattle.store.specs.Good.{Good, Sound}
-use Rattle.store.proofs.Soundness.{whole}
 use Rattle.audit.specs.Tests.{reached_by, off_table, no_such, no_such_of, lost_taker, loose, shared, misplaced, untold}
 use Rattle.audit.proofs.Reaching.{Reached, reached}
 use Rattle.audit.proofs.Ringing.{along, ring_at_lem}

@@ -1,12 +1,6 @@
 -- any_record meets its contract: the first record that fails ends the loop.
 use borrow.Author.Rules.{rules}
-use mathlib.Core.Path.{◌≡◌}
-use mathlib.Core.Bool.{false}
-use Prim.Native.Nat.{◌-◌, ◌≤◌}
-use Rattle.store.specs.Named.{records_of}
-use Rattle.audit.specs.Tests.{any_below}
-use Rattle.audit.specs.Marks.{fails_of}
-use Rattle.audit.proofs.Testing.{none, more, hit, whole}
+use Rattle.audit.proofs.Testing.{none, more, hit}
 use Rattle.audit.proofs.any_record.Goals as goal
 
 pub loop-i-init : goal.loop-i-init

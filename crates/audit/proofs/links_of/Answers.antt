@@ -1,5 +1,4 @@
 -- links_of meets its contract.
-use borrow.Author.Rules.{rules}
 use Rattle.audit.proofs.Testing.{says_no_such, says_loose, says_muddled, says_passed}
 use Rattle.audit.proofs.links_of.Goals as goal
 

@@ -1,7 +1,5 @@
 -- tests_of meets its contract: the counts, then the rest in order.
-use borrow.Author.Rules.{rules}
 use Rattle.audit.proofs.Testing.{says_crowded}
-use Rattle.audit.proofs.Marking.{counted}
 use Rattle.audit.proofs.tests_of.Goals as goal
 
 pub returns-then-many : goal.returns-then-many

@@ -1,9 +1,4 @@
 -- is_on_ring meets its contract: the loop follows the walk, with `left` points to go.
-use mathlib.Core.Path.{◌≡◌, refl}
-use borrow.Author.Rules.{rules}
-use Rattle.rings.specs.Walk.{run}
-use Rattle.store.specs.Named.{next_of, ring_of}
-use Rattle.audit.specs.Tests.{is_in}
 use Rattle.audit.proofs.Testing.{ring_here, ring_back, ring_on, ring_over}
 use Rattle.audit.proofs.records.is_on_ring.Goals as goal
 

@@ -1,12 +1,6 @@
 -- any_marked meets its contract: the first marked point that fails ends the loop.
 use borrow.Author.Rules.{rules}
-use mathlib.Core.Path.{◌≡◌}
-use mathlib.Core.Bool.{false, ◌&&◌}
-use Prim.Native.Nat.{◌-◌, ◌≤◌}
-use Rattle.store.specs.Named.{points_of}
-use Rattle.audit.specs.Tests.{any_below}
-use Rattle.audit.specs.Marks.{is_marked, fails}
-use Rattle.audit.proofs.Testing.{none, more, hit, whole}
+use Rattle.audit.proofs.Testing.{none, more, hit}
 use Rattle.audit.proofs.walks.any_marked.Goals as goal
 
 pub loop-k-init : goal.loop-k-init

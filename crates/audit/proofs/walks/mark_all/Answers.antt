@@ -1,12 +1,7 @@
 -- mark_all meets its contract: after record i the marks are those of the records so far.
 use borrow.Author.Rules.{rules}
-use mathlib.Core.Path.{◌≡◌, refl, sym}
-use Prim.Native.Nat.{◌-◌, ◌≤◌}
-use lib.ListN.{length}
-use Rattle.store.specs.Named.{records_of}
-use Rattle.audit.specs.Tests.{any_below}
-use Rattle.audit.specs.Marks.{marks_by, meets}
-use Rattle.audit.proofs.Testing.{none, marks_none, marks_more, met_more, all_marked}
+use mathlib.Core.Path.{refl, sym}
+use Rattle.audit.proofs.Testing.{none, marks_none, marks_more, met_more}
 use Rattle.audit.proofs.walks.mark_all.Goals as goal
 
 pub loop-i-init : goal.loop-i-init

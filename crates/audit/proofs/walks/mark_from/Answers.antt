@@ -1,10 +1,5 @@
 -- mark_from meets its contract: the loop follows `mark_from`, with `left` points to go.
 use borrow.Author.Rules.{rules}
-use mathlib.Core.Path.{◌≡◌, refl}
-use lib.ListN.{length}
-use Rattle.job.specs.Limits as limit
-use Rattle.store.specs.Named.{points_of, next_of}
-use Rattle.audit.specs.Marks.{mark_from}
 use Rattle.audit.proofs.Testing.{mark_out, mark_met, mark_on, mark_over}
 use Rattle.audit.proofs.walks.mark_from.Goals as goal
 
