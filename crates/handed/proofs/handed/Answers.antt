@@ -1,5 +1,4 @@
 -- handed meets its contract: the length, then the tests.
-use borrow.Author.Rules.{rules}
 use Rattle.handed.proofs.Handing.{says_short, says_tested}
 use Rattle.handed.proofs.handed.Goals as goal
 

@@ -1,6 +1,5 @@
 -- tested meets its contract: the counts; then at once where nothing is found; else the tests of the live block, then boxes and names.
-use borrow.Author.Rules.{rules}
-use Rattle.handed.proofs.Handing.{says_many, says_counted, says_good, says_last, says_few, says_refused}
+use Rattle.handed.proofs.Handing.{says_many, says_good, says_last, says_refused}
 use Rattle.handed.proofs.tested.Goals as goal
 
 pub returns-then-many : goal.returns-then-many

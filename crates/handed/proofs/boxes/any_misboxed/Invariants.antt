@@ -1,13 +1,10 @@
 -- any_misboxed meets its contract: the first record whose box is another ends the loop.
-use borrow.Author.Rules.{rules}
 use mathlib.Core.Path.{◌≡◌}
 use mathlib.Core.Bool.{false}
 use Prim.Native.Nat.{◌-◌, ◌≤◌}
 use Rattle.store.specs.Named.{records_of}
 use Rattle.store.specs.Boxes.{misboxed}
 use Rattle.audit.specs.Tests.{any_below}
-use Rattle.handed.specs.Handed.{any_misboxed}
-use Rattle.audit.proofs.Testing.{none, more, hit, whole}
 use Rattle.handed.proofs.boxes.any_misboxed.Given as goal
 
 abbrev pub invariant-loop-i : goal.invariant-loop-i

@@ -1,11 +1,7 @@
 -- any_bad_record meets its contract: the first record that has something that fails ends the loop.
 use borrow.Author.Rules.{rules}
-use mathlib.Core.Path.{◌≡◌, refl}
-use Prim.Native.Nat.{◌-◌, ◌≤◌}
-use lib.ListN.{length}
-use Rattle.store.specs.Named.{records_of}
-use Rattle.handed.specs.Rounds.{RecordsPassed}
-use Rattle.handed.proofs.Gathering.{records_none, records_more, records_all, something}
+use mathlib.Core.Path.{refl}
+use Rattle.handed.proofs.Gathering.{records_none, records_more}
 use Rattle.handed.proofs.rounds.any_bad_record.Goals as goal
 
 pub loop-i-init : goal.loop-i-init

@@ -1,6 +1,5 @@
 -- is_bad_ring meets its contract: a round came back, met the present place where one is due, and its box is the one beside it.
-use borrow.Author.Rules.{rules}
-use Rattle.handed.proofs.Gathering.{ring_same, something}
+use Rattle.handed.proofs.Gathering.{ring_same}
 use Rattle.handed.proofs.rounds.is_bad_ring.Goals as goal
 
 pub returns : goal.returns

@@ -1,15 +1,8 @@
 -- try_from meets its contract: the loop follows `mark_from`, with `left` points to go, gathers the box on the way and tells whether it met k.
 use borrow.Author.Rules.{rules}
-use mathlib.Core.Path.{◌≡◌, refl}
-use Prim.Native.Nat.{◌<◌}
-use lib.ListN.{length}
-use Rattle.job.specs.Limits as limit
-use Rattle.store.specs.Named.{points_of, next_of}
-use Rattle.audit.specs.Marks.{mark_from}
-use Rattle.handed.specs.Rounds.{Tried}
 use Rattle.audit.proofs.Testing.{mark_on}
-use Rattle.handed.proofs.Trying.{tried_none, tried_more, goes_on}
-use Rattle.handed.proofs.Gathering.{Gathers, gathers_first, gathers_on, round_back, round_over, something}
+use Rattle.handed.proofs.Trying.{tried_more, goes_on}
+use Rattle.handed.proofs.Gathering.{gathers_on, round_back, round_over}
 use Rattle.handed.proofs.rounds.try_from.Goals as goal
 
 pub returns-then-marks-p-ne0 : goal.returns-then-marks-p-ne0
