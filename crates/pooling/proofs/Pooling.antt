@@ -1,13 +1,13 @@
 -- Of two sound stores that fit together the pooled one is sound; its rings are the first's, and the second's raised, by value the same.
-use Prim.Native.Nat.{ℕ, zero, suc, ◌+◌, ◌-◌, ◌*◌, ◌%◌, ◌≤◌, ◌<◌}
+use Prim.Native.Nat.{ℕ, ◌+◌, ◌-◌, ◌%◌, ◌≤◌, ◌<◌}
 use mathlib.Core.Path.{◌≡◌, refl, ap, ◌∙◌, sym, subst}
-use mathlib.Core.Logic.{◌≢◌, ◌⊎◌, inl, inr}
+use mathlib.Core.Logic.{◌⊎◌, inl, inr}
 use mathlib.Core.Bool.{Bool, true, false, cond}
 use mathlib.Core.List.{List, [], ◌∷◌, map}
 use native.Mathlib.Omega.{arith}
 use native.Mathlib.Decide.{dec_lt}
 use lib.Dec.{eqb}
-use borrow.Author.Tests.{eq-eqb, ne_eqb, eqb-true, eqb-false}
+use borrow.Author.Tests.{ne_eqb, eqb-true}
 use Rattle.job.specs.Limits as limit
 use Rattle.rings.specs.Count.{sum_to, occ}
 use Rattle.rings.specs.Walk.{walk}
@@ -23,7 +23,6 @@ use Rattle.store.proofs.Keeping.{Kept, ring_other, good_other, past}
 use Rattle.rings.proofs.Members.{next_on, prev_on}
 use Rattle.pooling.specs.Pooled.{plain, point_kind, record_kind, raise, used_in, raise_as, pooled}
 use Rattle.pooling.proofs.Raising.{raise_low, raise_high, before, after, sum_split, sum_none, up, occ_up, occ_low, run_up, linked_up, map_up}
-use Rattle.pooling.proofs.Raising as raising
 
 -- there is room for both
 pub record BothFit (s t : Store) : Type 0 where

@@ -1,5 +1,4 @@
 -- `pooling::lay_all` meets its contract: columns, boxes, counts.
-use borrow.Author.Rules.{rules}
 use Rattle.pooling.proofs.Columns.{all_laid}
 use Rattle.pooling.proofs.lay_all.Goals as goal
 

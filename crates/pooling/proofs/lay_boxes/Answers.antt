@@ -1,11 +1,8 @@
 -- `pooling::lay_boxes` meets its contract: the loop follows the definition.
-use Prim.Native.Nat.{◌-◌, ◌≤◌}
-use mathlib.Core.Path.{◌≡◌, refl}
+use mathlib.Core.Path.{refl}
 use native.Mathlib.Omega.{arith}
-use lib.ListN.{length}
 use borrow.Author.Rules.{rules}
-use Rattle.pooling.specs.Words.{lay_sides}
-use Rattle.pooling.proofs.Sides.{boxes_none, boxes_small, boxes_next, boxes_done}
+use Rattle.pooling.proofs.Sides.{boxes_none, boxes_next}
 use Rattle.pooling.proofs.lay_boxes.Goals as goal
 
 pub loop-i-init : goal.loop-i-init

@@ -1,13 +1,10 @@
 -- `pooling::lay_column` meets its contract: the loop follows the definition.
 use Prim.Native.Nat.{◌-◌, ◌≤◌}
-use mathlib.Core.Path.{◌≡◌, refl}
-use native.Mathlib.Omega.{arith}
+use mathlib.Core.Path.{◌≡◌}
 use lib.ListN.{length}
-use borrow.Author.Rules.{rules}
 use Rattle.store.specs.Column.{column_of}
 use Rattle.pooling.specs.Pooled.{raise}
 use Rattle.pooling.specs.Words.{lay_column}
-use Rattle.pooling.proofs.Columns.{lay_none, lay_next, lay_done}
 use Rattle.pooling.proofs.lay_column.Given as goal
 
 abbrev pub invariant-loop-i : goal.invariant-loop-i
