@@ -1,5 +1,4 @@
 -- `laying::lay_tested` meets its contract: settings, then steps.
-use borrow.Author.Rules.{rules}
 use Rattle.laying.proofs.Calls.{settings_unequal, first_stepped, second_stepped, none_stepped}
 use Rattle.laying.proofs.lay_tested.Goals as goal
 

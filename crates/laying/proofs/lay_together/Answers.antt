@@ -1,5 +1,4 @@
 -- `laying::lay_together` meets its contract: lengths, then the first's tests.
-use borrow.Author.Rules.{rules}
 use Rattle.laying.proofs.Calls.{passed_sound, first_short, second_short, first_passed, first_refused}
 use Rattle.laying.proofs.lay_together.Goals as goal
 
