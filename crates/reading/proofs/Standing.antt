@@ -1,14 +1,14 @@
 -- Where the fields of a job that was read stand: tags rise, so the settings come first, then the points one after the other.
 use mathlib.Core.Path.{◌≡◌, refl, sym, ap, ◌∙◌, subst}
-use mathlib.Core.Logic.{◌⊎◌, inl, inr, ◌≢◌}
-use mathlib.Core.Bool.{Bool, true, false, cond, not, ◌&&◌, ◌||◌, true≢false, false≢true}
+use mathlib.Core.Logic.{◌≢◌}
+use mathlib.Core.Bool.{Bool, true, false, cond, not, ◌&&◌, ◌||◌, true≢false}
 use mathlib.Core.List.{List, [], ◌∷◌}
-use Prim.Native.Nat.{ℕ, zero, suc, ◌+◌, ◌*◌, ◌-◌, ◌<◌, ◌≤◌}
+use Prim.Native.Nat.{ℕ, zero, suc, ◌+◌, ◌<◌, ◌≤◌}
 use native.Mathlib.Omega.{arith}
 use native.Mathlib.Decide.{dec_lt}
 use lib.Dec.{eqb, ltb}
 use lib.ListN.{length, drop, length-drop}
-use borrow.Author.Tests.{ltb-true, ltb-false, eqb-true, eqb-false}
+use borrow.Author.Tests.{ltb-false, eqb-true, eqb-false}
 use Rattle.job.specs.Field.{HEADER, Y_AT, NEXT_AT, PREV_AT, RECORD_AT, Z_AT, OWNER_AT, FIRST_AT, tag_of, length_of, value_of, kind_of, size_of, field_in, torn_header, strange_tag, torn_value, strange_bits, crowded, body_of, field_of}
 use Rattle.numbers.specs.Bytes.{le}
 use Rattle.numbers.specs.Raised.{raised}
@@ -20,7 +20,6 @@ use Rattle.job.specs.declared.Job.{Job}
 use Rattle.job.specs.declared.field.Kind.{Kind}
 use Rattle.job.specs.declared.field.Kind.TheVariants as kind
 use Rattle.job.specs.declared.field.Field.{Field}
-use Rattle.job.specs.declared.field.Field.TheVariants.{Settings, Point, Record, Segment, Join}
 use Rattle.job.specs.declared.field.Reading.{Reading}
 use Rattle.job.specs.declared.field.Reading.TheVariants as reading
 use Rattle.job.specs.declared.refusal.Refusal.TheVariants.{Torn, Strange, Crowded}

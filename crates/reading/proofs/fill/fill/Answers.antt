@@ -1,11 +1,7 @@
 -- `reading::fill::fill` meets its contract: the loop follows `run`, one turn at a time.
-use mathlib.Core.Path.{◌≡◌, refl}
-use Prim.Native.Nat.{◌-◌}
-use native.Mathlib.Omega.{arith}
-use lib.ListN.{length}
+use mathlib.Core.Path.{refl}
 use borrow.Author.Rules.{rules}
-use Rattle.reading.specs.Fill.{fill_of}
-use Rattle.reading.proofs.Going.{Going, begun, empty, stop, done}
+use Rattle.reading.proofs.Going.{begun, empty, stop, done}
 use Rattle.reading.proofs.Running.{still_within, run_next, run_falls}
 use Rattle.reading.proofs.fill.fill.Goals as goal
 

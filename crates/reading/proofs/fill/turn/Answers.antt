@@ -1,6 +1,5 @@
 -- `reading::fill::turn` meets its contract: the field is read from the part that starts at the state's place, and placed.
 use native.Mathlib.Omega.{arith}
-use borrow.Author.Rules.{rules}
 use Rattle.reading.proofs.Placing.{may_place, turn_placed, turn_refused}
 use Rattle.reading.proofs.fill.turn.Goals as goal
 

@@ -1,8 +1,7 @@
 -- `reading::points::run_points` meets its contract: each turn of the loop is one of reading.
-use borrow.Author.Rules.{rules}
 use Prim.Native.Nat.{◌-◌}
 use lib.ListN.{length}
-use Rattle.reading.proofs.Running.{Placed, none_placed, all_placed, header_there, value_there, place_free, not_far, one_more, one_less}
+use Rattle.reading.proofs.Running.{Placed}
 use Rattle.reading.proofs.points.run_points.Given as goal
 
 abbrev pub invariant-loop-k : goal.invariant-loop-k
