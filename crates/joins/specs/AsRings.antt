@@ -1,6 +1,6 @@
 -- What a join does, as rings: lists of points, each from its record's first point in walk order. Document 01: "In a join, one record for both points gives a new record owned by
 -- the first; two records empty the second, now owned by the first." Here a is op1 and c is op2; s is the store before, u the store after.
-use Rattle.std.specs.Prelude.{ℕ, suc, ◌+◌, ◌*◌, ◌<◌, ◌≡◌, ◌≢◌, ◌⊎◌, Bool, false, cond, List, [], ◌∷◌, ◌++◌, eqb, ltb, get_or}
+use Rattle.std.specs.Prelude.{ℕ, suc, ◌+◌, ◌*◌, ◌<◌, ◌≡◌, ◌≢◌, ◌⊎◌, false, cond, List, [], ◌∷◌, ◌++◌, eqb, ltb, get_or}
 use Rattle.job.specs.Limits as limit
 use Rattle.rings.specs.Circle.{turn, rest}
 use Rattle.rings.specs.Count.{occ}

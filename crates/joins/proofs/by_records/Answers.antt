@@ -1,6 +1,5 @@
 -- `joins::by_records` meets its contract.
-use borrow.Author.Rules.{rules}
-use Rattle.joins.proofs.Turns.{pair_same, by_same, by_two}
+use Rattle.joins.proofs.Turns.{by_same, by_two}
 use Rattle.joins.proofs.by_records.Goals as goal
 
 pub returns-then-i-j : goal.returns-then-i-j

@@ -1,9 +1,7 @@
 -- `joins::fix_outrec_pts` meets its contract: the loop follows the ring from its first point.
 use borrow.Author.Rules.{rules}
-use mathlib.Core.Path.{◌≡◌, refl}
-use lib.ListN.{length}
-use Rattle.joins.specs.Join.{fix_outrec_pts}
-use Rattle.joins.proofs.Renaming.{Naming, to_go, ringed_low, ringed_long, begun, here, there, which, set_long, along, falls, over}
+use mathlib.Core.Path.{refl}
+use Rattle.joins.proofs.Renaming.{begun, along, falls, over}
 use Rattle.joins.proofs.fix_outrec_pts.Goals as goal
 
 pub loop-p-init : goal.loop-p-init

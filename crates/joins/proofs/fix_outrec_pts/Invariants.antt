@@ -1,9 +1,8 @@
 -- `joins::fix_outrec_pts` meets its contract: the loop follows the ring from its first point.
-use borrow.Author.Rules.{rules}
-use mathlib.Core.Path.{◌≡◌, refl}
+use mathlib.Core.Path.{◌≡◌}
 use lib.ListN.{length}
 use Rattle.joins.specs.Join.{fix_outrec_pts}
-use Rattle.joins.proofs.Renaming.{Naming, to_go, ringed_low, ringed_long, begun, here, there, which, set_long, along, falls, over}
+use Rattle.joins.proofs.Renaming.{Naming, to_go}
 use Rattle.joins.proofs.fix_outrec_pts.Given as goal
 
 abbrev pub invariant-loop-p : goal.invariant-loop-p

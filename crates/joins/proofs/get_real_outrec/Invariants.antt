@@ -1,9 +1,8 @@
 -- `joins::get_real_outrec` meets its contract: each hop leaves fewer.
-use borrow.Author.Rules.{rules}
 use Rattle.job.specs.Limits as limit
 use Rattle.store.specs.Named.{first_of, owner_of}
 use Rattle.joins.proofs.Resolving.{hops}
-use Rattle.joins.proofs.Finding.{Going, low, begun, going_low, next_low, again, falls, done}
+use Rattle.joins.proofs.Finding.{Going}
 use Rattle.joins.proofs.get_real_outrec.Given as goal
 
 abbrev pub invariant-loop-f : goal.invariant-loop-f

@@ -1,6 +1,5 @@
 -- `joins::join` meets its contract.
-use borrow.Author.Rules.{rules}
-use Rattle.joins.proofs.Turns.{points_one, points_two, points_low, points_long, points_pair, join_knot, join_on}
+use Rattle.joins.proofs.Turns.{points_pair, join_knot, join_on}
 use Rattle.joins.proofs.join.Goals as goal
 
 pub returns-then-n-op2 : goal.returns-then-n-op2

@@ -1,10 +1,6 @@
 -- `joins::process_horz_joins` meets its contract: the loop follows the definition, and every join leaves words that keep the invariant.
 use borrow.Author.Rules.{rules}
-use mathlib.Core.Path.{◌≡◌, refl}
-use Prim.Native.Nat.{◌-◌}
-use lib.ListN.{length}
-use Rattle.joins.specs.Join.{process_horz_joins}
-use Rattle.joins.proofs.Turns.{Going, begun, going_points, going_fits, next, knot, full, done}
+use Rattle.joins.proofs.Turns.{next, knot, full, done}
 use Rattle.joins.proofs.process_horz_joins.Goals as goal
 
 pub loop-i-preserved : goal.loop-i-preserved

@@ -1,10 +1,9 @@
 -- `joins::process_horz_joins` meets its contract: the loop follows the definition, and every join leaves words that keep the invariant.
-use borrow.Author.Rules.{rules}
-use mathlib.Core.Path.{◌≡◌, refl}
+use mathlib.Core.Path.{◌≡◌}
 use Prim.Native.Nat.{◌-◌}
 use lib.ListN.{length}
 use Rattle.joins.specs.Join.{process_horz_joins}
-use Rattle.joins.proofs.Turns.{Going, begun, going_points, going_fits, next, knot, full, done}
+use Rattle.joins.proofs.Turns.{Going}
 use Rattle.joins.proofs.process_horz_joins.Given as goal
 
 abbrev pub invariant-loop-i : goal.invariant-loop-i

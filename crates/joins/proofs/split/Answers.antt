@@ -1,6 +1,5 @@
 -- `joins::split` meets its contract.
-use borrow.Author.Rules.{rules}
-use Rattle.joins.proofs.Turns.{pair_long, split_yes, split_no}
+use Rattle.joins.proofs.Turns.{split_yes, split_no}
 use Rattle.joins.proofs.split.Goals as goal
 
 pub returns-then-k-lt-RECORDS : goal.returns-then-k-lt-RECORDS

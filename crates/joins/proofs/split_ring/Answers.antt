@@ -14,11 +14,11 @@ fix_outrec_pts-requires c = split_ring_new _ _ _ _ _ _ _ _ c.requires.0 c.requir
 
 pub move_first-requires : goal.move_first-requires
 move_first-requires c = (
-        search (rules, pair_long),
-        pair_low_one _ _ _ _ _ c.requires.0,
-        pair_one _ _ _ _ _ c.requires.0,
-        split_ring_first _ _ _ _ _ _ _ _ c.requires.0 c.requires.1 c.requires.2 c.get-n.ensures.0 c.relink.ensures c.new_out_rec.ensures _ c.fix_outrec_pts.ensures,
-        )
+  search (rules, pair_long),
+  pair_low_one _ _ _ _ _ c.requires.0,
+  pair_one _ _ _ _ _ c.requires.0,
+  split_ring_first _ _ _ _ _ _ _ _ c.requires.0 c.requires.1 c.requires.2 c.get-n.ensures.0 c.relink.ensures c.new_out_rec.ensures _ c.fix_outrec_pts.ensures,
+)
 
 pub returns : goal.returns
 returns c = split_ring_done _ _ _ _ _ _ _ _ c.requires.0 c.requires.1 c.requires.2 c.get-n.ensures.0 c.relink.ensures c.new_out_rec.ensures _ _ c.fix_outrec_pts.ensures c.move_first.ensures
