@@ -1,0 +1,21 @@
+-- `listing::area_in` meets its contract: the sum so far and the edges left come to the area.
+use borrow.Author.Rules.{rules}
+use mir.Syntax.{w64}
+use mir.Val.{to_z}
+use Rattle.geometry.specs.Plane.{area_outpt}
+use Rattle.listing.specs.Fields.{points_in}
+use Rattle.listing.specs.Needs.{Adding}
+use Rattle.listing.proofs.Runs.{none_area, adding_begins, adding_here, adding_ends, adding_fits, adding_on}
+use Rattle.listing.proofs.area_in.Goals as goal
+
+pub returns-then-n-eq0 : goal.returns-then-n-eq0
+returns-then-n-eq0 c = none_area _ _ _ c.if-n-eq0.true
+
+pub loop-left-init : goal.loop-left-init
+loop-left-init c = adding_begins _ _ _ c.requires.0 c.requires.1 c.if-n-eq0.false
+
+pub overflow_add-a : goal.overflow_add-a
+overflow_add-a c = adding_fits _ _ _ _ c.loop-left.a-bits _ c.loop-left.invariant _ c.edge_in-e.ensures c.loop-left-test.true
+
+pub loop-left-preserved : goal.loop-left-preserved
+loop-left-preserved c = adding_on _ _ _ _ c.loop-left.a-bits _ c.loop-left.invariant _ c.edge_in-e.ensures c.loop-left-test.true

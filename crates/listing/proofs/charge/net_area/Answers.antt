@@ -1,0 +1,13 @@
+-- `charge::net_area` meets its contract: the sum so far and the areas left come to the sum of all.
+use borrow.Author.Rules.{rules}
+use mir.Syntax.{w64}
+use mir.Val.{to_z}
+use Rattle.listing.specs.Needs.{Netting}
+use Rattle.listing.proofs.Charging.{netting_begins, netting_field, netting_sized, netting_fits, netting_on, netting_ends}
+use Rattle.listing.proofs.charge.net_area.Goals as goal
+
+pub overflow_add-a : goal.overflow_add-a
+overflow_add-a c = netting_fits _ _ _ _ c.loop-left.a-bits c.loop-left.invariant c.loop-left-test.true _ c.value_length-length.ensures.0 c.value_length-length.ensures.1 _ c.area_in-e.ensures
+
+pub loop-left-preserved : goal.loop-left-preserved
+loop-left-preserved c = netting_on _ _ _ _ c.loop-left.a-bits c.loop-left.invariant c.loop-left-test.true _ c.value_length-length.ensures.0 c.value_length-length.ensures.1 _ c.area_in-e.ensures
