@@ -53,3 +53,64 @@ pub fn write_or_say<R: Print + Eprint>(
         }
     }
 }
+
+#[cfg(test)]
+mod tests {
+    use super::*;
+
+    // Gives 0, is interrupted, gives 2, and fails from then on.
+    #[derive(Drop)]
+    struct Faulty {
+        turn: u8,
+    }
+
+    impl Read for Faulty {
+        fn read(&mut self, buf: &mut [u8]) -> io::Result<usize> {
+            let turn = self.turn;
+            if turn > 2 {
+                return Err(io::Error::from(ErrorKind::PermissionDenied));
+            }
+            self.turn = turn + 1;
+            if turn == 1 {
+                return Err(io::Error::from(ErrorKind::Interrupted));
+            }
+            if buf.len() == 0 {
+                return Ok(0);
+            }
+            buf[0] = turn;
+            Ok(1)
+        }
+    }
+
+    // What is interrupted is read on; what fails is told.
+    #[test]
+    fn reads_on_or_fails(rt: HostRuntime) {
+        let mut two = [7u8; 2];
+        let mut source = Faulty { turn: 0 };
+        match fill(&mut source, &mut two) {
+            Ok(n) => assert_eq!(rt; n, 2),
+            Err(_) => panic!(rt; "two bytes are there"),
+        }
+        assert_eq!(rt; two[0], 0);
+        assert_eq!(rt; two[1], 2);
+        let mut three = [7u8; 3];
+        let mut again = Faulty { turn: 0 };
+        match fill(&mut again, &mut three) {
+            Ok(_) => panic!(rt; "the third fails"),
+            Err(e) => assert!(rt; e.kind() == ErrorKind::PermissionDenied, "another error"),
+        }
+    }
+
+    // An input that ends early fills less.
+    #[test]
+    fn ends_early(rt: HostRuntime) {
+        let mut source = &b"ab"[..];
+        let mut three = [7u8; 3];
+        match fill(&mut source, &mut three) {
+            Ok(n) => assert_eq!(rt; n, 2),
+            Err(_) => panic!(rt; "memory is read"),
+        }
+        assert_eq!(rt; three[1], b'b');
+        assert_eq!(rt; three[2], 7);
+    }
+}
