@@ -1,4 +1,4 @@
-/* Finishing outlines from C: the functions of liboutline.a (`rt staticlib outline` proves it and writes it to target/staticlib/;
+/* Finishing outlines from C: the functions of liboutline.a (`tools/archive` proves it and writes it to target/staticlib/;
  * `tools/install PREFIX` installs it with this header, for pkg-config and CMake). docs/JOB.md says more of the job, the refusals and the tray.
  *
  * Slices are a pointer and a count of elements, words of 32 bits and bytes. Any count will do, and so will any content: nothing outside a

@@ -1,4 +1,4 @@
-// Links the static library that `rt staticlib outline` wrote; OUTLINE_LIB names another folder.
+// Links the static library that `tools/archive` wrote; OUTLINE_LIB names another folder.
 use std::path::PathBuf;
 use std::{env, process};
 
@@ -9,7 +9,7 @@ fn main() {
     let archive = folder.join("liboutline.a");
     println!("cargo:rerun-if-changed={}", archive.display());
     if !archive.is_file() {
-        eprintln!("driver: no {}; make it with: rt staticlib outline", archive.display());
+        eprintln!("driver: no {}; make it with: tools/archive", archive.display());
         process::exit(1);
     }
     println!("cargo:rustc-link-search=native={}", folder.display());

@@ -8,8 +8,8 @@ ghost use Rattle.store.specs.Column.{column_of};
 
 use audit::{Verdict, tests_of};
 use job::Job;
-use libc::STDOUT_FILENO;
 use primitives::start_record;
+use std::io;
 use store::{Col, JOINED, LENGTH, NO_RING, NONE, set};
 
 // The word of the coordinate 0.
@@ -49,17 +49,15 @@ fn build(w: &mut [u32])
 }
 
 // What the tests say.
-fn say(v: Verdict) {
+fn say<R: Print>(rt: &R, v: Verdict) -> io::Result<()> {
     match v {
-        Verdict::Passed => {
-            io::write_all(STDOUT_FILENO, b"passed\n");
-        }
+        Verdict::Passed => println!(rt; "passed"),
         Verdict::Refused(r) => {
             let n = r.number();
             let mut line = *b"refused   \n";
             line[8] = digit(n / 10);
             line[9] = digit(n % 10);
-            io::write_all(STDOUT_FILENO, &line);
+            rt.write_all(&line)
         }
     }
 }
@@ -70,52 +68,52 @@ fn digit(n: u32) -> u8 {
 }
 
 // The good work space with one word altered.
-fn altered(w: &mut [u32], c: Col, i: usize, v: usize)
+fn altered<R: Print>(rt: &R, w: &mut [u32], c: Col, i: usize, v: usize) -> io::Result<()>
     requires { (BLOCK ≤ length w.old) × (i < size (column_of c)) × (v < 2 ^ 32) }
 {
     build(w);
     set(w, c, i, v);
     let r = tests_of(w);
-    say(r);
+    say(rt, r)
 }
 
 // Numbers, coordinates and counts.
-fn alter_numbers(w: &mut [u32])
+fn alter_numbers<R: Print>(rt: &R, w: &mut [u32]) -> io::Result<()>
     requires { BLOCK ≤ length w.old }
 {
-    altered(w, Col::Points, 0, Job::POINTS + 1);
-    altered(w, Col::Records, 0, Job::RECORDS + 1);
-    altered(w, Col::X, 2, 2 * AT);
-    altered(w, Col::X, 2, 2 * AT + 1);
-    altered(w, Col::Next, 1, 8);
-    altered(w, Col::Prev, 5, 8);
-    altered(w, Col::Rec, 0, 2);
-    altered(w, Col::Owner, 0, 2);
+    altered(rt, w, Col::Points, 0, Job::POINTS + 1)?;
+    altered(rt, w, Col::Records, 0, Job::RECORDS + 1)?;
+    altered(rt, w, Col::X, 2, 2 * AT)?;
+    altered(rt, w, Col::X, 2, 2 * AT + 1)?;
+    altered(rt, w, Col::Next, 1, 8)?;
+    altered(rt, w, Col::Prev, 5, 8)?;
+    altered(rt, w, Col::Rec, 0, 2)?;
+    altered(rt, w, Col::Owner, 0, 2)
 }
 
 // A depth that no coordinate may have: nothing binds it.
-fn alter_depth(w: &mut [u32])
+fn alter_depth<R: Print>(rt: &R, w: &mut [u32]) -> io::Result<()>
     requires { BLOCK ≤ length w.old }
 {
-    altered(w, Col::Z, 2, 2 * AT + 1);
+    altered(rt, w, Col::Z, 2, 2 * AT + 1)
 }
 
 // Links, rings and progress.
-fn alter_rings(w: &mut [u32])
+fn alter_rings<R: Print>(rt: &R, w: &mut [u32]) -> io::Result<()>
     requires { BLOCK ≤ length w.old }
 {
-    altered(w, Col::First, 1, 8);
-    altered(w, Col::Next, 1, 3);
-    altered(w, Col::Prev, 1, 3);
-    altered(w, Col::First, 1, 2);
-    altered(w, Col::Present, 1, 2);
-    altered(w, Col::Mark, 1, 4);
-    altered(w, Col::Mark, 1, 5);
-    altered(w, Col::Flags, 1, 1);
+    altered(rt, w, Col::First, 1, 8)?;
+    altered(rt, w, Col::Next, 1, 3)?;
+    altered(rt, w, Col::Prev, 1, 3)?;
+    altered(rt, w, Col::First, 1, 2)?;
+    altered(rt, w, Col::Present, 1, 2)?;
+    altered(rt, w, Col::Mark, 1, 4)?;
+    altered(rt, w, Col::Mark, 1, 5)?;
+    altered(rt, w, Col::Flags, 1, 1)
 }
 
 // The good work space with record 1 emptied: the reason that it keeps, and its taker.
-fn emptied(w: &mut [u32], reason: usize, taker: usize)
+fn emptied<R: Print>(rt: &R, w: &mut [u32], reason: usize, taker: usize) -> io::Result<()>
     requires { (BLOCK ≤ length w.old) × (reason < 2 ^ 32) × (taker < 2 ^ 32) }
 {
     build(w);
@@ -123,29 +121,29 @@ fn emptied(w: &mut [u32], reason: usize, taker: usize)
     set(w, Col::Reason, 1, reason);
     set(w, Col::Taker, 1, taker);
     let r = tests_of(w);
-    say(r);
+    say(rt, r)
 }
 
 // Reasons and takers.
-fn alter_reasons(w: &mut [u32])
+fn alter_reasons<R: Print>(rt: &R, w: &mut [u32]) -> io::Result<()>
     requires { BLOCK ≤ length w.old }
 {
-    emptied(w, 0, 0);
-    emptied(w, NO_RING, 2);
-    emptied(w, JOINED, 0);
-    emptied(w, JOINED, 2);
-    emptied(w, 5, 2);
-    emptied(w, 6, 0);
-    emptied(w, JOINED, NONE);
+    emptied(rt, w, 0, 0)?;
+    emptied(rt, w, NO_RING, 2)?;
+    emptied(rt, w, JOINED, 0)?;
+    emptied(rt, w, JOINED, 2)?;
+    emptied(rt, w, 5, 2)?;
+    emptied(rt, w, 6, 0)?;
+    emptied(rt, w, JOINED, NONE)
 }
 
-fn main() {
+fn main(rt: HostRuntime) -> io::Result<()> {
     let mut w = [0u32; LENGTH];
     build(&mut w);
     let r = tests_of(&w);
-    say(r);
-    alter_numbers(&mut w);
-    alter_depth(&mut w);
-    alter_rings(&mut w);
-    alter_reasons(&mut w);
+    say(&rt, r)?;
+    alter_numbers(&rt, &mut w)?;
+    alter_depth(&rt, &mut w)?;
+    alter_rings(&rt, &mut w)?;
+    alter_reasons(&rt, &mut w)
 }

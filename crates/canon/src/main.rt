@@ -6,43 +6,41 @@ ghost use Rattle.std.specs.Prelude.{length};
 ghost use Rattle.rewriting.specs.Answers.{BytesWithin};
 
 use job::refusal::Refusal;
-use libc::{STDERR_FILENO, STDIN_FILENO, STDOUT_FILENO};
 use prefix::DECIDES;
 use rewriting::{LONGEST, Rewritten, rewrite};
+use std::io;
+use std::process::ExitCode;
 use store::LENGTH;
+use streams::{fill, write_or_say};
 
 // The line of a refusal.
-fn refuse(x: Refusal) {
-    io::write_all(STDERR_FILENO, b"refused ");
-    io::print_decimal(STDERR_FILENO, x.number() as u64);
-    io::write_all(STDERR_FILENO, b"\n");
+fn refuse<R: Eprint>(rt: &R, x: Refusal) -> io::Result<ExitCode> {
+    let n = x.number();
+    eprintln!(rt; "refused {n}")?;
+    Ok(ExitCode::SUCCESS)
 }
 
 // Writes to standard output; says so where that does not take all of it.
-fn put(bytes: &[u8]) {
-    if !io::write_all(STDOUT_FILENO, bytes) {
-        io::write_all(STDERR_FILENO, b"canon: cannot write to standard output\n");
-    }
+fn put<R: Print + Eprint>(rt: &R, bytes: &[u8]) -> io::Result<ExitCode> {
+    write_or_say(rt, "canon", bytes)
 }
 
 // Writes the job, or why there is none.
-fn say(a: Rewritten, tray: &[u8])
+fn say<R: Print + Eprint>(rt: &R, a: Rewritten, tray: &[u8]) -> io::Result<ExitCode>
     requires { BytesWithin a (length tray.now) }
 {
     match a {
-        Rewritten::Bytes(m) => {
-            put(&tray[..m]);
-        }
-        Rewritten::Refused(x) => refuse(x),
+        Rewritten::Bytes(m) => put(rt, &tray[..m]),
+        Rewritten::Refused(x) => refuse(rt, x),
     }
 }
 
 // Reads as many bytes as decide any job, into a tray that suffices for any: what follows them changes nothing (`rewrites`, crate rewriting).
-fn main() {
+fn main(rt: HostRuntime) -> io::Result<ExitCode> {
     let mut job = [0u8; DECIDES];
     let mut work = [0u32; LENGTH];
     let mut tray = [0u8; LONGEST];
-    let n = io::read_full(STDIN_FILENO, &mut job);
+    let n = fill(&mut rt.stdin(), &mut job)?;
     let a = rewrite(&job[..n], &mut work, &mut tray);
-    say(a, &tray);
+    say(&rt, a, &tray)
 }

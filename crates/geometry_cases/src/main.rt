@@ -11,7 +11,8 @@ ghost use Rattle.crossing.specs.Within.{Paired, MeetAt};
 use crossing::{Crossing, Edges};
 use geometry::Point;
 use job::Job;
-use libc::{STDIN_FILENO, STDOUT_FILENO};
+use std::io;
+use streams::fill;
 use test_text::words::{digits, end_of};
 use test_text::{byte, further};
 
@@ -283,12 +284,11 @@ fn run(s: &[u8]) -> Counts {
     Counts { cases, differ }
 }
 
-fn main() {
+fn main(rt: HostRuntime) -> io::Result<()> {
     let mut buf = [0u8; 262144];
-    let n = io::read_full(STDIN_FILENO, &mut buf);
+    let n = fill(&mut rt.stdin(), &mut buf)?;
     let c = run(&buf[..n]);
-    io::print_decimal(STDOUT_FILENO, c.cases);
-    io::write_all(STDOUT_FILENO, b" cases, ");
-    io::print_decimal(STDOUT_FILENO, c.differ);
-    io::write_all(STDOUT_FILENO, b" differ\n");
+    let cases = c.cases;
+    let differ = c.differ;
+    println!(rt; "{cases} cases, {differ} differ")
 }

@@ -4,8 +4,9 @@
 
 ghost use Rattle.std.specs.Prelude.{◌^◌, ◌<◌};
 
-use libc::{STDIN_FILENO, STDOUT_FILENO};
 use marks::Marks;
+use std::io;
+use streams::fill;
 use test_text::number_at;
 
 // Point i marked too, unless it is the one that is bare.
@@ -39,21 +40,21 @@ fn answer(s: &[u8], at: usize) -> bool
     m.all_set(count)
 }
 
-fn say(yes: bool) {
+fn say<R: Print>(rt: &R, yes: bool) -> io::Result<()> {
     if yes {
-        io::write_all(STDOUT_FILENO, b"1\n");
-        return;
+        return println!(rt; "1");
     }
-    io::write_all(STDOUT_FILENO, b"0\n");
+    println!(rt; "0")
 }
 
-fn main() {
-    let mut input = io::large_buffer();
-    let n = io::read_full(STDIN_FILENO, &mut input);
+fn main(rt: HostRuntime) -> io::Result<()> {
+    let mut input = [0u8; 65536];
+    let n = fill(&mut rt.stdin(), &mut input)?;
     let mut at: usize = 0;
     while at + 8 <= n {
         let yes = answer(&input, at);
-        say(yes);
+        say(&rt, yes)?;
         at += 8;
     }
+    Ok(())
 }

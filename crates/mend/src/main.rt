@@ -4,41 +4,41 @@
 
 use audit::Reply;
 use job::refusal::Refusal;
-use libc::{STDERR_FILENO, STDIN_FILENO, STDOUT_FILENO};
 use mending::mend;
 use prefix::DECIDES;
+use std::io;
+use std::process::ExitCode;
+use streams::{fill, write_or_say};
 
 // The line of a refusal.
-fn refuse(x: Refusal) {
-    io::write_all(STDERR_FILENO, b"refused ");
-    io::print_decimal(STDERR_FILENO, x.number() as u64);
-    io::write_all(STDERR_FILENO, b"\n");
+fn refuse<R: Eprint>(rt: &R, x: Refusal) -> io::Result<ExitCode> {
+    let n = x.number();
+    eprintln!(rt; "refused {n}")?;
+    Ok(ExitCode::SUCCESS)
 }
 
 // Writes to standard output; says so where that does not take all of it.
-fn put(bytes: &[u8]) {
-    if !io::write_all(STDOUT_FILENO, bytes) {
-        io::write_all(STDERR_FILENO, b"mend: cannot write to standard output\n");
-    }
+fn put<R: Print + Eprint>(rt: &R, bytes: &[u8]) -> io::Result<ExitCode> {
+    write_or_say(rt, "mend", bytes)
 }
 
 // Writes the job, or why there is none.
-fn say(a: Reply, job: &[u8]) {
+fn say<R: Print + Eprint>(rt: &R, a: Reply, job: &[u8]) -> io::Result<ExitCode> {
     match a {
-        Reply::Done => put(job),
-        Reply::Refused(x) => refuse(x),
+        Reply::Done => put(rt, job),
+        Reply::Refused(x) => refuse(rt, x),
     }
 }
 
 // Mends a job that was read.
-fn answer(job: &mut [u8]) {
+fn answer<R: Print + Eprint>(rt: &R, job: &mut [u8]) -> io::Result<ExitCode> {
     let a = mend(job);
-    say(a, job);
+    say(rt, a, job)
 }
 
 // Reads as many bytes as decide any job: what follows them changes nothing of the answer, and a job that is mended has no more (`mends`, crate mending).
-fn main() {
+fn main(rt: HostRuntime) -> io::Result<ExitCode> {
     let mut job = [0u8; DECIDES];
-    let n = io::read_full(STDIN_FILENO, &mut job);
-    answer(&mut job[..n]);
+    let n = fill(&mut rt.stdin(), &mut job)?;
+    answer(&rt, &mut job[..n])
 }

@@ -6,93 +6,83 @@ ghost use Rattle.std.specs.Prelude.{◌≤◌, length};
 ghost use Rattle.store.specs.Field.{BLOCK};
 
 use job::refusal::Refusal;
-use libc::{STDIN_FILENO, STDOUT_FILENO};
 use opening::open::{Opened, open};
+use std::io;
 use store::{Col, LENGTH, NONE, read};
+use streams::fill;
 use test_text::ring::{TEXT, put_ring};
 use test_text::{first, from, further, number_at};
 
-fn print(n: usize) {
-    io::print_decimal(STDOUT_FILENO, n as u64);
+fn print<R: Print>(rt: &R, n: usize) -> io::Result<()> {
+    rt.print(n)
 }
 
-fn print_owner(o: usize) {
+fn print_owner<R: Print>(rt: &R, o: usize) -> io::Result<()> {
     if o == NONE {
-        io::write_all(STDOUT_FILENO, b"-");
-        return;
+        return print!(rt; "-");
     }
-    print(o);
+    print(rt, o)
 }
 
 // The ring from a record's first point on, each point by its number and value.
-fn print_ring(w: &[u32], a: usize)
+fn print_ring<R: Print>(rt: &R, w: &[u32], a: usize) -> io::Result<()>
     requires { BLOCK ≤ length w.now }
 {
     let mut text = [0u8; TEXT];
     let n = put_ring(w, true, a, &mut text, 0);
-    io::write_all(STDOUT_FILENO, first(&text, n));
+    rt.write_all(first(&text, n))
 }
 
-fn print_record(w: &[u32], i: usize)
+fn print_record<R: Print>(rt: &R, w: &[u32], i: usize) -> io::Result<()>
     requires { BLOCK ≤ length w.now }
 {
-    io::write_all(STDOUT_FILENO, b"record ");
-    print(i);
-    io::write_all(STDOUT_FILENO, b" flags ");
     let f = read(w, Col::Flags, i);
-    print(f);
-    io::write_all(STDOUT_FILENO, b" owner ");
+    print!(rt; "record {i} flags {f} owner ")?;
     let o = read(w, Col::Owner, i);
-    print_owner(o);
+    print_owner(rt, o)?;
     let a = read(w, Col::First, i);
-    print_ring(w, a);
+    print_ring(rt, w, a)
 }
 
-fn print_records(w: &[u32])
+fn print_records<R: Print>(rt: &R, w: &[u32]) -> io::Result<()>
     requires { BLOCK ≤ length w.now }
 {
     let n = read(w, Col::Records, 0);
     let mut i: usize = 0;
     while i < n {
-        print_record(w, i);
+        print_record(rt, w, i)?;
         i += 1;
     }
+    Ok(())
 }
 
-fn print_counts(w: &[u32])
+fn print_counts<R: Print>(rt: &R, w: &[u32]) -> io::Result<()>
     requires { BLOCK ≤ length w.now }
 {
-    io::write_all(STDOUT_FILENO, b"points ");
     let p = read(w, Col::Points, 0);
-    print(p);
-    io::write_all(STDOUT_FILENO, b" records ");
     let n = read(w, Col::Records, 0);
-    print(n);
-    io::write_all(STDOUT_FILENO, b"\n");
+    println!(rt; "points {p} records {n}")
 }
 
-fn print_refusal(r: Refusal) {
-    io::write_all(STDOUT_FILENO, b"refused ");
-    io::print_decimal(STDOUT_FILENO, r.number() as u64);
-    io::write_all(STDOUT_FILENO, b"\n");
+fn print_refusal<R: Print>(rt: &R, r: Refusal) -> io::Result<()> {
+    let n = r.number();
+    println!(rt; "refused {n}")
 }
 
-fn open_one(job: &[u8], w: &mut [u32])
+fn open_one<R: Print>(rt: &R, job: &[u8], w: &mut [u32]) -> io::Result<()>
     requires { BLOCK ≤ length w.old }
 {
     let a = open(job, w);
     match a {
         Opened::Accepted => {
-            print_counts(w);
-            print_records(w);
+            print_counts(rt, w)?;
+            print_records(rt, w)
         }
-        Opened::Refused(r) => {
-            print_refusal(r);
-        }
+        Opened::Refused(r) => print_refusal(rt, r),
     }
 }
 
-fn run(s: &[u8], w: &mut [u32])
+fn run<R: Print>(rt: &R, s: &[u8], w: &mut [u32]) -> io::Result<()>
     requires { BLOCK ≤ length w.old }
 {
     let mut at: usize = 0;
@@ -100,18 +90,19 @@ fn run(s: &[u8], w: &mut [u32])
     while 0 < left {
         let n = number_at(s, at);
         if n == 0 {
-            return;
+            return Ok(());
         }
         at = further(at, 4);
-        open_one(first(from(s, at), n), w);
+        open_one(rt, first(from(s, at), n), w)?;
         at = further(at, n);
         left -= 1;
     }
+    Ok(())
 }
 
-fn main() {
+fn main(rt: HostRuntime) -> io::Result<()> {
     let mut input = [0u8; 131072];
     let mut w = [0u32; LENGTH];
-    let n = io::read_full(STDIN_FILENO, &mut input);
-    run(&input[..n], &mut w);
+    let n = fill(&mut rt.stdin(), &mut input)?;
+    run(&rt, &input[..n], &mut w)
 }

@@ -26,16 +26,14 @@ use windows::records_in;
 // ---- the calls
 
 // The fixed length of a work space, in words.
-#[unsafe(no_mangle)]
-pub extern "C" fn outline_work_words() -> u64
+pub fn outline_work_words() -> u64
     ensures { result ≡ LENGTH }
 {
     LENGTH as u64
 }
 
 // Opens a job.
-#[unsafe(no_mangle)]
-pub extern "C" fn outline_open(job: &[u8], work: &mut [u32]) -> u32
+pub fn outline_open(job: &[u8], work: &mut [u32]) -> u32
     ensures { worked result work.new ≡ open_c job.now work.old }
 {
     let a = open(job, work);
@@ -43,8 +41,7 @@ pub extern "C" fn outline_open(job: &[u8], work: &mut [u32]) -> u32
 }
 
 // A step on a record.
-#[unsafe(no_mangle)]
-pub extern "C" fn outline_step(work: &mut [u32], number: u32) -> u32
+pub fn outline_step(work: &mut [u32], number: u32) -> u32
     ensures { worked result work.new ≡ step_c work.old number }
 {
     let a = step(work, number);
@@ -52,8 +49,7 @@ pub extern "C" fn outline_step(work: &mut [u32], number: u32) -> u32
 }
 
 // Keeps the live state under a name.
-#[unsafe(no_mangle)]
-pub extern "C" fn outline_keep(work: &mut [u32], name: u8) -> u32
+pub fn outline_keep(work: &mut [u32], name: u8) -> u32
     ensures { worked result work.new ≡ keep_c work.old name }
 {
     let a = keep(work, name);
@@ -61,8 +57,7 @@ pub extern "C" fn outline_keep(work: &mut [u32], name: u8) -> u32
 }
 
 // Goes back to the state that a name keeps.
-#[unsafe(no_mangle)]
-pub extern "C" fn outline_go_back(work: &mut [u32], name: u8) -> u32
+pub fn outline_go_back(work: &mut [u32], name: u8) -> u32
     ensures { worked result work.new ≡ back_c work.old name }
 {
     let a = go_back(work, name);
@@ -70,8 +65,7 @@ pub extern "C" fn outline_go_back(work: &mut [u32], name: u8) -> u32
 }
 
 // Drops a name.
-#[unsafe(no_mangle)]
-pub extern "C" fn outline_drop(work: &mut [u32], name: u8) -> u32
+pub fn outline_drop(work: &mut [u32], name: u8) -> u32
     ensures { worked result work.new ≡ drop_c work.old name }
 {
     let a = drop(work, name);
@@ -79,8 +73,7 @@ pub extern "C" fn outline_drop(work: &mut [u32], name: u8) -> u32
 }
 
 // Lays the second's drawing beside the first's, in the first's work space. The second's is only read.
-#[unsafe(no_mangle)]
-pub extern "C" fn outline_lay_together(first: &mut [u32], second: &[u32]) -> u32
+pub fn outline_lay_together(first: &mut [u32], second: &[u32]) -> u32
     ensures { worked result first.new ≡ lay_c first.old second.now }
 {
     let a = lay_together(first, second);
@@ -88,8 +81,7 @@ pub extern "C" fn outline_lay_together(first: &mut [u32], second: &[u32]) -> u32
 }
 
 // Writes all paths into the tray.
-#[unsafe(no_mangle)]
-pub extern "C" fn outline_write(work: &[u32], tray: &mut [u8]) -> u32
+pub fn outline_write(work: &[u32], tray: &mut [u8]) -> u32
     ensures { wrote result tray.new ≡ write_c work.now tray.old }
 {
     let a = write_out(work, tray);
@@ -97,8 +89,7 @@ pub extern "C" fn outline_write(work: &[u32], tray: &mut [u8]) -> u32
 }
 
 // Finishes a job in one call.
-#[unsafe(no_mangle)]
-pub extern "C" fn outline_finish(job: &[u8], work: &mut [u32], tray: &mut [u8]) -> u32
+pub fn outline_finish(job: &[u8], work: &mut [u32], tray: &mut [u8]) -> u32
     ensures { finished result work.new tray.new ≡ finish_c job.now work.old tray.old }
 {
     let a = finish(job, work, tray);
@@ -113,8 +104,7 @@ fn text_short(words: usize, bytes: usize) -> bool
 }
 
 // Finishes a job and lists it, with the charge unless the rate is 0. A work space that is too short is refused first; then a text shorter than `TEXT` is left as found, and so is all else.
-#[unsafe(no_mangle)]
-pub extern "C" fn outline_list(
+pub fn outline_list(
     job: &[u8],
     work: &mut [u32],
     tray: &mut [u8],
@@ -133,8 +123,7 @@ pub extern "C" fn outline_list(
 }
 
 // Writes a job the one way.
-#[unsafe(no_mangle)]
-pub extern "C" fn outline_rewrite(job: &[u8], work: &mut [u32], tray: &mut [u8]) -> u64
+pub fn outline_rewrite(job: &[u8], work: &mut [u32], tray: &mut [u8]) -> u64
     ensures { finished result work.new tray.new ≡ rewrite_c job.now (length work.old) (length tray.old) }
 {
     let a = rewrite(job, work, tray);
@@ -142,8 +131,7 @@ pub extern "C" fn outline_rewrite(job: &[u8], work: &mut [u32], tray: &mut [u8])
 }
 
 // Why a record has an outline, or none. The work space is only read.
-#[unsafe(no_mangle)]
-pub extern "C" fn outline_reason(work: &[u32], number: u32) -> u64
+pub fn outline_reason(work: &[u32], number: u32) -> u64
     ensures { result ≡ reason_c work.now number }
 {
     let a = reason_of(work, number);
@@ -151,13 +139,7 @@ pub extern "C" fn outline_reason(work: &[u32], number: u32) -> u64
 }
 
 // Finishes a job in one call, and answers for every ordered pair of its closed paths whether the second contains the first.
-#[unsafe(no_mangle)]
-pub extern "C" fn outline_contained(
-    job: &[u8],
-    work: &mut [u32],
-    tray: &mut [u8],
-    answers: &mut [u8],
-) -> u32
+pub fn outline_contained(job: &[u8], work: &mut [u32], tray: &mut [u8], answers: &mut [u8]) -> u32
     ensures { pairs result work.new tray.new answers.new ≡ contained_c job.now work.old tray.old (length answers.old) }
 {
     let a = contained(job, work, tray, answers);
@@ -165,8 +147,7 @@ pub extern "C" fn outline_contained(
 }
 
 // Mends a job's backward links, in its bytes.
-#[unsafe(no_mangle)]
-pub extern "C" fn outline_mend(job: &mut [u8]) -> u32
+pub fn outline_mend(job: &mut [u8]) -> u32
     ensures { mended_job result job.new ≡ mend_c job.old }
 {
     let a = mend(job);
@@ -174,8 +155,7 @@ pub extern "C" fn outline_mend(job: &mut [u8]) -> u32
 }
 
 // The records whose boxes meet a window, into the list. The work space is only read.
-#[unsafe(no_mangle)]
-pub extern "C" fn outline_records_in(
+pub fn outline_records_in(
     work: &[u32],
     left: i32,
     top: i32,

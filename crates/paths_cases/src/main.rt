@@ -3,16 +3,17 @@
 // each point (four bytes each, low byte first).
 #![tactic(auto)]
 
-ghost use Rattle.std.specs.Prelude.{◌+◌, ◌*◌, ◌≤◌, ◌<◌, ◌^◌, length};
+ghost use Rattle.std.specs.Prelude.{◌+◌, ◌*◌, ◌≤◌, ◌<◌, ◌^◌, length, IfOk};
 ghost use Rattle.job.specs.Limits as limit;
 ghost use Rattle.store.specs.Field.{BLOCK};
 
 use audit::Verdict;
 use job::Job;
-use libc::{STDIN_FILENO, STDOUT_FILENO};
 use listing::Listed;
 use paths::{TRAY, Written};
+use std::io;
 use store::{Col, LENGTH};
+use streams::fill;
 
 // What stands at a place of the input, for which there is room.
 fn small(s: &[u8], at: usize) -> usize
@@ -119,41 +120,55 @@ fn list(work: &[u32], tray: &mut [u8], out: &mut [u8]) -> usize
 }
 
 // The ring at a place: lists its path, answers where the next ring begins.
-fn one(work: &mut [u32; LENGTH], tray: &mut [u8], out: &mut [u8], s: &[u8], at: usize) -> usize
+fn one<R: Print>(
+    rt: &R,
+    work: &mut [u32; LENGTH],
+    tray: &mut [u8],
+    out: &mut [u8],
+    s: &[u8],
+    at: usize,
+) -> io::Result<usize>
     requires { at + 4 ≤ length s.now }
-    ensures { result ≤ length s.now }
+    ensures { IfOk result (λ next. next ≤ length s.now) }
 {
     let rev = small(s, at);
     let opened = small(s, at + 1);
     let n = small(s, at + 2);
     let end = at + 4 + 12 * n;
     if s.len() < end {
-        return s.len();
+        return Ok(s.len());
     }
     set_points(work, s, at + 4, n);
     set_record(work, rev, opened, n);
     let k = list(work, tray, out);
-    io::write_all(STDOUT_FILENO, &out[..k]);
-    end
+    rt.write_all(&out[..k])?;
+    Ok(end)
 }
 
-fn run(work: &mut [u32; LENGTH], tray: &mut [u8], out: &mut [u8], s: &[u8]) {
+fn run<R: Print>(
+    rt: &R,
+    work: &mut [u32; LENGTH],
+    tray: &mut [u8],
+    out: &mut [u8],
+    s: &[u8],
+) -> io::Result<()> {
     let mut at: usize = 0;
     let mut left: usize = 65536;
     while 0 < left {
         if s.len() < at + 4 {
-            return;
+            return Ok(());
         }
-        at = one(work, tray, out, s, at);
+        at = one(rt, work, tray, out, s, at)?;
         left -= 1;
     }
+    Ok(())
 }
 
-fn main() {
+fn main(rt: HostRuntime) -> io::Result<()> {
     let mut input = [0u8; 65536];
     let mut work = [0u32; LENGTH];
     let mut tray = [0u8; TRAY];
     let mut out = [0u8; 4096];
-    let n = io::read_full(STDIN_FILENO, &mut input);
-    run(&mut work, &mut tray, &mut out, &input[..n]);
+    let n = fill(&mut rt.stdin(), &mut input)?;
+    run(&rt, &mut work, &mut tray, &mut out, &input[..n])
 }

@@ -8,12 +8,13 @@ ghost use Rattle.std.specs.Prelude.{◌<◌};
 
 use job::Job;
 use job_listing::list_job;
-use libc::{STDIN_FILENO, STDOUT_FILENO};
 use listing::{Listed, TEXT};
 use paths::TRAY;
 use prefix::DECIDES;
 use rates::{Rate, rate_in};
+use std::io;
 use store::LENGTH;
+use streams::fill;
 use test_text::words::end_of;
 use test_text::{byte, first, from, further, number_at, put, words};
 
@@ -25,16 +26,16 @@ fn back(at: usize, n: usize) -> usize {
 }
 
 // Writes the first n bytes.
-fn say(s: &[u8], n: usize) {
-    io::write_all(STDOUT_FILENO, first(s, n));
+fn say<R: Print>(rt: &R, s: &[u8], n: usize) -> io::Result<()> {
+    rt.write_all(first(s, n))
 }
 
 // The line at a place, which ends at another.
-fn say_line(s: &[u8], at: usize, end: usize) {
+fn say_line<R: Print>(rt: &R, s: &[u8], at: usize, end: usize) -> io::Result<()> {
     if at <= end {
-        say(from(s, at), end - at);
+        say(rt, from(s, at), end - at)?;
     }
-    io::write_all(STDOUT_FILENO, b"\n");
+    println!(rt)
 }
 
 // The number of a hexadecimal digit.
@@ -201,25 +202,33 @@ fn digits(tray: &[u8], n: usize, line: &mut [u8]) -> usize {
 }
 
 // The tray's fields.
-fn say_tray(tray: &[u8], line: &mut [u8]) {
+fn say_tray<R: Print>(rt: &R, tray: &[u8], line: &mut [u8]) -> io::Result<()> {
     let n = digits(tray, used(tray), line);
-    io::write_all(STDOUT_FILENO, b"tray ");
-    say(line, n);
-    io::write_all(STDOUT_FILENO, b"\n\n");
+    print!(rt; "tray ")?;
+    say(rt, line, n)?;
+    print!(rt; "\n\n")
 }
 
 // One job: its listing, then its tray.
-fn replay(job: &[u8], rate: Rate, work: &mut [u32], tray: &mut [u8], text: &mut [u8]) {
+fn replay<R: Print>(
+    rt: &R,
+    job: &[u8],
+    rate: Rate,
+    work: &mut [u32],
+    tray: &mut [u8],
+    text: &mut [u8],
+) -> io::Result<()> {
     let r = list_job(job, rate, work, tray, text);
     match r {
-        Listed::Bytes(m) => say(text, m),
+        Listed::Bytes(m) => say(rt, text, m)?,
         Listed::NoRoom => {}
     }
-    say_tray(tray, text);
+    say_tray(rt, tray, text)
 }
 
 // The job at a place, at a rate, and the place after it.
-fn replay_at(
+fn replay_at<R: Print>(
+    rt: &R,
     s: &[u8],
     at: usize,
     rate: Rate,
@@ -227,10 +236,10 @@ fn replay_at(
     work: &mut [u32],
     tray: &mut [u8],
     text: &mut [u8],
-) -> usize {
+) -> io::Result<usize> {
     let n = decode(s, at, job);
-    replay(first(job, n), rate, work, tray, text);
-    further(end_of(s, at, b'\n'), 1)
+    replay(rt, first(job, n), rate, work, tray, text)?;
+    Ok(further(end_of(s, at, b'\n'), 1))
 }
 
 // The rate that a line `at "ARGUMENT"` says, which stands at a place and ends at another.
@@ -240,45 +249,63 @@ fn rate_at(s: &[u8], at: usize, end: usize) -> Rate {
 }
 
 // The case at a place, and the place after it.
-fn one(
+fn one<R: Print>(
+    rt: &R,
     s: &[u8],
     at: usize,
     job: &mut [u8],
     work: &mut [u32],
     tray: &mut [u8],
     text: &mut [u8],
-) -> usize {
+) -> io::Result<usize> {
     let end = end_of(s, at, b'\n');
-    say_line(s, at, end);
+    say_line(rt, s, at, end)?;
     let second = further(end, 1);
     if byte(s, second) == b'a' {
         let stop = end_of(s, second, b'\n');
-        say_line(s, second, stop);
+        say_line(rt, s, second, stop)?;
         let rate = rate_at(s, second, stop);
-        return replay_at(s, further(stop, 5), rate, job, work, tray, text);
+        return replay_at(rt, s, further(stop, 5), rate, job, work, tray, text);
     }
-    replay_at(s, further(second, 4), Rate::NoRate, job, work, tray, text)
+    replay_at(
+        rt,
+        s,
+        further(second, 4),
+        Rate::NoRate,
+        job,
+        work,
+        tray,
+        text,
+    )
 }
 
 // Every case.
-fn run(s: &[u8], job: &mut [u8], work: &mut [u32], tray: &mut [u8], text: &mut [u8]) {
+fn run<R: Print>(
+    rt: &R,
+    s: &[u8],
+    job: &mut [u8],
+    work: &mut [u32],
+    tray: &mut [u8],
+    text: &mut [u8],
+) -> io::Result<()> {
     let mut at: usize = 0;
     let mut left: u32 = 1000;
     while left > 0 {
         if byte(s, at) == 0 {
-            return;
+            return Ok(());
         }
-        at = one(s, at, job, work, tray, text);
+        at = one(rt, s, at, job, work, tray, text)?;
         left -= 1;
     }
+    Ok(())
 }
 
-fn main() {
+fn main(rt: HostRuntime) -> io::Result<()> {
     let mut input = [0u8; 400000];
     let mut job = [0u8; DECIDES];
     let mut work = [0u32; LENGTH];
     let mut tray = [0u8; TRAY];
     let mut text = [0u8; TEXT];
-    let n = io::read_full(STDIN_FILENO, &mut input);
-    run(&input[..n], &mut job, &mut work, &mut tray, &mut text);
+    let n = fill(&mut rt.stdin(), &mut input)?;
+    run(&rt, &input[..n], &mut job, &mut work, &mut tray, &mut text)
 }

@@ -3,14 +3,15 @@
 // lists, and what the crate's file `stdout` has, come from `tests/segment_rows_cases`: the Rust's own comparison and sort.
 #![tactic(auto)]
 
-ghost use Rattle.std.specs.Prelude.{◌≡◌, ◌+◌, ◌*◌, ◌≤◌, ◌<◌, ◌^◌, length};
+ghost use Rattle.std.specs.Prelude.{◌≡◌, ◌+◌, ◌*◌, ◌≤◌, ◌<◌, ◌^◌, length, IfOk};
 ghost use Rattle.job.specs.Limits as limit;
 ghost use Rattle.sorting.specs.Columns.{Even};
 
 use job::Job;
-use libc::{STDIN_FILENO, STDOUT_FILENO};
 use segment_rows::sort_rows;
 use sorting::{HorzSegment, LAST, load, save};
+use std::io;
+use streams::fill;
 
 fn wide(x: u8) -> usize
     ensures { result < 2 ^ 8 }
@@ -98,48 +99,60 @@ fn digit(n: usize) -> u8 {
 }
 
 // A key, after a space.
-fn say_key(k: usize) {
+fn say_key<R: Print>(rt: &R, k: usize) -> io::Result<()> {
     if k == LAST {
-        io::write_all(STDOUT_FILENO, b" ---");
-        return;
+        return rt.write_all(b" ---");
     }
     let mut word = *b"    ";
     word[1] = digit(k / 100);
     word[2] = digit(k / 10);
     word[3] = digit(k);
-    io::write_all(STDOUT_FILENO, &word);
+    rt.write_all(&word)
 }
 
 // A number, after a comma.
-fn say(n: usize) {
+fn say<R: Print>(rt: &R, n: usize) -> io::Result<()> {
     let mut word = *b",   ";
     word[1] = digit(n / 100);
     word[2] = digit(n / 10);
     word[3] = digit(n);
-    io::write_all(STDOUT_FILENO, &word);
+    rt.write_all(&word)
 }
 
-fn say_segment(key: usize, left: usize, right: usize, forward: usize) {
-    say_key(key);
-    say(left);
-    say(right);
-    say(forward);
+fn say_segment<R: Print>(
+    rt: &R,
+    key: usize,
+    left: usize,
+    right: usize,
+    forward: usize,
+) -> io::Result<()> {
+    say_key(rt, key)?;
+    say(rt, left)?;
+    say(rt, right)?;
+    say(rt, forward)
 }
 
 // The first n, and the end of the line.
-fn say_records(list: [HorzSegment; Job::SEGMENTS], n: usize)
+fn say_records<R: Print>(rt: &R, list: [HorzSegment; Job::SEGMENTS], n: usize) -> io::Result<()>
     requires { n ≤ limit.SEGMENTS }
 {
     let mut k: usize = 0;
     while k < n {
         let t = list[k];
-        say_segment(t.key, t.left, t.right, t.forward);
+        say_segment(rt, t.key, t.left, t.right, t.forward)?;
         k += 1;
     }
-    io::write_all(STDOUT_FILENO, b"\n");
+    println!(rt)
 }
 
-fn say_slices(keys: &[usize], lefts: &[usize], rights: &[usize], forwards: &[usize], n: usize)
+fn say_slices<R: Print>(
+    rt: &R,
+    keys: &[usize],
+    lefts: &[usize],
+    rights: &[usize],
+    forwards: &[usize],
+    n: usize,
+) -> io::Result<()>
     requires { (n ≤ length keys.now) × Even keys.now lefts.now rights.now forwards.now }
 {
     let mut k: usize = 0;
@@ -148,22 +161,22 @@ fn say_slices(keys: &[usize], lefts: &[usize], rights: &[usize], forwards: &[usi
         let l = load(lefts, k);
         let r = load(rights, k);
         let f = load(forwards, k);
-        say_segment(v, l, r, f);
+        say_segment(rt, v, l, r, f)?;
         k += 1;
     }
-    io::write_all(STDOUT_FILENO, b"\n");
+    println!(rt)
 }
 
-fn by_records(s: &[u8], at: usize, n: usize)
+fn by_records<R: Print>(rt: &R, s: &[u8], at: usize, n: usize) -> io::Result<()>
     requires { (at + 4 * n ≤ length s.now) × (n ≤ limit.SEGMENTS) }
 {
     let list = records_at(s, at, n);
     let ordered = sort_rows(list);
-    io::write_all(STDOUT_FILENO, b"records");
-    say_records(ordered, n);
+    rt.write_all(b"records")?;
+    say_records(rt, ordered, n)
 }
 
-fn by_slices(s: &[u8], at: usize, n: usize)
+fn by_slices<R: Print>(rt: &R, s: &[u8], at: usize, n: usize) -> io::Result<()>
     requires { (at + 4 * n ≤ length s.now) × (n ≤ limit.SEGMENTS) }
 {
     let mut keys = [LAST; Job::SEGMENTS];
@@ -172,42 +185,43 @@ fn by_slices(s: &[u8], at: usize, n: usize)
     let mut forwards = [0; Job::SEGMENTS];
     put_segments(s, at, n, &mut keys, &mut lefts, &mut rights, &mut forwards);
     sorting::sort(&mut keys, &mut lefts, &mut rights, &mut forwards);
-    io::write_all(STDOUT_FILENO, b"slices ");
-    say_slices(&keys, &lefts, &rights, &forwards, n);
+    rt.write_all(b"slices ")?;
+    say_slices(rt, &keys, &lefts, &rights, &forwards, n)
 }
 
 // The list at a place: sorts it both ways, answers where the next one begins.
-fn one(s: &[u8], at: usize) -> usize
+fn one<R: Print>(rt: &R, s: &[u8], at: usize) -> io::Result<usize>
     requires { at + 1 < length s.now }
-    ensures { result ≤ length s.now }
+    ensures { IfOk result (λ next. next ≤ length s.now) }
 {
     let n = small(s, at) + small(s, at + 1);
     let end = at + 2 + 4 * n;
     if s.len() < end {
-        return s.len();
+        return Ok(s.len());
     }
     if Job::SEGMENTS < n {
-        return s.len();
+        return Ok(s.len());
     }
-    by_records(s, at + 2, n);
-    by_slices(s, at + 2, n);
-    end
+    by_records(rt, s, at + 2, n)?;
+    by_slices(rt, s, at + 2, n)?;
+    Ok(end)
 }
 
-fn run(s: &[u8]) {
+fn run<R: Print>(rt: &R, s: &[u8]) -> io::Result<()> {
     let mut at: usize = 0;
     let mut left: usize = 65536;
     while 0 < left {
         if s.len() <= at + 1 {
-            return;
+            return Ok(());
         }
-        at = one(s, at);
+        at = one(rt, s, at)?;
         left -= 1;
     }
+    Ok(())
 }
 
-fn main() {
+fn main(rt: HostRuntime) -> io::Result<()> {
     let mut input = [0u8; 65536];
-    let n = io::read_full(STDIN_FILENO, &mut input);
-    run(&input[..n]);
+    let n = fill(&mut rt.stdin(), &mut input)?;
+    run(&rt, &input[..n])
 }

@@ -7,45 +7,45 @@ ghost use Rattle.containment.specs.Needs.{AnswersWithin};
 
 use containment::{ANSWERS, contained, pair_count};
 use job::refusal::Refusal;
-use libc::{STDERR_FILENO, STDIN_FILENO, STDOUT_FILENO};
 use paths::{TRAY, Written};
 use prefix::DECIDES;
+use std::io;
+use std::process::ExitCode;
 use store::LENGTH;
+use streams::{fill, write_or_say};
 
 // The line of a refusal.
-fn refuse(x: Refusal) {
-    io::write_all(STDERR_FILENO, b"refused ");
-    io::print_decimal(STDERR_FILENO, x.number() as u64);
-    io::write_all(STDERR_FILENO, b"\n");
+fn refuse<R: Eprint>(rt: &R, x: Refusal) -> io::Result<ExitCode> {
+    let n = x.number();
+    eprintln!(rt; "refused {n}")?;
+    Ok(ExitCode::SUCCESS)
 }
 
 // Writes to standard output; says so where that does not take all of it.
-fn put(bytes: &[u8]) {
-    if !io::write_all(STDOUT_FILENO, bytes) {
-        io::write_all(STDERR_FILENO, b"shapes: cannot write to standard output\n");
-    }
+fn put<R: Print + Eprint>(rt: &R, bytes: &[u8]) -> io::Result<ExitCode> {
+    write_or_say(rt, "shapes", bytes)
 }
 
 // Writes the answers, or why there are none.
-fn say(r: Written, answers: &[u8])
+fn say<R: Print + Eprint>(rt: &R, r: Written, answers: &[u8]) -> io::Result<ExitCode>
     requires { AnswersWithin r (length answers.now) }
 {
     match r {
         Written::Paths { closed, open } => {
             let m = pair_count(closed);
-            put(&answers[..m]);
+            put(rt, &answers[..m])
         }
-        Written::Refused(x) => refuse(x),
+        Written::Refused(x) => refuse(rt, x),
     }
 }
 
 // Reads as many bytes as decide any job, into a tray and a slice of answers that suffice for any (`lies_in`, crate containment).
-fn main() {
+fn main(rt: HostRuntime) -> io::Result<ExitCode> {
     let mut job = [0u8; DECIDES];
     let mut work = [0u32; LENGTH];
     let mut tray = [0u8; TRAY];
     let mut answers = [0u8; ANSWERS];
-    let n = io::read_full(STDIN_FILENO, &mut job);
+    let n = fill(&mut rt.stdin(), &mut job)?;
     let r = contained(&job[..n], &mut work, &mut tray, &mut answers);
-    say(r, &answers);
+    say(&rt, r, &answers)
 }

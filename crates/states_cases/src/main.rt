@@ -4,24 +4,17 @@
 
 use audit::Reply;
 use finishing::{open, step};
-use libc::{STDIN_FILENO, STDOUT_FILENO};
 use opening::open::Opened;
 use states::{drop, go_back, keep};
+use std::io;
 use store::{BLOCK, Col, LENGTH, read};
+use streams::fill;
 
 // A line: the call's letter, the name or record, the answer, the counts.
-fn line(w: &[u32; LENGTH], call: &[u8], name: u8, answer: u32) {
+fn line<R: Print>(rt: &R, w: &[u32; LENGTH], call: &str, name: u8, answer: u32) -> io::Result<()> {
     let m = read(w, Col::Points, 0);
     let n = read(w, Col::Records, 0);
-    io::write_all(STDOUT_FILENO, call);
-    io::print_decimal(STDOUT_FILENO, name as u64);
-    io::write_all(STDOUT_FILENO, b" ");
-    io::print_decimal(STDOUT_FILENO, answer as u64);
-    io::write_all(STDOUT_FILENO, b" ");
-    io::print_decimal(STDOUT_FILENO, m as u64);
-    io::write_all(STDOUT_FILENO, b" ");
-    io::print_decimal(STDOUT_FILENO, n as u64);
-    io::write_all(STDOUT_FILENO, b"\n");
+    println!(rt; "{call} {name} {answer} {m} {n}")
 }
 
 fn number(a: Reply) -> u32 {
@@ -31,82 +24,83 @@ fn number(a: Reply) -> u32 {
     }
 }
 
-fn keeps(w: &mut [u32; LENGTH], name: u8) {
+fn keeps<R: Print>(rt: &R, w: &mut [u32; LENGTH], name: u8) -> io::Result<()> {
     let a = keep(w, name);
     let k = number(a);
-    line(w, b"keep ", name, k);
+    line(rt, w, "keep", name, k)
 }
 
-fn goes_back(w: &mut [u32; LENGTH], name: u8) {
+fn goes_back<R: Print>(rt: &R, w: &mut [u32; LENGTH], name: u8) -> io::Result<()> {
     let a = go_back(w, name);
     let k = number(a);
-    line(w, b"back ", name, k);
+    line(rt, w, "back", name, k)
 }
 
-fn drops(w: &mut [u32; LENGTH], name: u8) {
+fn drops<R: Print>(rt: &R, w: &mut [u32; LENGTH], name: u8) -> io::Result<()> {
     let a = drop(w, name);
     let k = number(a);
-    line(w, b"drop ", name, k);
+    line(rt, w, "drop", name, k)
 }
 
 // Steps on record 0.
-fn steps(w: &mut [u32; LENGTH], many: u8) {
+fn steps<R: Print>(rt: &R, w: &mut [u32; LENGTH], many: u8) -> io::Result<()> {
     let mut left = many;
     while 0 < left {
         let a = step(w, 0);
         let k = number(a);
-        line(w, b"step ", 0, k);
+        line(rt, w, "step", 0, k)?;
         left -= 1;
     }
+    Ok(())
 }
 
 // Four names and no fifth; a name kept again; steps, and back; a name dropped, and its place taken.
-fn names(w: &mut [u32; LENGTH]) {
-    goes_back(w, 7);
-    drops(w, 7);
-    keeps(w, 0);
-    steps(w, 4);
-    keeps(w, 255);
-    keeps(w, 2);
-    keeps(w, 3);
-    keeps(w, 4);
-    steps(w, 9);
-    keeps(w, 2);
+fn names<R: Print>(rt: &R, w: &mut [u32; LENGTH]) -> io::Result<()> {
+    goes_back(rt, w, 7)?;
+    drops(rt, w, 7)?;
+    keeps(rt, w, 0)?;
+    steps(rt, w, 4)?;
+    keeps(rt, w, 255)?;
+    keeps(rt, w, 2)?;
+    keeps(rt, w, 3)?;
+    keeps(rt, w, 4)?;
+    steps(rt, w, 9)?;
+    keeps(rt, w, 2)
 }
 
-fn returns(w: &mut [u32; LENGTH]) {
-    goes_back(w, 0);
-    steps(w, 13);
-    goes_back(w, 255);
-    drops(w, 3);
-    goes_back(w, 3);
-    keeps(w, 4);
-    goes_back(w, 2);
-    steps(w, 1);
+fn returns<R: Print>(rt: &R, w: &mut [u32; LENGTH]) -> io::Result<()> {
+    goes_back(rt, w, 0)?;
+    steps(rt, w, 13)?;
+    goes_back(rt, w, 255)?;
+    drops(rt, w, 3)?;
+    goes_back(rt, w, 3)?;
+    keeps(rt, w, 4)?;
+    goes_back(rt, w, 2)?;
+    steps(rt, w, 1)
 }
 
 // One name at two places; a word that says none.
-fn twice(w: &mut [u32; LENGTH]) {
+fn twice<R: Print>(rt: &R, w: &mut [u32; LENGTH]) -> io::Result<()> {
     w[BLOCK + 1] = w[BLOCK];
-    steps(w, 1);
-    keeps(w, 9);
+    steps(rt, w, 1)?;
+    keeps(rt, w, 9)?;
     w[BLOCK + 1] = 257;
-    goes_back(w, 0);
-    keeps(w, 9);
+    goes_back(rt, w, 0)?;
+    keeps(rt, w, 9)
 }
 
-fn run(job: &[u8], w: &mut [u32; LENGTH]) {
+fn run<R: Print>(rt: &R, job: &[u8], w: &mut [u32; LENGTH]) -> io::Result<()> {
     let o = open(job, w);
-    names(w);
-    returns(w);
-    twice(w);
+    names(rt, w)?;
+    returns(rt, w)?;
+    twice(rt, w)?;
     let again = open(job, w);
-    goes_back(w, 0);
+    goes_back(rt, w, 0)
 }
 
-fn main() {
-    let mut buf = io::large_buffer();
-    let n = io::read_full(STDIN_FILENO, &mut buf);
+fn main(rt: HostRuntime) -> io::Result<()> {
+    let mut buf = [0u8; 65536];
+    let n = fill(&mut rt.stdin(), &mut buf)?;
     let mut w = [7u32; LENGTH];
-    run(&buf[..n], &mut w);
+    run(&rt, &buf[..n], &mut w)
 }

@@ -15,12 +15,13 @@ use audit::{Reply, Verdict};
 use finishing::{step, write_out};
 use handed::handed;
 use job::Job;
-use libc::{STDIN_FILENO, STDOUT_FILENO};
 use listing::{Listed, TEXT};
 use opening::open::{Opened, open};
 use paths::{TRAY, Written};
+use std::io;
 use steps::step::is_live;
 use store::{Col, LENGTH, read};
+use streams::fill;
 use test_text::{first, from, further, number_at};
 use turns::Act;
 use turns::decide::decide;
@@ -51,28 +52,28 @@ fn act_of(w: &[u32], i: usize) -> Act {
 }
 
 // A step on a record number, and its line; answers whether it was carried out.
-fn tell_step(w: &mut [u32; LENGTH], i: usize) -> bool {
+fn tell_step<R: Print>(rt: &R, w: &mut [u32; LENGTH], i: usize) -> io::Result<bool> {
     if 65536 <= i {
-        return false;
+        return Ok(false);
     }
     let d = due_of(w, i);
     let a = act_of(w, i);
     let s = step(w, i as u32);
-    print(i);
+    print(rt, i)?;
     match s {
         Reply::Done => {
             let e = due_of(w, i);
-            print_due(d);
-            print_act(a);
-            io::write_all(STDOUT_FILENO, b" due");
-            print_due(e);
-            io::write_all(STDOUT_FILENO, b"\n");
-            return true;
+            print_due(rt, d)?;
+            print_act(rt, a)?;
+            print!(rt; " due")?;
+            print_due(rt, e)?;
+            println!(rt)?;
+            Ok(true)
         }
         Reply::Refused(r) => {
-            io::write_all(STDOUT_FILENO, b" ");
-            print_refusal(r);
-            return false;
+            print!(rt; " ")?;
+            print_refusal(rt, r)?;
+            Ok(false)
         }
     }
 }
@@ -80,52 +81,54 @@ fn tell_step(w: &mut [u32; LENGTH], i: usize) -> bool {
 // ---- lists of steps
 
 // A step on record i, unless it is done; answers the record to look at next, one past all after a refusal.
-fn turn(w: &mut [u32; LENGTH], i: usize) -> usize {
+fn turn<R: Print>(rt: &R, w: &mut [u32; LENGTH], i: usize) -> io::Result<usize> {
     let d = due_of(w, i);
     let done = is_done(d);
     if done {
-        return further(i, 1);
+        return Ok(further(i, 1));
     }
-    let granted = tell_step(w, i);
+    let granted = tell_step(rt, w, i)?;
     if granted {
-        return i;
+        return Ok(i);
     }
-    Job::RECORDS
+    Ok(Job::RECORDS)
 }
 
 // Every ring to done, in rising record order.
-fn rising(w: &mut [u32; LENGTH]) {
+fn rising<R: Print>(rt: &R, w: &mut [u32; LENGTH]) -> io::Result<()> {
     let mut i: usize = 0;
     let mut left: u32 = 100000;
     while 0 < left {
         let n = read(w, Col::Records, 0);
         if n <= i {
-            return;
+            return Ok(());
         }
-        i = turn(w, i);
+        i = turn(rt, w, i)?;
         left -= 1;
     }
+    Ok(())
 }
 
 // The steps of a list of record numbers, two bytes each.
-fn listed(w: &mut [u32; LENGTH], steps: &[u8]) {
+fn listed<R: Print>(rt: &R, w: &mut [u32; LENGTH], steps: &[u8]) -> io::Result<()> {
     let mut at: usize = 0;
     let mut left: u32 = 100000;
     while 0 < left {
         if steps.len() <= at {
-            return;
+            return Ok(());
         }
         let i = number_at(steps, at);
-        tell_step(w, i);
+        tell_step(rt, w, i)?;
         at = further(at, 2);
         left -= 1;
     }
+    Ok(())
 }
 
 // ---- writing out
 
 // The listing of what writing out gives, in a lent slice; nothing after a refusal, which is printed.
-fn list(work: &[u32], tray: &mut [u8], out: &mut [u8]) -> usize
+fn list<R: Print>(rt: &R, work: &[u32], tray: &mut [u8], out: &mut [u8]) -> io::Result<usize>
     requires { BLOCK ≤ length work.now }
 {
     let r = write_out(work, tray);
@@ -133,51 +136,58 @@ fn list(work: &[u32], tray: &mut [u8], out: &mut [u8]) -> usize
         Written::Paths { closed, open } => {
             let rev = paths::reverse_solution(work);
             let Listed::Bytes(n) = listing::listing(tray, closed, open, rev, out) else {
-                return 0;
+                return Ok(0);
             };
-            return n;
+            Ok(n)
         }
         Written::Refused(x) => {
-            print_refusal(x);
-            return 0;
+            print_refusal(rt, x)?;
+            Ok(0)
         }
     }
 }
 
 // Writes the first n bytes.
-fn write(text: &[u8], n: usize) {
-    io::write_all(STDOUT_FILENO, first(text, n));
+fn write<R: Print>(rt: &R, text: &[u8], n: usize) -> io::Result<()> {
+    rt.write_all(first(text, n))
 }
 
-fn write_paths(work: &[u32; LENGTH]) {
+fn write_paths<R: Print>(rt: &R, work: &[u32; LENGTH]) -> io::Result<()> {
     let mut tray = [0u8; TRAY];
     let mut out = [0u8; TEXT];
-    let k = list(work, &mut tray, &mut out);
-    write(&out, k);
+    let k = list(rt, work, &mut tray, &mut out)?;
+    write(rt, &out, k)
 }
 
 // ---- cases
 
 // An opened job: some progress, steps, what is left, the paths.
-fn run_opened(w: &mut [u32; LENGTH], progress: &[u8], steps: &[u8]) {
+fn run_opened<R: Print>(
+    rt: &R,
+    w: &mut [u32; LENGTH],
+    progress: &[u8],
+    steps: &[u8],
+) -> io::Result<()> {
     set_all(w, progress);
     if steps.len() == 0 {
-        rising(w);
+        rising(rt, w)?;
     }
-    listed(w, steps);
-    print_store(w);
-    write_paths(w);
+    listed(rt, w, steps)?;
+    print_store(rt, w)?;
+    write_paths(rt, w)
 }
 
-fn run_case(w: &mut [u32; LENGTH], job: &[u8], progress: &[u8], steps: &[u8]) {
+fn run_case<R: Print>(
+    rt: &R,
+    w: &mut [u32; LENGTH],
+    job: &[u8],
+    progress: &[u8],
+    steps: &[u8],
+) -> io::Result<()> {
     let a = open(job, w);
     match a {
-        Opened::Accepted => {
-            run_opened(w, progress, steps);
-        }
-        Opened::Refused(r) => {
-            print_refusal(r);
-        }
+        Opened::Accepted => run_opened(rt, w, progress, steps),
+        Opened::Refused(r) => print_refusal(rt, r),
     }
 }
 
@@ -192,27 +202,26 @@ fn past(s: &[u8], at: usize) -> usize {
     further(further(at, 4), n)
 }
 
-fn run(s: &[u8], w: &mut [u32; LENGTH]) {
+fn run<R: Print>(rt: &R, s: &[u8], w: &mut [u32; LENGTH]) -> io::Result<()> {
     let mut at: usize = 0;
     let mut k: usize = 0;
     while k < 1000 {
         if s.len() <= at {
-            return;
+            return Ok(());
         }
         let b = past(s, at);
         let c = past(s, b);
-        io::write_all(STDOUT_FILENO, b"case ");
-        print(k);
-        io::write_all(STDOUT_FILENO, b"\n");
-        run_case(w, part(s, at), part(s, b), part(s, c));
+        println!(rt; "case {k}")?;
+        run_case(rt, w, part(s, at), part(s, b), part(s, c))?;
         at = past(s, c);
         k += 1;
     }
+    Ok(())
 }
 
-fn main() {
+fn main(rt: HostRuntime) -> io::Result<()> {
     let mut input = [0u8; 262144];
     let mut w = [0u32; LENGTH];
-    let n = io::read_full(STDIN_FILENO, &mut input);
-    run(&input[..n], &mut w);
+    let n = fill(&mut rt.stdin(), &mut input)?;
+    run(&rt, &input[..n], &mut w)
 }

@@ -5,33 +5,32 @@ ghost use Rattle.store.specs.Field.{BLOCK};
 use crate::progress::due_of;
 use geometry::Point;
 use job::refusal::Refusal;
-use libc::STDOUT_FILENO;
+use std::io;
 use store::{Col, read};
 use test_text::first;
 use test_text::ring::{TEXT, put_ring};
 use turns::{Act, Due};
 
-fn say(text: &[u8]) {
-    io::write_all(STDOUT_FILENO, text);
+fn say<R: Print>(rt: &R, text: &[u8]) -> io::Result<()> {
+    rt.write_all(text)
 }
 
-pub(crate) fn print(n: usize) {
-    io::print_decimal(STDOUT_FILENO, n as u64);
+pub(crate) fn print<R: Print>(rt: &R, n: usize) -> io::Result<()> {
+    rt.print(n)
 }
 
-pub(crate) fn print_refusal(r: Refusal) {
-    say(b"refused ");
-    io::print_decimal(STDOUT_FILENO, r.number() as u64);
-    say(b"\n");
+pub(crate) fn print_refusal<R: Print>(rt: &R, r: Refusal) -> io::Result<()> {
+    let n = r.number();
+    println!(rt; "refused {n}")
 }
 
-pub(crate) fn print_due(d: Due) {
+pub(crate) fn print_due<R: Print>(rt: &R, d: Due) -> io::Result<()> {
     match d {
-        Due::Validity => say(b" validity"),
-        Due::Removal => say(b" removal"),
-        Due::Triangle => say(b" triangle"),
-        Due::Split => say(b" split"),
-        Due::Done => say(b" done"),
+        Due::Validity => say(rt, b" validity"),
+        Due::Removal => say(rt, b" removal"),
+        Due::Triangle => say(rt, b" triangle"),
+        Due::Split => say(rt, b" split"),
+        Due::Done => say(rt, b" done"),
     }
 }
 
@@ -47,14 +46,12 @@ fn size(a: i64) -> usize {
     a as usize
 }
 
-fn print_signed(x: i32) {
+fn print_signed<R: Print>(rt: &R, x: i32) -> io::Result<()> {
     let n = size(long(x));
     if x < 0 {
-        say(b"-");
-        print(n);
-        return;
+        say(rt, b"-")?;
     }
-    print(n);
+    print(rt, n)
 }
 
 fn below(z: u32) -> u64 {
@@ -62,96 +59,89 @@ fn below(z: u32) -> u64 {
 }
 
 // The signed number that a depth's word is.
-fn print_depth(z: u32) {
+fn print_depth<R: Print>(rt: &R, z: u32) -> io::Result<()> {
     if z < 2147483648 {
-        io::print_decimal(STDOUT_FILENO, z as u64);
-        return;
+        return rt.print(z);
     }
     let n = below(z);
-    say(b"-");
-    io::print_decimal(STDOUT_FILENO, n);
+    print!(rt; "-{n}")
 }
 
-fn print_cut(v: Point, put: bool, off: bool) {
-    say(b" cut ");
-    print_signed(v.x);
-    say(b",");
-    print_signed(v.y);
-    say(b",");
-    print_depth(v.z);
+fn print_cut<R: Print>(rt: &R, v: Point, put: bool, off: bool) -> io::Result<()> {
+    say(rt, b" cut ")?;
+    print_signed(rt, v.x)?;
+    say(rt, b",")?;
+    print_signed(rt, v.y)?;
+    say(rt, b",")?;
+    print_depth(rt, v.z)?;
     if put {
-        say(b" point");
+        say(rt, b" point")?;
     } else {
-        say(b" spliced");
+        say(rt, b" spliced")?;
     }
     if off {
-        say(b" offcut");
+        say(rt, b" offcut")
     } else {
-        say(b" nothing");
+        say(rt, b" nothing")
     }
 }
 
 // To the first point: a test finds nothing against the ring, or the triangle test ends it.
-fn print_to_first(d: Due) {
+fn print_to_first<R: Print>(rt: &R, d: Due) -> io::Result<()> {
     match d {
-        Due::Done => say(b" settle"),
-        _ => say(b" begin"),
+        Due::Done => say(rt, b" settle"),
+        _ => say(rt, b" begin"),
     }
 }
 
-pub(crate) fn print_act(a: Act) {
+pub(crate) fn print_act<R: Print>(rt: &R, a: Act) -> io::Result<()> {
     match a {
-        Act::Stay => say(b" stay"),
-        Act::Discard(_) => say(b" discard"),
-        Act::Drop => say(b" drop"),
-        Act::MoveOn(_) => say(b" move"),
-        Act::ToFirst(d) => print_to_first(d),
-        Act::Double(_, _) => say(b" double"),
-        Act::Cut(v, put, off, _) => print_cut(v, put, off),
+        Act::Stay => say(rt, b" stay"),
+        Act::Discard(_) => say(rt, b" discard"),
+        Act::Drop => say(rt, b" drop"),
+        Act::MoveOn(_) => say(rt, b" move"),
+        Act::ToFirst(d) => print_to_first(rt, d),
+        Act::Double(_, _) => say(rt, b" double"),
+        Act::Cut(v, put, off, _) => print_cut(rt, v, put, off),
     }
 }
 
 // The ring from a record's first point on, by value.
-fn print_ring(w: &[u32], a: usize)
+fn print_ring<R: Print>(rt: &R, w: &[u32], a: usize) -> io::Result<()>
     requires { BLOCK ≤ length w.now }
 {
     let mut text = [0u8; TEXT];
     let n = put_ring(w, false, a, &mut text, 0);
-    say(first(&text, n));
+    say(rt, first(&text, n))
 }
 
-fn print_record(w: &[u32], i: usize)
+fn print_record<R: Print>(rt: &R, w: &[u32], i: usize) -> io::Result<()>
     requires { BLOCK ≤ length w.now }
 {
-    say(b"record ");
-    print(i);
-    say(b" due");
+    print!(rt; "record {i} due")?;
     let d = due_of(w, i);
-    print_due(d);
+    print_due(rt, d)?;
     let a = read(w, Col::First, i);
-    print_ring(w, a);
+    print_ring(rt, w, a)
 }
 
-fn print_records(w: &[u32], n: usize)
+fn print_records<R: Print>(rt: &R, w: &[u32], n: usize) -> io::Result<()>
     requires { BLOCK ≤ length w.now }
 {
     let mut i: usize = 0;
     while i < n {
-        print_record(w, i);
+        print_record(rt, w, i)?;
         i += 1;
     }
+    Ok(())
 }
 
 // Both counts and each record's ring.
-pub(crate) fn print_store(w: &[u32])
+pub(crate) fn print_store<R: Print>(rt: &R, w: &[u32]) -> io::Result<()>
     requires { BLOCK ≤ length w.now }
 {
-    say(b"points ");
     let p = read(w, Col::Points, 0);
-    print(p);
-    say(b" records ");
     let n = read(w, Col::Records, 0);
-    print(n);
-    say(b"\n");
-    print_records(w, n);
+    println!(rt; "points {p} records {n}")?;
+    print_records(rt, w, n)
 }

@@ -1,7 +1,7 @@
 -- Past the end: a byte is 0, a number is 0, nothing is left to read, nothing is stored.
 use mathlib.Core.Path.{◌≡◌, sym, ◌∙◌}
 use mathlib.Core.List.{List}
-use Prim.Native.Nat.{ℕ, suc, ◌+◌, ◌<◌, ◌≤◌}
+use Prim.Native.Nat.{ℕ, ◌+◌, ◌<◌, ◌≤◌}
 use native.Mathlib.Omega.{arith}
 use lib.ListN.{length, get_or, take, drop, set, drop_of_length-le, get_or-eq_default}
 use lib.Seq.{take_all, drop-length, set_out}
