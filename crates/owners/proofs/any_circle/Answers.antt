@@ -1,16 +1,7 @@
 -- `owners::any_circle` meets its contract: the first chain that circles ends the loop.
-use mathlib.Core.Path.{◌≡◌}
-use mathlib.Core.Bool.{false}
-use Prim.Native.Nat.{◌-◌, ◌≤◌}
-use lib.ListN.{length}
 use borrow.Author.Rules.{rules}
-use Rattle.job.specs.Limits.{RECORDS}
-use Rattle.store.specs.Named.{records_of}
-use Rattle.audit.specs.Tests.{any_below}
-use Rattle.audit.proofs.Testing.{none, whole}
-use Rattle.owners.specs.Owners.{circles}
-use Rattle.owners.specs.Tables.{Lengths}
-use Rattle.owners.proofs.Following.{none_known, circle_hit, circle_more, followed_long}
+use Rattle.audit.proofs.Testing.{none}
+use Rattle.owners.proofs.Following.{none_known, circle_hit, circle_more}
 use Rattle.owners.proofs.any_circle.Goals as goal
 
 pub loop-i-init : goal.loop-i-init

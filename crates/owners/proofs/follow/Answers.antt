@@ -1,8 +1,6 @@
 -- `owners::follow` meets its contract: after `h` owners the walk is at `q`.
-use Prim.Native.Nat.{◌-◌}
 use borrow.Author.Rules.{rules}
-use Rattle.job.specs.Limits.{RECORDS}
-use Rattle.owners.proofs.Following.{Passing, begun, met, few_met, ended, passed, unended}
+use Rattle.owners.proofs.Following.{ended, passed, unended}
 use Rattle.owners.proofs.follow.Goals as goal
 
 pub returns-then-q-eq-NONE : goal.returns-then-q-eq-NONE

@@ -1,8 +1,7 @@
 -- `owners::follow` meets its contract: after `h` owners the walk is at `q`.
 use Prim.Native.Nat.{◌-◌}
-use borrow.Author.Rules.{rules}
 use Rattle.job.specs.Limits.{RECORDS}
-use Rattle.owners.proofs.Following.{Passing, begun, met, few_met, ended, passed, unended}
+use Rattle.owners.proofs.Following.{Passing}
 use Rattle.owners.proofs.follow.Given as goal
 
 abbrev pub invariant-loop-h : goal.invariant-loop-h

@@ -1,9 +1,6 @@
 -- `owners::note` meets its contract: the chain from `q` has `d` owners to go.
-use mathlib.Core.Path.{◌≡◌, refl}
-use lib.ListN.{length}
 use borrow.Author.Rules.{rules}
-use Rattle.owners.specs.Tables.{Lengths}
-use Rattle.owners.proofs.Following.{Noting, noting, noted, noting_on}
+use Rattle.owners.proofs.Following.{noted, noting_on}
 use Rattle.owners.proofs.note.Goals as goal
 
 pub loop-d-preserved : goal.loop-d-preserved

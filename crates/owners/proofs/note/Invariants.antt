@@ -1,9 +1,8 @@
 -- `owners::note` meets its contract: the chain from `q` has `d` owners to go.
-use mathlib.Core.Path.{◌≡◌, refl}
+use mathlib.Core.Path.{◌≡◌}
 use lib.ListN.{length}
-use borrow.Author.Rules.{rules}
 use Rattle.owners.specs.Tables.{Lengths}
-use Rattle.owners.proofs.Following.{Noting, noting, noted, noting_on}
+use Rattle.owners.proofs.Following.{Noting}
 use Rattle.owners.proofs.note.Given as goal
 
 abbrev pub invariant-loop-d : goal.invariant-loop-d
