@@ -1,7 +1,6 @@
 -- `visits::any_stray` meets its contract: the loop goes from word to word, and what has no mark then is on no ring.
 use borrow.Author.Rules.{rules}
-use Rattle.visits.specs.Marks.{Standing, to_go}
-use Rattle.visits.proofs.Rounds.{stands_first, stray_met, stray_on, stray_less, stray_over}
+use Rattle.visits.proofs.Rounds.{stands_first, stray_over}
 use Rattle.visits.proofs.any_stray.Goals as goal
 
 pub loop-c-init : goal.loop-c-init

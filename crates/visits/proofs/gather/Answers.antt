@@ -1,8 +1,6 @@
 -- `visits::gather` meets its contract: the loop goes from ring to ring as long as their points lie in one word.
-use Prim.Native.Nat.{◌-◌, ◌/◌}
 use borrow.Author.Rules.{rules}
-use Rattle.marks.specs.Marks.{BITS}
-use Rattle.visits.proofs.Rounds.{Gathering, gather_begun, gather_met, gather_on, gather_more, gather_over}
+use Rattle.visits.proofs.Rounds.{gather_begun, gather_met, gather_on, gather_more}
 use Rattle.visits.proofs.gather.Goals as goal
 
 pub loop-c-init : goal.loop-c-init

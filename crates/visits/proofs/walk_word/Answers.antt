@@ -1,10 +1,8 @@
 -- `visits::walk_word` meets its contract: the loop follows the ring as long as its points lie in one word.
-use mathlib.Core.Path.{◌≡◌, refl}
-use mathlib.Core.Logic.{◌⊎◌, inl, inr}
-use Prim.Native.Nat.{◌<◌, ◌≤◌}
+use mathlib.Core.Path.{refl}
+use mathlib.Core.Logic.{inl, inr}
 use borrow.Author.Rules.{rules}
-use Rattle.visits.specs.Marks.{Stretching}
-use Rattle.visits.proofs.Rounds.{stretch_begun, stretch_on, stretch_met, stretch_back, stretch_more, stretch_over}
+use Rattle.visits.proofs.Rounds.{stretch_begun, stretch_met, stretch_back, stretch_more, stretch_over}
 use Rattle.visits.proofs.walk_word.Goals as goal
 
 pub loop-n-init : goal.loop-n-init

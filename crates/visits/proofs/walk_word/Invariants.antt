@@ -1,10 +1,8 @@
 -- `visits::walk_word` meets its contract: the loop follows the ring as long as its points lie in one word.
-use mathlib.Core.Path.{◌≡◌, refl}
-use mathlib.Core.Logic.{◌⊎◌, inl, inr}
+use mathlib.Core.Path.{◌≡◌}
+use mathlib.Core.Logic.{◌⊎◌}
 use Prim.Native.Nat.{◌<◌, ◌≤◌}
-use borrow.Author.Rules.{rules}
 use Rattle.visits.specs.Marks.{Stretching}
-use Rattle.visits.proofs.Rounds.{stretch_begun, stretch_on, stretch_met, stretch_back, stretch_more, stretch_over}
 use Rattle.visits.proofs.walk_word.Given as goal
 
 abbrev pub invariant-loop-n : goal.invariant-loop-n

@@ -1,11 +1,7 @@
 -- `visits::resolving::find_all` meets its contract: no chain circles, so each record's home can be reached and written down.
-use mathlib.Core.Path.{◌≡◌, refl}
-use Prim.Native.Nat.{◌-◌, ◌≤◌}
-use lib.ListN.{length}
+use mathlib.Core.Path.{refl}
 use borrow.Author.Rules.{rules}
-use Rattle.store.specs.Named.{records_of}
-use Rattle.owners.specs.Tables.{Found}
-use Rattle.visits.proofs.Reaching.{none_found, no_circle, more_found, all_found}
+use Rattle.visits.proofs.Reaching.{none_found, no_circle}
 use Rattle.visits.proofs.resolving.find_all.Goals as goal
 
 pub loop-i-init : goal.loop-i-init

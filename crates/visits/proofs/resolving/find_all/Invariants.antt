@@ -1,11 +1,9 @@
 -- `visits::resolving::find_all` meets its contract: no chain circles, so each record's home can be reached and written down.
-use mathlib.Core.Path.{◌≡◌, refl}
+use mathlib.Core.Path.{◌≡◌}
 use Prim.Native.Nat.{◌-◌, ◌≤◌}
 use lib.ListN.{length}
-use borrow.Author.Rules.{rules}
 use Rattle.store.specs.Named.{records_of}
 use Rattle.owners.specs.Tables.{Found}
-use Rattle.visits.proofs.Reaching.{none_found, no_circle, more_found, all_found}
 use Rattle.visits.proofs.resolving.find_all.Given as goal
 
 abbrev pub invariant-loop-i : goal.invariant-loop-i

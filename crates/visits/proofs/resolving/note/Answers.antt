@@ -1,8 +1,6 @@
 -- `visits::resolving::note` meets its contract: every record on the way to the home has it too.
-use mathlib.Core.Path.{◌≡◌, refl}
-use lib.ListN.{length}
 use borrow.Author.Rules.{rules}
-use Rattle.visits.proofs.Reaching.{Along, along, known_along, put_along, on_along, spent_along}
+use Rattle.visits.proofs.Reaching.{on_along, spent_along}
 use Rattle.visits.proofs.resolving.note.Goals as goal
 
 pub loop-left-preserved : goal.loop-left-preserved

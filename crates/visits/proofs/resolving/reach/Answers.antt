@@ -1,7 +1,6 @@
 -- `visits::resolving::reach` meets its contract: `q` resolves to what `r` does, and fits 32 bits.
-use Prim.Native.Nat.{◌<◌, ◌^◌}
 use borrow.Author.Rules.{rules}
-use Rattle.visits.proofs.Reaching.{Toward, toward, known_home, own_home, no_home, toward_on, spent_home}
+use Rattle.visits.proofs.Reaching.{own_home, no_home, toward_on, spent_home}
 use Rattle.visits.proofs.resolving.reach.Goals as goal
 
 pub returns-then-f-ne-NONE : goal.returns-then-f-ne-NONE

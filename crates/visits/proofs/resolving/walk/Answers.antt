@@ -1,9 +1,5 @@
 -- `visits::resolving::walk` meets its contract: the walk follows `find_in`, with `left` records to go.
-use mathlib.Core.Path.{◌≡◌, refl}
 use borrow.Author.Rules.{rules}
-use Rattle.job.specs.Limits.{RECORDS}
-use Rattle.store.specs.Named.{first_of, owner_of}
-use Rattle.joins.specs.Resolve.{find_in}
 use Rattle.visits.proofs.Chains.{here, nowhere, hop, spent}
 use Rattle.visits.proofs.resolving.walk.Goals as goal
 
