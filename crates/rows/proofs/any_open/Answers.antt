@@ -1,13 +1,7 @@
 -- `rows::any_open` meets its contract: the first point on an open ring ends the loop.
-use mathlib.Core.Path.{◌≡◌}
-use mathlib.Core.Bool.{false}
-use Prim.Native.Nat.{◌-◌, ◌≤◌}
-use lib.ListN.{get_or}
 use borrow.Author.Rules.{rules}
-use Rattle.audit.specs.Tests.{any_below}
 use Rattle.audit.proofs.Testing.{none}
-use Rattle.rows.specs.Rows.{on_open}
-use Rattle.rows.proofs.Homes.{open_hit, open_more, open_over}
+use Rattle.rows.proofs.Homes.{open_hit, open_more}
 use Rattle.rows.proofs.any_open.Goals as goal
 
 pub loop-i-init : goal.loop-i-init

@@ -3,11 +3,8 @@ use mathlib.Core.Path.{◌≡◌}
 use mathlib.Core.Bool.{false}
 use Prim.Native.Nat.{◌-◌, ◌≤◌}
 use lib.ListN.{get_or}
-use borrow.Author.Rules.{rules}
 use Rattle.audit.specs.Tests.{any_below}
-use Rattle.audit.proofs.Testing.{none}
 use Rattle.rows.specs.Rows.{on_open}
-use Rattle.rows.proofs.Homes.{open_hit, open_more, open_over}
 use Rattle.rows.proofs.any_open.Given as goal
 
 abbrev pub invariant-loop-i : goal.invariant-loop-i

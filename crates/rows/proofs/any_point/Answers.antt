@@ -1,12 +1,6 @@
 -- `rows::any_point` meets its contract: the first point that fails ends the loop.
-use mathlib.Core.Path.{◌≡◌}
-use mathlib.Core.Bool.{false}
-use Prim.Native.Nat.{◌-◌, ◌≤◌}
 use borrow.Author.Rules.{rules}
-use Rattle.store.specs.Named.{points_of}
-use Rattle.audit.specs.Tests.{any_below}
-use Rattle.audit.specs.Marks.{fails}
-use Rattle.audit.proofs.Testing.{none, more, hit, whole}
+use Rattle.audit.proofs.Testing.{none, more, hit}
 use Rattle.rows.proofs.any_point.Goals as goal
 
 pub loop-k-init : goal.loop-k-init

@@ -2,11 +2,9 @@
 use mathlib.Core.Path.{◌≡◌}
 use mathlib.Core.Bool.{false}
 use Prim.Native.Nat.{◌-◌, ◌≤◌}
-use borrow.Author.Rules.{rules}
 use Rattle.store.specs.Named.{points_of}
 use Rattle.audit.specs.Tests.{any_below}
 use Rattle.audit.specs.Marks.{fails}
-use Rattle.audit.proofs.Testing.{none, more, hit, whole}
 use Rattle.rows.proofs.any_point.Given as goal
 
 abbrev pub invariant-loop-k : goal.invariant-loop-k

@@ -1,14 +1,7 @@
 -- `rows::any_unnamed` meets its contract: the first number that names no point ends the loop.
-use mathlib.Core.Path.{◌≡◌, refl}
-use mathlib.Core.Bool.{true, false}
-use mathlib.Core.List.{List}
-use Prim.Native.Nat.{ℕ, ◌+◌, ◌-◌, ◌<◌, ◌≤◌}
-use lib.Dec.{leb}
-use lib.ListN.{get_or}
-use borrow.Author.Rules.{rules}
-use borrow.Author.Tests.{le-leb, lt-leb}
-use Rattle.store.specs.Named.{points_of}
-use Rattle.audit.proofs.Testing.{none, more, hit, whole}
+use mathlib.Core.Path.{◌≡◌}
+use mathlib.Core.Bool.{false}
+use Prim.Native.Nat.{◌-◌, ◌≤◌}
 use Rattle.rows.specs.Rows.{unnamed}
 use Rattle.rows.proofs.any_unnamed.Given as goal
 

@@ -1,12 +1,6 @@
 -- `rows::points::any_faulty` meets its contract: the first faulty point ends the loop.
-use mathlib.Core.Path.{◌≡◌}
-use mathlib.Core.Bool.{false}
-use Prim.Native.Nat.{◌-◌, ◌≤◌}
 use borrow.Author.Rules.{rules}
-use Rattle.store.specs.Named.{points_of}
-use Rattle.audit.specs.Tests.{any_below}
-use Rattle.audit.proofs.Testing.{none, more, hit, whole}
-use Rattle.rows.specs.Found.{faulty_point}
+use Rattle.audit.proofs.Testing.{none, more, hit}
 use Rattle.rows.proofs.points.any_faulty.Goals as goal
 
 pub loop-k-init : goal.loop-k-init
