@@ -1,0 +1,16 @@
+-- `polygons::walk` meets its contract.
+use borrow.Author.Rules.{rules}
+use Rattle.listing.specs.Fields.{point_in, points_in}
+use Rattle.polygons.specs.Polygon as polygon
+use Rattle.polygons.specs.Needs.{Walking}
+use Rattle.polygons.proofs.Going.{walking_begins, walking_head, walking_met, walking_on, walking_ends}
+use Rattle.polygons.proofs.walk.Goals as goal
+
+pub returns-then-tour : goal.returns-then-tour
+returns-then-tour c = search (rules, walking_met)
+
+pub loop-left-preserved : goal.loop-left-preserved
+loop-left-preserved c = search (rules, walking_on)
+
+pub returns : goal.returns
+returns c = search (rules, walking_ends)

@@ -1,0 +1,13 @@
+-- `finish_record` meets its contract: each turn is steps that only move on, and then one more; they lower the measure.
+use borrow.Author.Rules.{rules}
+use Rattle.store.specs.Words.{view}
+use Rattle.acts.specs.Finishable.{words_left}
+use Rattle.turns.specs.Form.{raised, geometry_of}
+use Rattle.steps.proofs.Looping.{Running, begun, sound_words, next_on, fallen_on, stop_on}
+use Rattle.steps.proofs.finish.finish_record.Given as goal
+
+abbrev pub invariant-loop-a : goal.invariant-loop-a
+invariant-loop-a l = Running l.initial.w l.i l.w
+
+abbrev pub decreases-loop-a : goal.decreases-loop-a
+decreases-loop-a l = words_left (geometry_of (view l.initial.w)) raised l.w l.i

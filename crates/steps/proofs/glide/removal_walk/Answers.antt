@@ -1,0 +1,23 @@
+-- `removal_walk` meets its contract: each turn is a step that moves on.
+use borrow.Author.Rules.{rules}
+use Rattle.rings.specs.Progress.{removal}
+use Rattle.steps.proofs.Gliding.{GlidingAt, due_going, begun, x_on, about, removal_stops, removal_drops, removal_ends, removal_on}
+use Rattle.steps.proofs.glide.removal_walk.Goals as goal
+
+pub present_of-x-requires : goal.present_of-x-requires
+present_of-x-requires c = search (due_going, rules)
+
+pub loop-left-init : goal.loop-left-init
+loop-left-init c = search begun
+
+pub returns-then-gone : goal.returns-then-gone
+returns-then-gone c = search removal_drops
+
+pub returns-then-n-s : goal.returns-then-n-s
+returns-then-n-s c = search removal_ends
+
+pub loop-left-preserved : goal.loop-left-preserved
+loop-left-preserved c = search removal_on
+
+pub returns : goal.returns
+returns c = search removal_stops
