@@ -1,5 +1,4 @@
 -- `accepting::accept` meets its contract: read, then judged.
-use borrow.Author.Rules.{rules}
 use Rattle.accepting.proofs.Accepting.{may_judge, was_judged, was_refused}
 use Rattle.accepting.proofs.accept.Goals as goal
 
