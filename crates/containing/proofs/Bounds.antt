@@ -1,6 +1,6 @@
 -- The box of a path encloses each of its points.
 use Prim.Native.Nat.{ℕ, ◌+◌, ◌≤◌, ◌<◌}
-use mathlib.Core.Path.{◌≡◌, refl}
+use mathlib.Core.Path.{◌≡◌, refl, sym, subst}
 use mathlib.Core.Bool.{Bool, true, false, cond}
 use mathlib.Core.List.{List, [], ◌∷◌}
 use mathlib.Core.Option.{some}
@@ -73,4 +73,4 @@ bounds_enclose [] b e = tt
 bounds_enclose (p ∷ ps) b e =
     let z : b ≡ widen_all (around p) ps = cc in
     let h : Encloses (around p) p = record { left = not_less p.x; top = not_less p.y; right = not_less p.x; bottom = not_less p.y } in
-    rw z (all_keeps (around p) ps p h, all_holds (around p) ps)
+    subst (λ (y : Rect). AllEnclosed y (p ∷ ps)) (sym z) (all_keeps (around p) ps p h, all_holds (around p) ps)
