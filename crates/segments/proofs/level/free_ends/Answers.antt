@@ -1,5 +1,4 @@
 -- `segments::level::free_ends` meets its contract.
-use borrow.Author.Rules.{rules}
 use Rattle.segments.specs.Update.{free_ends}
 use Rattle.segments.proofs.Running.{stop_on}
 use Rattle.segments.proofs.level.free_ends.Goals as goal

@@ -1,7 +1,7 @@
 -- `segments::level::move_pair` meets its contract.
 use borrow.Author.Rules.{rules}
 use Rattle.segments.specs.Pair.{one_of, two_of}
-use Rattle.segments.proofs.Moving.{meeting_low, pair_one, pair_low, pair_two}
+use Rattle.segments.proofs.Moving.{pair_low, pair_two}
 use Rattle.segments.proofs.level.move_pair.Goals as goal
 
 pub get-far-requires : goal.get-far-requires

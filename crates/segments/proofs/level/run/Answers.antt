@@ -1,7 +1,5 @@
 -- `segments::level::run` meets its contract.
-use Rattle.job.specs.Limits as limit
-use Rattle.segments.specs.Level.{along_of, halts_at, run_of}
-use Rattle.segments.proofs.Running.{moves, Going, point, end, next, falls, run_begun}
+use Rattle.segments.proofs.Running.{end, next, falls, run_begun}
 use Rattle.segments.proofs.level.run.Goals as goal
 
 pub loop-h-init : goal.loop-h-init

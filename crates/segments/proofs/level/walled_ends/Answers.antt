@@ -1,7 +1,7 @@
 -- `segments::level::walled_ends` meets its contract.
 use borrow.Author.Rules.{rules}
 use Rattle.segments.specs.Update.{walled_ends}
-use Rattle.segments.proofs.Running.{home_low, first_point, wall_on, wall_back}
+use Rattle.segments.proofs.Running.{first_point, wall_on, wall_back}
 use Rattle.segments.proofs.level.walled_ends.Goals as goal
 
 pub get-z-requires : goal.get-z-requires

@@ -1,5 +1,4 @@
 -- `segments::update::claim` meets its contract.
-use borrow.Author.Rules.{rules}
 use mathlib.Core.Path.{refl}
 use Rattle.segments.proofs.Updates.{claim_none, claim_new, claim_old}
 use Rattle.segments.proofs.update.claim.Goals as goal

@@ -1,7 +1,5 @@
 -- `segments::update::ends` meets its contract.
-use borrow.Author.Rules.{rules}
-use Rattle.segments.proofs.Updates.{home_point, home_self, ends_walled, ends_free}
-use Rattle.segments.proofs.Running.{home_low}
+use Rattle.segments.proofs.Updates.{ends_walled, ends_free}
 use Rattle.segments.proofs.update.ends.Goals as goal
 
 pub returns-then-front : goal.returns-then-front

@@ -1,5 +1,4 @@
 -- `segments::update::set_horz_seg_heading_forward` meets its contract.
-use borrow.Author.Rules.{rules}
 use Rattle.segments.proofs.Updates.{headed_none, headed_on, headed_back}
 use Rattle.segments.proofs.update.set_horz_seg_heading_forward.Goals as goal
 

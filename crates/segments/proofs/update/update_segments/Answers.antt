@@ -1,9 +1,6 @@
 -- `segments::update::update_segments` meets its contract: the loop follows the definition.
-use borrow.Author.Rules.{rules}
-use Prim.Native.Nat.{◌-◌}
 use mathlib.Core.Path.{refl}
-use Rattle.segments.specs.Update.{segments_of}
-use Rattle.segments.proofs.Updates.{Updating, updating_begun, updating_fits, updating_few, updating_point, updating_next, updating_done, through_low}
+use Rattle.segments.proofs.Updates.{updating_begun, updating_point, updating_next, updating_done, through_low}
 use Rattle.segments.proofs.update.update_segments.Goals as goal
 
 pub loop-i-init : goal.loop-i-init
