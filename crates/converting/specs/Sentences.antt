@@ -1,5 +1,5 @@
 -- What document 01 says of the sorted list of level segments: "valid ones first, by left x"; "Fewer than two valid: no joins made".
-use Rattle.std.specs.Prelude.{ℕ, suc, ◌≤◌, ◌<◌, ◌≡◌, ◌≢◌, cond, List, [], ◌∷◌, eqb, length, get_or}
+use Rattle.std.specs.Prelude.{ℕ, suc, ◌≤◌, ◌<◌, ◌≢◌, cond, List, [], ◌∷◌, eqb, length, get_or}
 use Rattle.store.specs.Field.{NONE}
 use Rattle.sorting.specs.declared.HorzSegment.{HorzSegment}
 use Rattle.segments.specs.Level.{x_of}

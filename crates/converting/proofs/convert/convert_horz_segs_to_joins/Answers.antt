@@ -1,5 +1,4 @@
 -- `converting::convert::convert_horz_segs_to_joins` meets its contract.
-use borrow.Author.Rules.{rules}
 use Rattle.converting.proofs.Converting.{sorted_pairing, converted}
 use Rattle.converting.proofs.Valid.{one_alone}
 use Rattle.converting.proofs.convert.convert_horz_segs_to_joins.Goals as goal

@@ -1,10 +1,6 @@
 -- `converting::pairs::inner` meets its contract: the loop follows the definition.
 use borrow.Author.Rules.{rules}
-use mathlib.Core.Path.{◌≡◌, refl}
-use Prim.Native.Nat.{◌+◌, ◌-◌}
-use lib.ListN.{length}
-use Rattle.converting.specs.Make.{inner_from}
-use Rattle.converting.proofs.Looping.{Inner, inner_begun, inner_row, inner_stop, inner_pair, inner_next, inner_full, inner_done}
+use Rattle.converting.proofs.Looping.{inner_stop, inner_next, inner_full, inner_done}
 use Rattle.converting.proofs.pairs.inner.Goals as goal
 
 pub returns-then-r-eq-NONE : goal.returns-then-r-eq-NONE

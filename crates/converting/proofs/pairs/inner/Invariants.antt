@@ -1,10 +1,9 @@
 -- `converting::pairs::inner` meets its contract: the loop follows the definition.
-use borrow.Author.Rules.{rules}
-use mathlib.Core.Path.{◌≡◌, refl}
+use mathlib.Core.Path.{◌≡◌}
 use Prim.Native.Nat.{◌+◌, ◌-◌}
 use lib.ListN.{length}
 use Rattle.converting.specs.Make.{inner_from}
-use Rattle.converting.proofs.Looping.{Inner, inner_begun, inner_row, inner_stop, inner_pair, inner_next, inner_full, inner_done}
+use Rattle.converting.proofs.Looping.{Inner}
 use Rattle.converting.proofs.pairs.inner.Given as goal
 
 abbrev pub invariant-loop-j : goal.invariant-loop-j

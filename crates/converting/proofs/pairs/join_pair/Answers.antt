@@ -1,6 +1,5 @@
 -- `converting::pairs::join_pair` meets its contract.
-use borrow.Author.Rules.{rules}
-use Rattle.converting.proofs.Looping.{moving_of, join_on, join_back, joined_on, joined_back}
+use Rattle.converting.proofs.Looping.{join_on, join_back, joined_on, joined_back}
 use Rattle.converting.proofs.pairs.join_pair.Goals as goal
 
 pub make_join-requires : goal.make_join-requires

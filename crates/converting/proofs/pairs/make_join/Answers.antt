@@ -1,5 +1,4 @@
 -- `converting::pairs::make_join` meets its contract.
-use borrow.Author.Rules.{rules}
 use Rattle.converting.proofs.Making.{making_beside, making_second, making_low, making_room, make_done, make_full}
 use Rattle.converting.proofs.pairs.make_join.Goals as goal
 

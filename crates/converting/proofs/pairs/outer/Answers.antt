@@ -1,10 +1,6 @@
 -- `converting::pairs::outer` meets its contract: the loop follows the definition.
 use borrow.Author.Rules.{rules}
-use mathlib.Core.Path.{◌≡◌, refl}
-use Prim.Native.Nat.{◌-◌}
-use lib.ListN.{length}
-use Rattle.converting.specs.Make.{outer_from}
-use Rattle.converting.proofs.Looping.{Outer, outer_begun, outer_row, outer_stop, outer_valid, outer_next, outer_full, outer_done}
+use Rattle.converting.proofs.Looping.{outer_stop, outer_next, outer_full, outer_done}
 use Rattle.converting.proofs.pairs.outer.Goals as goal
 
 pub returns-then-r-eq-NONE : goal.returns-then-r-eq-NONE

@@ -1,6 +1,4 @@
 -- `converting::pairs::pair` meets its contract.
-use borrow.Author.Rules.{rules}
-use Rattle.converting.proofs.Making.{pair_valid}
 use Rattle.converting.proofs.Looping.{joining_of, pair_apart, pair_joined, pair_over, pair_pairing}
 use Rattle.converting.proofs.pairs.pair.Goals as goal
 

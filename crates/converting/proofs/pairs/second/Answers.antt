@@ -2,7 +2,7 @@
 use borrow.Author.Rules.{rules}
 use native.Mathlib.Omega.{arith}
 use Rattle.converting.proofs.Doubling.{beside}
-use Rattle.converting.proofs.Making.{doubled_low, second_done, second_full}
+use Rattle.converting.proofs.Making.{doubled_low}
 use Rattle.converting.proofs.pairs.second.Goals as goal
 
 pub duplicate_op-d-requires : goal.duplicate_op-d-requires
