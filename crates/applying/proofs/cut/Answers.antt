@@ -1,6 +1,5 @@
 -- `cut` meets its contract.
-use borrow.Author.Rules.{rules}
-use Rattle.applying.proofs.Applying.{cut_fits, off_fits, with_off, without_off}
+use Rattle.applying.proofs.Applying.{off_fits}
 use Rattle.applying.proofs.cut.Goals as goal
 
 pub make_offcut-requires : goal.make_offcut-requires

@@ -8,7 +8,7 @@ dispose_out_pt-n-requires c = beside _ _ _ _ _ c.requires c.get-x.ensures.0 c.fi
 
 pub set_loop-requires : goal.set_loop-requires
 set_loop-requires c = let l = went_low _ _ _ _ _ c.requires c.get-x.ensures.0 c.fix_first.ensures _ _ c.dispose_out_pt-n.ensures in
-        (search rules, search rules, l)
+    (search rules, search rules, l)
 
 pub returns : goal.returns
 returns c = dropped _ _ _ _ _ c.requires c.get-x.ensures.0 c.fix_first.ensures _ _ c.dispose_out_pt-n.ensures _ c.get-p.ensures.0 c.set_loop.ensures

@@ -1,10 +1,7 @@
 -- `containing::get_bounds_path` meets its contract.
-use borrow.Author.Rules.{rules}
 use Rattle.listing.specs.Fields.{points_in}
-use Rattle.listing.proofs.Runs.{run_head}
 use Rattle.geometry.specs.Box.{box_of}
 use Rattle.containing.specs.Needs.{Widening}
-use Rattle.containing.proofs.Boxes.{widening_begins, widening_head, widening_on, widening_ends}
 use Rattle.containing.proofs.get_bounds_path.Given as goal
 
 abbrev pub invariant-loop-left : goal.invariant-loop-left

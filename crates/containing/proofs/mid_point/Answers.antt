@@ -1,5 +1,4 @@
 -- `containing::mid_point` meets its contract.
-use borrow.Author.Rules.{rules}
 use lib.IntN.{pos}
 use Rattle.containing.proofs.Boxes.{mid_is}
 use Rattle.containing.proofs.mid_point.Goals as goal

@@ -1,6 +1,6 @@
 -- `containing::middle_inside` meets its contract.
 use borrow.Author.Rules.{rules}
-use Rattle.containing.proofs.Deciding.{box_asked, middle_asked, middle_inside_lem}
+use Rattle.containing.proofs.Deciding.{box_asked, middle_asked}
 use Rattle.containing.proofs.middle_inside.Goals as goal
 
 pub mid_point-middle-requires : goal.mid_point-middle-requires

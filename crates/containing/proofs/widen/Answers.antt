@@ -1,19 +1,18 @@
 -- `containing::widen` meets its contract.
-use borrow.Author.Rules.{rules}
 use Rattle.containing.proofs.Boxes.{widen_is}
 use Rattle.containing.proofs.widen.Goals as goal
 
 pub returns : goal.returns
 returns c = widen_is c.args.b c.args.p _ _ _ _
-        (record {
-        left = record { sfits = c.struct_told-1.given.0.1 };
-        top = record { sfits = c.struct_told-1.given.1.0.1 };
-        right = record { sfits = c.struct_told-1.given.1.1.0.1 };
-        bottom = record { sfits = c.struct_told-1.given.1.1.1.0.1 };
-        x = record { sfits = c.struct_told-2-1.given.0.1 };
-        y = record { sfits = c.struct_told-2-1.given.1.0.1 };
-        })
-        c.lesser-left.ensures
-        c.lesser-top.ensures
-        c.greater-right.ensures
-        c.greater-bottom.ensures
+    (record {
+      left = record { sfits = c.struct_told-1.given.0.1 };
+      top = record { sfits = c.struct_told-1.given.1.0.1 };
+      right = record { sfits = c.struct_told-1.given.1.1.0.1 };
+      bottom = record { sfits = c.struct_told-1.given.1.1.1.0.1 };
+      x = record { sfits = c.struct_told-2-1.given.0.1 };
+      y = record { sfits = c.struct_told-2-1.given.1.0.1 };
+    })
+    c.lesser-left.ensures
+    c.lesser-top.ensures
+    c.greater-right.ensures
+    c.greater-bottom.ensures

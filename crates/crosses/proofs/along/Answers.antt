@@ -1,5 +1,4 @@
 -- `along` meets its contract.
-use borrow.Author.Rules.{rules}
 use Rattle.exact.proofs.Words.{held_64, fits_64}
 use Rattle.crosses.proofs.Crossed.{along_of}
 use Rattle.crosses.proofs.along.Goals as goal

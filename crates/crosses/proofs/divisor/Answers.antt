@@ -1,7 +1,6 @@
 -- `divisor` meets its contract.
-use borrow.Author.Rules.{rules}
 use Rattle.exact.proofs.Words.{held_64, fits_64}
-use Rattle.crosses.proofs.Crossed.{handed, divisor_of}
+use Rattle.crosses.proofs.Crossed.{divisor_of}
 use Rattle.crosses.proofs.divisor.Goals as goal
 
 pub overflow_sub-result : goal.overflow_sub-result

@@ -1,5 +1,4 @@
 -- `edges_cross` meets its contract.
-use borrow.Author.Rules.{rules}
 use Rattle.crosses.proofs.Crossed.{parallel_of, apart_of, crossed_of}
 use Rattle.crosses.proofs.edges_cross.Goals as goal
 

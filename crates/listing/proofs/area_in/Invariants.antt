@@ -1,11 +1,7 @@
 -- `listing::area_in` meets its contract: the sum so far and the edges left come to the area.
-use borrow.Author.Rules.{rules}
-use mir.Syntax.{w64}
-use mir.Val.{to_z}
 use Rattle.geometry.specs.Plane.{area_outpt}
 use Rattle.listing.specs.Fields.{points_in}
 use Rattle.listing.specs.Needs.{Adding}
-use Rattle.listing.proofs.Runs.{none_area, adding_begins, adding_here, adding_ends, adding_fits, adding_on}
 use Rattle.listing.proofs.area_in.Given as goal
 
 abbrev pub invariant-loop-left : goal.invariant-loop-left

@@ -1,5 +1,4 @@
 -- `listing::listing` meets its contract.
-use borrow.Author.Rules.{rules}
 use Rattle.listing.proofs.Telling.{told_all}
 use Rattle.listing.proofs.listing.Goals as goal
 

@@ -1,5 +1,4 @@
 -- `listing::put_closed` meets its contract.
-use borrow.Author.Rules.{rules}
 use Rattle.listing.proofs.Heads.{area_asked, closed_poured}
 use Rattle.listing.proofs.put_closed.Goals as goal
 

@@ -1,5 +1,4 @@
 -- `listing::put_counts` meets its contract.
-use borrow.Author.Rules.{rules}
 use Rattle.listing.proofs.Telling.{counts_poured}
 use Rattle.listing.proofs.put_counts.Goals as goal
 

@@ -1,6 +1,5 @@
 -- `listing::put_head` meets its contract.
-use borrow.Author.Rules.{rules}
-use Rattle.listing.proofs.Heads.{open_head, closed_head_lem}
+use Rattle.listing.proofs.Heads.{open_head}
 use Rattle.listing.proofs.put_head.Goals as goal
 
 pub returns-then-opened : goal.returns-then-opened

@@ -1,6 +1,5 @@
 -- `listing::put_line` meets its contract.
-use borrow.Author.Rules.{rules}
-use Rattle.listing.proofs.Heads.{field_sized, line_poured}
+use Rattle.listing.proofs.Heads.{line_poured}
 use Rattle.listing.proofs.put_line.Goals as goal
 
 pub returns : goal.returns

@@ -1,7 +1,5 @@
 -- `listing::put_lines` meets its contract: the lines of the fields passed are poured.
-use borrow.Author.Rules.{rules}
 use Rattle.listing.specs.Needs.{Going}
-use Rattle.listing.proofs.Telling.{going_begins, going_length, going_after, going_ends, going_field, going_on}
 use Rattle.listing.proofs.put_lines.Given as goal
 
 abbrev pub invariant-loop-left : goal.invariant-loop-left

@@ -1,6 +1,5 @@
 -- `listing::put_listing` meets its contract.
-use borrow.Author.Rules.{rules}
-use Rattle.listing.proofs.Telling.{open_asked, listing_poured}
+use Rattle.listing.proofs.Telling.{listing_poured}
 use Rattle.listing.proofs.put_listing.Goals as goal
 
 pub returns : goal.returns

@@ -1,8 +1,5 @@
 -- `listing::put_place` meets its contract.
-use borrow.Author.Rules.{rules}
-use mathlib.Core.Path.{ap}
-use Rattle.geometry.specs.declared.Point.{Point}
-use Rattle.listing.proofs.Points.{wide_fits, wide_asked, place_poured}
+use Rattle.listing.proofs.Points.{place_poured}
 use Rattle.listing.proofs.put_place.Goals as goal
 
 pub returns : goal.returns

@@ -1,7 +1,5 @@
 -- `listing::put_points` meets its contract: the points passed are poured.
-use borrow.Author.Rules.{rules}
 use Rattle.listing.specs.Needs.{Showing}
-use Rattle.listing.proofs.Runs.{run_head, showing_begins, showing_on, showing_length, showing_ends}
 use Rattle.listing.proofs.put_points.Given as goal
 
 abbrev pub invariant-loop-left : goal.invariant-loop-left

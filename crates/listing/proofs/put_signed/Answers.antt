@@ -1,6 +1,5 @@
 -- `listing::put_signed` meets its contract.
-use borrow.Author.Rules.{rules}
-use Rattle.listing.proofs.Signs.{minus_poured, plus_poured}
+use Rattle.listing.proofs.Signs.{minus_poured}
 use Rattle.listing.proofs.put_signed.Goals as goal
 
 pub returns-then-z-lt0 : goal.returns-then-z-lt0

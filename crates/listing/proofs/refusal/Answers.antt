@@ -1,5 +1,4 @@
 -- `listing::refusal` meets its contract.
-use borrow.Author.Rules.{rules}
 use Rattle.listing.proofs.Telling.{told_all, refused_poured}
 use Rattle.listing.specs.Lines.{refused_line}
 use Rattle.listing.proofs.refusal.Goals as goal

@@ -1,12 +1,7 @@
 -- `mending::any_spoilt` meets its contract: the first spoilt point ends the loop.
-use mathlib.Core.Path.{◌≡◌}
-use mathlib.Core.Bool.{false}
-use Prim.Native.Nat.{◌-◌, ◌≤◌}
+use Prim.Native.Nat.{◌-◌}
 use borrow.Author.Rules.{rules}
-use Rattle.store.specs.Named.{points_of}
-use Rattle.audit.specs.Tests.{any_below}
-use Rattle.audit.proofs.Testing.{none, more, hit, whole}
-use Rattle.mending.specs.Needs.{spoilt}
+use Rattle.audit.proofs.Testing.{none, more, hit}
 use Rattle.mending.proofs.any_spoilt.Goals as goal
 
 pub loop-k-init : goal.loop-k-init

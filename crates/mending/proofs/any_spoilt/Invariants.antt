@@ -2,10 +2,8 @@
 use mathlib.Core.Path.{◌≡◌}
 use mathlib.Core.Bool.{false}
 use Prim.Native.Nat.{◌-◌, ◌≤◌}
-use borrow.Author.Rules.{rules}
 use Rattle.store.specs.Named.{points_of}
 use Rattle.audit.specs.Tests.{any_below}
-use Rattle.audit.proofs.Testing.{none, more, hit, whole}
 use Rattle.mending.specs.Needs.{spoilt}
 use Rattle.mending.proofs.any_spoilt.Given as goal
 

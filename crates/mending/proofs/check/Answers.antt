@@ -1,6 +1,5 @@
 -- `mending::check` meets its contract: rows 1 to 5: read, then judged.
 use Rattle.mending.proofs.Checking.{saw_filled, saw_judged, saw_refused}
-use borrow.Author.Rules.{rules}
 use Rattle.mending.proofs.check.Goals as goal
 
 pub first_rows-requires : goal.first_rows-requires

@@ -1,5 +1,5 @@
 -- `mending::fix` meets its contract: the table, then row 17, then the bytes.
-use Rattle.mending.proofs.Once.{fix_stop, fix_room, fix_done}
+use Rattle.mending.proofs.Once.{fix_stop, fix_done}
 use borrow.Author.Rules.{rules}
 use Rattle.mending.proofs.fix.Goals as goal
 

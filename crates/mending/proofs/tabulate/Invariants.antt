@@ -1,11 +1,9 @@
 -- `mending::tabulate` meets its contract: the table after k points.
-use mathlib.Core.Path.{◌≡◌, refl}
+use mathlib.Core.Path.{◌≡◌}
 use Prim.Native.Nat.{◌-◌, ◌≤◌}
 use lib.ListN.{length}
-use borrow.Author.Rules.{rules}
 use Rattle.store.specs.Named.{points_of, next_of}
 use Rattle.mending.specs.Needs.{table_of}
-use Rattle.mending.proofs.Tables.{table_more, table_whole}
 use Rattle.mending.proofs.tabulate.Given as goal
 
 abbrev pub invariant-loop-k : goal.invariant-loop-k

@@ -1,11 +1,9 @@
 -- `mending::write_prevs` meets its contract: the bytes after k points.
-use mathlib.Core.Path.{◌≡◌, refl}
+use mathlib.Core.Path.{◌≡◌}
 use Prim.Native.Nat.{◌-◌, ◌≤◌}
 use lib.ListN.{length}
-use borrow.Author.Rules.{rules}
 use Rattle.mending.specs.Mend.{with_prevs}
 use Rattle.mending.specs.Needs.{table_at}
-use Rattle.mending.proofs.Tables.{prevs_more, prevs_whole, prev_room}
 use Rattle.mending.proofs.write_prevs.Given as goal
 
 abbrev pub invariant-loop-k : goal.invariant-loop-k

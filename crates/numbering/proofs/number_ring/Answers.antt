@@ -1,6 +1,6 @@
 -- `numbering::number_ring` meets its contract: the loop follows the ring, with `left` points to go.
 use borrow.Author.Rules.{rules}
-use Rattle.numbering.proofs.Rounds.{Numbering, numbering_begun, numbering_back, numbering_on, numbering_over}
+use Rattle.numbering.proofs.Rounds.{numbering_back, numbering_on, numbering_over}
 use Rattle.numbering.proofs.number_ring.Goals as goal
 
 pub returns-then-p-a : goal.returns-then-p-a

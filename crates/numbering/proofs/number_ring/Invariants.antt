@@ -1,6 +1,5 @@
 -- `numbering::number_ring` meets its contract: the loop follows the ring, with `left` points to go.
-use borrow.Author.Rules.{rules}
-use Rattle.numbering.proofs.Rounds.{Numbering, numbering_begun, numbering_back, numbering_on, numbering_over}
+use Rattle.numbering.proofs.Rounds.{Numbering}
 use Rattle.numbering.proofs.number_ring.Given as goal
 
 abbrev pub invariant-loop-left : goal.invariant-loop-left

@@ -1,7 +1,7 @@
 -- `numbering::number_rings` meets its contract: the rings of the records below i are numbered.
 use Prim.Native.Nat.{◌-◌}
 use borrow.Author.Rules.{rules}
-use Rattle.numbering.proofs.Rounds.{NumberingAll, all_begun, all_few, all_on, all_over}
+use Rattle.numbering.proofs.Rounds.{all_begun, all_on}
 use Rattle.numbering.proofs.number_rings.Goals as goal
 
 pub loop-i-init : goal.loop-i-init

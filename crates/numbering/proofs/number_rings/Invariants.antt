@@ -1,7 +1,6 @@
 -- `numbering::number_rings` meets its contract: the rings of the records below i are numbered.
 use Prim.Native.Nat.{◌-◌}
-use borrow.Author.Rules.{rules}
-use Rattle.numbering.proofs.Rounds.{NumberingAll, all_begun, all_few, all_on, all_over}
+use Rattle.numbering.proofs.Rounds.{NumberingAll}
 use Rattle.numbering.proofs.number_rings.Given as goal
 
 abbrev pub invariant-loop-i : goal.invariant-loop-i

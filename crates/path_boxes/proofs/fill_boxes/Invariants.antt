@@ -1,9 +1,7 @@
 -- `path_boxes::fill_boxes` meets its contract.
-use borrow.Author.Rules.{rules}
 use Prim.Native.Nat.{◌-◌}
 use lib.ListN.{length}
 use Rattle.path_boxes.specs.Table.{filled, Filling}
-use Rattle.path_boxes.proofs.Tables.{filling_begins, filling_size, filling_ends, filling_field, filling_room, filling_box, filling_on}
 use Rattle.path_boxes.proofs.fill_boxes.Given as goal
 
 abbrev pub invariant-loop-i : goal.invariant-loop-i

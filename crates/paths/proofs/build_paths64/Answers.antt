@@ -1,6 +1,5 @@
 -- `paths::build_paths64` meets its contract.
-use borrow.Author.Rules.{rules}
-use Rattle.paths.proofs.Bound.{tray_fits, tray_small, all_written}
+use Rattle.paths.proofs.Bound.{tray_small, all_written}
 use Rattle.paths.proofs.build_paths64.Goals as goal
 
 pub returns-then-small : goal.returns-then-small

@@ -1,9 +1,6 @@
 -- `paths::count_bytes` meets its contract: the bytes of the records below i are counted.
-use borrow.Author.Rules.{rules}
-use native.Mathlib.Omega.{arith}
 use Prim.Native.Nat.{◌-◌}
 use Rattle.paths.specs.Count.{Tally}
-use Rattle.paths.proofs.Counts.{size_fits, tally_begins, tally_asked, tally_on, tally_ends}
 use Rattle.paths.proofs.count_bytes.Given as goal
 
 abbrev pub invariant-loop-i : goal.invariant-loop-i

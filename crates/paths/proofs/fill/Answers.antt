@@ -1,7 +1,6 @@
 -- `paths::fill` meets its contract.
-use borrow.Author.Rules.{rules}
 use mathlib.Core.Path.{refl}
-use Rattle.paths.proofs.Filling.{closed_fit, closed_at, open_fit, used_at, filled_all}
+use Rattle.paths.proofs.Filling.{closed_fit, open_fit, filled_all}
 use Rattle.paths.proofs.fill.Goals as goal
 
 pub write_paths-closed-requires : goal.write_paths-closed-requires

@@ -27,11 +27,11 @@ point_at-next-requires c = next_here _ _ c.requires.round _ c.get-n.ensures.0
 
 pub returns : goal.returns
 returns c = small_yes _ _ c.requires _ _ _ _ _ _ _
-        c.get-n.ensures.0
-        c.get-p.ensures.0
-        c.get-m.ensures.0
-        c.if-m-p.false
-        c.point_at-prev.ensures
-        c.point_at-pt.ensures
-        c.point_at-next.ensures
-        c.is_very_small_triangle.ensures
+    c.get-n.ensures.0
+    c.get-p.ensures.0
+    c.get-m.ensures.0
+    c.if-m-p.false
+    c.point_at-prev.ensures
+    c.point_at-pt.ensures
+    c.point_at-next.ensures
+    c.is_very_small_triangle.ensures

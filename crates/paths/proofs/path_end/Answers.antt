@@ -25,12 +25,12 @@ is_small-small-requires c = ahead_sized _ _ true _ c.requires _ c.get-f.ensures.
 
 pub returns-then-small : goal.returns-then-small
 returns-then-small c = small_end _ _ _ _ c.requires _ c.get-f.ensures.0 c.if-f-eq-NONE.false _ c.start_from-a.ensures _ c.round_size-n.ensures _
-        c.too_short-short.ensures c.if-short.false _ c.is_small-small.ensures c.if-small.true
+    c.too_short-short.ensures c.if-short.false _ c.is_small-small.ensures c.if-small.true
 
 pub returns-then-n-lt2 : goal.returns-then-n-lt2
 returns-then-n-lt2 c = few_end _ _ _ _ c.requires _ c.get-f.ensures.0 c.if-f-eq-NONE.false _ c.start_from-a.ensures _ c.round_size-n.ensures _
-        c.too_short-short.ensures c.if-short.false _ c.is_small-small.ensures c.if-small.false c.if-n-lt2.true
+    c.too_short-short.ensures c.if-short.false _ c.is_small-small.ensures c.if-small.false c.if-n-lt2.true
 
 pub returns : goal.returns
 returns c = all_end _ _ _ _ c.requires _ c.get-f.ensures.0 c.if-f-eq-NONE.false _ c.start_from-a.ensures _ c.round_size-n.ensures _
-        c.too_short-short.ensures c.if-short.false _ c.is_small-small.ensures c.if-small.false c.if-n-lt2.false
+    c.too_short-short.ensures c.if-short.false _ c.is_small-small.ensures c.if-small.false c.if-n-lt2.false

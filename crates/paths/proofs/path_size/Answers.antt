@@ -1,5 +1,4 @@
 -- `paths::path_size` meets its contract.
-use borrow.Author.Rules.{rules}
 use Rattle.paths.proofs.Sizes.{short_none, small_none, points_size}
 use Rattle.paths.proofs.path_size.Goals as goal
 

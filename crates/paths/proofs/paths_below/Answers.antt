@@ -1,9 +1,7 @@
 -- `paths::paths_below` meets its contract: the paths of the records below j are counted.
 use borrow.Author.Rules.{rules}
-use native.Mathlib.Omega.{arith}
-use Prim.Native.Nat.{◌-◌, ◌≤◌}
-use Rattle.paths.specs.Count.{PathsSoFar}
-use Rattle.paths.proofs.Counts.{no_paths, asked_below, paths_by, below_fits, below_all}
+use Prim.Native.Nat.{◌-◌}
+use Rattle.paths.proofs.Counts.{paths_by}
 use Rattle.paths.proofs.paths_below.Goals as goal
 
 pub loop-j-preserved : goal.loop-j-preserved

@@ -1,9 +1,6 @@
 -- `paths::paths_below` meets its contract: the paths of the records below j are counted.
-use borrow.Author.Rules.{rules}
-use native.Mathlib.Omega.{arith}
 use Prim.Native.Nat.{◌-◌, ◌≤◌}
 use Rattle.paths.specs.Count.{PathsSoFar}
-use Rattle.paths.proofs.Counts.{no_paths, asked_below, paths_by, below_fits, below_all}
 use Rattle.paths.proofs.paths_below.Given as goal
 
 abbrev pub invariant-loop-j : goal.invariant-loop-j

@@ -1,5 +1,4 @@
 -- `paths::size_if` meets its contract.
-use borrow.Author.Rules.{rules}
 use Rattle.paths.proofs.Counts.{if_yes, if_no}
 use Rattle.paths.proofs.size_if.Goals as goal
 

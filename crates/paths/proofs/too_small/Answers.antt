@@ -1,5 +1,4 @@
 -- `paths::too_small` meets its contract: a tray that is long enough for any job is not counted.
-use borrow.Author.Rules.{rules}
 use native.Mathlib.Omega.{arith}
 use Rattle.paths.proofs.Bound.{never_short, bytes_fit, short_is}
 use Rattle.paths.proofs.too_small.Goals as goal

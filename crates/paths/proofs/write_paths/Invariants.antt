@@ -1,13 +1,7 @@
 -- `paths::write_paths` meets its contract: the fields of the records below i are written, and their paths counted.
-use borrow.Author.Rules.{rules}
-use native.Mathlib.Omega.{arith}
-use mathlib.Core.Path.{ap}
 use Prim.Native.Nat.{◌-◌}
 use Rattle.paths.specs.Count.{PathsSoFar}
-use Rattle.paths.specs.Walking.{Laid}
 use Rattle.paths.specs.Filling.{Filled}
-use Rattle.paths.proofs.Counts.{no_paths, paths_on, paths_all}
-use Rattle.paths.proofs.Filling.{filled_begins, filled_length, filled_at, filled_ends, field_fits, filled_on, filled_fits}
 use Rattle.paths.proofs.write_paths.Given as goal
 
 abbrev pub invariant-loop-i : goal.invariant-loop-i

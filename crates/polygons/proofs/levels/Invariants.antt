@@ -1,9 +1,7 @@
 -- `polygons::levels` meets its contract.
-use borrow.Author.Rules.{rules}
 use Rattle.listing.specs.Fields.{points_in}
 use Rattle.polygons.specs.Polygon as polygon
 use Rattle.polygons.specs.Needs.{Leveling}
-use Rattle.polygons.proofs.Going.{leveling_begins, leveling_head, leveling_found, leveling_on, leveling_ends}
 use Rattle.polygons.proofs.levels.Given as goal
 
 abbrev pub invariant-loop-left : goal.invariant-loop-left

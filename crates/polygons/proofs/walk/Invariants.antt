@@ -1,9 +1,7 @@
 -- `polygons::walk` meets its contract.
-use borrow.Author.Rules.{rules}
 use Rattle.listing.specs.Fields.{point_in, points_in}
 use Rattle.polygons.specs.Polygon as polygon
 use Rattle.polygons.specs.Needs.{Walking}
-use Rattle.polygons.proofs.Going.{walking_begins, walking_head, walking_met, walking_on, walking_ends}
 use Rattle.polygons.proofs.walk.Given as goal
 
 abbrev pub invariant-loop-left : goal.invariant-loop-left

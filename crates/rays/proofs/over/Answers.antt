@@ -1,6 +1,6 @@
 -- `rays::over` meets its contract.
 use borrow.Author.Rules.{rules}
-use Rattle.rays.proofs.Tests.{over_passed, over_crossed, over_signed}
+use Rattle.rays.proofs.Tests.{over_passed, over_crossed}
 use Rattle.rays.proofs.over.Goals as goal
 
 pub returns-then-right : goal.returns-then-right

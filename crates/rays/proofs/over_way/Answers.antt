@@ -1,5 +1,4 @@
 -- `rays::over_way` meets its contract.
-use borrow.Author.Rules.{rules}
 use Rattle.rays.proofs.Tests.{over_touches, over_crosses, over_passes}
 use Rattle.rays.proofs.over_way.Goals as goal
 

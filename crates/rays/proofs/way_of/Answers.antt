@@ -1,6 +1,6 @@
 -- `rays::way_of` meets its contract.
 use borrow.Author.Rules.{rules}
-use Rattle.rays.proofs.Tests.{way_level, way_stays, way_over, may_go_over}
+use Rattle.rays.proofs.Tests.{way_level, way_stays, way_over}
 use Rattle.rays.proofs.way_of.Goals as goal
 
 pub returns-then-level : goal.returns-then-level

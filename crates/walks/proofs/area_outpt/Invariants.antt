@@ -1,9 +1,5 @@
 -- area_outpt meets its contract: the edges yet to come, with the sum so far, make the area.
-use borrow.Author.Rules.{rules}
-use Rattle.walks.proofs.Visiting.{Summing, to_go, sum_begun, sum_edge, sum_low, sum_falls}
-use Rattle.walks.proofs.Edges.{add_fits, add_on, add_end}
-use mir.Syntax.{w64}
-use mir.Val.{to_z}
+use Rattle.walks.proofs.Visiting.{Summing, to_go}
 use Rattle.geometry.specs.Plane.{area_outpt}
 use Rattle.walks.specs.Ring.{values_from}
 use Rattle.walks.proofs.area_outpt.Given as goal

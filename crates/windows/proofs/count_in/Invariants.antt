@@ -1,9 +1,7 @@
 -- count_in meets its contract.
-use borrow.Author.Rules.{rules}
 use Prim.Native.Nat.{◌-◌}
 use Rattle.store.specs.Named.{records_of}
 use Rattle.windows.specs.Needs.{CountedTo}
-use Rattle.windows.proofs.Listing.{counting_begun, counting_long, counting_in, counting_fits, counting_next, counting_ends}
 use Rattle.windows.proofs.count_in.Given as goal
 
 abbrev pub invariant-loop-i : goal.invariant-loop-i

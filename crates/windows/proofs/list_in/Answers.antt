@@ -1,9 +1,7 @@
 -- list_in meets its contract.
 use borrow.Author.Rules.{rules}
 use Prim.Native.Nat.{◌-◌}
-use Rattle.store.specs.Named.{records_of}
-use Rattle.windows.specs.Needs.{ListedTo}
-use Rattle.windows.proofs.Listing.{counting_long, listing_begun, listing_here, listing_room, listing_next, listing_length, listing_ends}
+use Rattle.windows.proofs.Listing.{listing_here, listing_room, listing_next, listing_ends}
 use Rattle.windows.proofs.list_in.Goals as goal
 
 pub list_one-at-requires : goal.list_one-at-requires

@@ -1,5 +1,4 @@
 -- records_in meets its contract: what is found out first, then the list.
-use borrow.Author.Rules.{rules}
 use Rattle.windows.proofs.Listing.{in_sound, in_passed, in_refused}
 use Rattle.windows.proofs.records_in.Goals as goal
 

@@ -1,6 +1,5 @@
 -- `charge::charge_in` meets its contract: the sum is small enough for the product.
-use borrow.Author.Rules.{rules}
-use Rattle.listing.proofs.Charging.{net_asked, magnitude_small, is_charged}
+use Rattle.listing.proofs.Charging.{net_asked, magnitude_small}
 use Rattle.listing.proofs.charge.charge_in.Goals as goal
 
 pub magnitude-m-requires : goal.magnitude-m-requires

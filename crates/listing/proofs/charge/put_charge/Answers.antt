@@ -1,5 +1,4 @@
 -- `charge::put_charge` meets its contract.
-use borrow.Author.Rules.{rules}
 use Rattle.listing.proofs.Charging.{charge_poured}
 use Rattle.listing.proofs.charge.put_charge.Goals as goal
 

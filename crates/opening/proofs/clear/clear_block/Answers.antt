@@ -1,6 +1,5 @@
 -- `opening::clear::clear_block` meets its contract.
-use borrow.Author.Rules.{rules}
-use Rattle.opening.proofs.Blanking.{block_written, block_zeros}
+use Rattle.opening.proofs.Blanking.{block_zeros}
 use Rattle.opening.proofs.clear.clear_block.Goals as goal
 
 pub returns : goal.returns

@@ -1,5 +1,4 @@
 -- `opening::clear::clear_live` meets its contract: zeros up to the boxes, and over the names.
-use borrow.Author.Rules.{rules}
 use Rattle.opening.proofs.Clearing.{live_cleared}
 use Rattle.opening.proofs.clear.clear_live.Goals as goal
 

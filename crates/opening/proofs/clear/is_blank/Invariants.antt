@@ -1,8 +1,6 @@
 -- `opening::clear::is_blank` meets its contract.
 use Prim.Native.Nat.{◌-◌}
-use borrow.Author.Rules.{rules}
-use native.Mathlib.Omega.{arith}
-use Rattle.opening.proofs.Blanking.{Looking, look_begun, look_room, look_on, looked}
+use Rattle.opening.proofs.Blanking.{Looking}
 use Rattle.opening.proofs.clear.is_blank.Given as goal
 
 abbrev pub invariant-loop-k : goal.invariant-loop-k

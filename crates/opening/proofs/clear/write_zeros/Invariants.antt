@@ -1,8 +1,6 @@
 -- `opening::clear::write_zeros` meets its contract.
 use Prim.Native.Nat.{◌-◌}
-use borrow.Author.Rules.{rules}
-use native.Mathlib.Omega.{arith}
-use Rattle.opening.proofs.Blanking.{Zeroing, write_begun, write_room, write_on, written}
+use Rattle.opening.proofs.Blanking.{Zeroing}
 use Rattle.opening.proofs.clear.write_zeros.Given as goal
 
 abbrev pub invariant-loop-k : goal.invariant-loop-k

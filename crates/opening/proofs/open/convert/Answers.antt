@@ -1,7 +1,5 @@
 -- `opening::open::convert` meets its contract: how the segments ended.
-use borrow.Author.Rules.{rules}
 use Rattle.opening.proofs.Passing.{may_join}
-use Rattle.opening.proofs.Staging.{segments_done, segments_full}
 use Rattle.opening.proofs.open.convert.Goals as goal
 
 pub make_joins-requires : goal.make_joins-requires

@@ -1,6 +1,5 @@
 -- `opening::open::join_all` meets its contract: fewer than two segments make no join, and the others' joins have room.
-use borrow.Author.Rules.{rules}
-use Rattle.opening.proofs.Staging.{own_joins, few_segments, laid_converting, laid_segments}
+use Rattle.opening.proofs.Staging.{few_segments, laid_segments}
 use Rattle.opening.proofs.open.join_all.Goals as goal
 
 pub returns-then-m-lt2 : goal.returns-then-m-lt2

@@ -1,11 +1,8 @@
 -- `opening::open::lay` meets its contract: after i turns the first i numbers are the list's and the rest are as they were.
 use mathlib.Core.Path.{◌≡◌}
 use mathlib.Core.List.{◌++◌}
-use Prim.Native.Nat.{◌-◌, ◌<◌, ◌≤◌}
-use native.Mathlib.Omega.{arith}
-use lib.ListN.{length, take, drop, length-set}
-use borrow.Author.Rules.{rules}
-use Rattle.opening.proofs.Growing.{lay_more, lay_all}
+use Prim.Native.Nat.{◌-◌, ◌≤◌}
+use lib.ListN.{length, take, drop}
 use Rattle.opening.proofs.open.lay.Given as goal
 
 abbrev pub invariant-loop-i : goal.invariant-loop-i

@@ -1,7 +1,7 @@
 -- `opening::open::make_joins` meets its contract: how the joins ended.
 use borrow.Author.Rules.{rules}
 use Rattle.opening.proofs.Passing.{made_long, made_few}
-use Rattle.opening.proofs.Staging.{joins_done, joins_knot, joins_full}
+use Rattle.opening.proofs.Staging.{joins_done}
 use Rattle.opening.proofs.open.make_joins.Goals as goal
 
 pub start_rings-requires : goal.start_rings-requires

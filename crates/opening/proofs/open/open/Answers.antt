@@ -1,6 +1,5 @@
 -- `opening::open::open` meets its contract: opened without boxes, and then they are written.
-use borrow.Author.Rules.{rules}
-use Rattle.opening.proofs.Unboxed.{unboxed_long, unboxed_few, boxes_written, no_boxes}
+use Rattle.opening.proofs.Unboxed.{unboxed_long, unboxed_few}
 use Rattle.opening.proofs.open.open.Goals as goal
 
 pub box_records-requires : goal.box_records-requires

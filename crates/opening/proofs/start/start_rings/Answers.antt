@@ -1,11 +1,9 @@
 -- `opening::start::start_rings` meets its contract: the loop follows the definition.
 use borrow.Author.Rules.{rules}
 use native.Mathlib.Omega.{arith}
-use mathlib.Core.Path.{◌≡◌, refl}
-use Prim.Native.Nat.{◌-◌, ◌≤◌}
-use lib.ListN.{length}
-use Rattle.opening.specs.Start.{start_to}
-use Rattle.opening.proofs.Starting.{start_none, start_next, start_done}
+use mathlib.Core.Path.{refl}
+use Prim.Native.Nat.{◌-◌}
+use Rattle.opening.proofs.Starting.{start_none, start_next}
 use Rattle.opening.proofs.start.start_rings.Goals as goal
 
 pub loop-i-init : goal.loop-i-init

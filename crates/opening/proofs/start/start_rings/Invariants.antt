@@ -1,11 +1,8 @@
 -- `opening::start::start_rings` meets its contract: the loop follows the definition.
-use borrow.Author.Rules.{rules}
-use native.Mathlib.Omega.{arith}
-use mathlib.Core.Path.{◌≡◌, refl}
+use mathlib.Core.Path.{◌≡◌}
 use Prim.Native.Nat.{◌-◌, ◌≤◌}
 use lib.ListN.{length}
 use Rattle.opening.specs.Start.{start_to}
-use Rattle.opening.proofs.Starting.{start_none, start_next, start_done}
 use Rattle.opening.proofs.start.start_rings.Given as goal
 
 abbrev pub invariant-loop-i : goal.invariant-loop-i

@@ -3,7 +3,7 @@ use mathlib.Core.Bool.{true, not}
 use mathlib.Core.Path.{ap}
 use borrow.Author.Rules.{rules}
 use Rattle.paths.proofs.Walks.{round_here}
-use Rattle.paths.proofs.Sizes.{first_round, along_round, not_long, long_some}
+use Rattle.paths.proofs.Sizes.{first_round, along_round, long_some}
 use Rattle.paths.proofs.field.is_long.Goals as goal
 
 pub start_from-start-requires : goal.start_from-start-requires

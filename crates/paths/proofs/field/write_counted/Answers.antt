@@ -1,6 +1,5 @@
 -- `paths::write_counted` meets its contract.
 use mathlib.Core.Path.{ap}
-use borrow.Author.Rules.{rules}
 use Prim.Native.Nat.{◌*◌}
 use native.Mathlib.Omega.{arith}
 use Rattle.paths.specs.Tray.{POINT}

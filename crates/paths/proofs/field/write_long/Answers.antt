@@ -1,8 +1,7 @@
 -- `paths::write_long` meets its contract: the points in the part after the header, and then the header.
 use mathlib.Core.Path.{refl}
-use borrow.Author.Rules.{rules}
 use native.Mathlib.Omega.{arith}
-use Rattle.paths.proofs.Fields.{header_room, part_fit, head_room, sum_fits, head_after}
+use Rattle.paths.proofs.Fields.{header_room, part_fit, head_room, head_after}
 use Rattle.paths.proofs.field.write_long.Goals as goal
 
 pub slice_bounds-write_points-count : goal.slice_bounds-write_points-count

@@ -1,11 +1,7 @@
 -- `paths::round_size` meets its contract: the points counted and those that the rest of the walk adds are all.
 use borrow.Author.Rules.{rules}
-use native.Mathlib.Omega.{arith}
-use lib.ListN.{length}
-use Rattle.store.specs.Words.{view}
-use Rattle.paths.specs.Walking.{link_of, to_go, Going, Counting, path_round}
 use Rattle.paths.proofs.Walks.{round_here, going_less}
-use Rattle.paths.proofs.Rounds.{counting_begins, counting_on, counting_fits, counting_here, counting_ends}
+use Rattle.paths.proofs.Rounds.{counting_begins, counting_on, counting_here, counting_ends}
 use Rattle.paths.proofs.round.round_size.Goals as goal
 
 pub link-q-requires : goal.link-q-requires

@@ -1,9 +1,7 @@
 -- `paths::write_round` meets its contract: what is written and what the rest of the walk adds is the path.
 use borrow.Author.Rules.{rules}
-use Rattle.store.specs.Words.{view}
-use Rattle.paths.specs.Walking.{link_of, to_go, Going, Laying, path_round}
 use Rattle.paths.proofs.Walks.{round_here, going_less}
-use Rattle.paths.proofs.Writing.{one_fits, laying_begins, laying_on, laying_here, laying_length, laying_room, laying_ends}
+use Rattle.paths.proofs.Writing.{one_fits, laying_begins, laying_on, laying_here, laying_room, laying_ends}
 use Rattle.paths.proofs.round.write_round.Goals as goal
 
 pub put_point-requires : goal.put_point-requires
@@ -17,7 +15,7 @@ loop-q-init c = laying_begins _ _ _ _ _ _ c.requires c.put_point.ensures c.link-
 
 pub put_more-at-requires : goal.put_more-at-requires
 put_more-at-requires c = let h = laying_here _ _ _ _ _ _ _ _ c.loop-q.invariant c.requires.round c.loop-q-test.true in
-        (h.0, h.1, laying_room _ _ _ _ _ _ _ _ c.loop-q.invariant c.loop-q-test.true)
+    (h.0, h.1, laying_room _ _ _ _ _ _ _ _ c.loop-q.invariant c.loop-q-test.true)
 
 pub link-q-requires-in-loop-q : goal.link-q-requires-in-loop-q
 link-q-requires-in-loop-q c = let h = laying_here _ _ _ _ _ _ _ _ c.loop-q.invariant c.requires.round c.loop-q-test.true in search rules

@@ -1,9 +1,6 @@
 -- `paths::write_round` meets its contract: what is written and what the rest of the walk adds is the path.
-use borrow.Author.Rules.{rules}
 use Rattle.store.specs.Words.{view}
 use Rattle.paths.specs.Walking.{link_of, to_go, Going, Laying, path_round}
-use Rattle.paths.proofs.Walks.{round_here, going_less}
-use Rattle.paths.proofs.Writing.{one_fits, laying_begins, laying_on, laying_here, laying_length, laying_room, laying_ends}
 use Rattle.paths.proofs.round.write_round.Given as goal
 
 abbrev pub invariant-loop-q : goal.invariant-loop-q

@@ -1,8 +1,7 @@
 -- copy_block meets its contract: after k turns the first k words are copied and the rest are as they were.
-use borrow.Author.Rules.{rules}
 use Prim.Native.Nat.{◌-◌}
 use Rattle.store.specs.Field.{BLOCK}
-use Rattle.states.proofs.Copying.{Copying, copy_begun, copy_there, copy_room, copy_on, copied, copy_size}
+use Rattle.states.proofs.Copying.{Copying}
 use Rattle.states.proofs.copies.copy_block.Given as goal
 
 abbrev pub invariant-loop-k : goal.invariant-loop-k

@@ -1,9 +1,8 @@
 -- place_of meets its contract: the first place that keeps the name ends the loop.
-use borrow.Author.Rules.{rules}
 use Prim.Native.Nat.{◌-◌}
 use Rattle.store.specs.Field.{STATES}
 use Rattle.states.specs.Places.{keeps_name}
-use Rattle.states.proofs.Lowest.{Searching, search_begun, search_hit, search_on, search_over}
+use Rattle.states.proofs.Lowest.{Searching}
 use Rattle.states.proofs.places.place_of.Given as goal
 
 abbrev pub invariant-loop-p : goal.invariant-loop-p

@@ -1,9 +1,6 @@
 -- `finish_record` meets its contract: each turn is steps that only move on, and then one more; they lower the measure.
 use borrow.Author.Rules.{rules}
-use Rattle.store.specs.Words.{view}
-use Rattle.acts.specs.Finishable.{words_left}
-use Rattle.turns.specs.Form.{raised, geometry_of}
-use Rattle.steps.proofs.Looping.{Running, begun, sound_words, next_on, fallen_on, stop_on}
+use Rattle.steps.proofs.Looping.{begun, next_on, fallen_on, stop_on}
 use Rattle.steps.proofs.finish.finish_record.Goals as goal
 
 pub loop-a-init : goal.loop-a-init

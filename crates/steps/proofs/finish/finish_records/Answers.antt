@@ -1,8 +1,7 @@
 -- `finish_records` meets its contract: what is left to finish is said of the records from i on.
 use Prim.Native.Nat.{◌-◌}
 use borrow.Author.Rules.{rules}
-use native.Mathlib.Omega.{arith}
-use Rattle.steps.proofs.Looping.{Remaining, begun_all, long_all, past_all, finishes_now, next_all, stop_all, end_all}
+use Rattle.steps.proofs.Looping.{begun_all, past_all, next_all, stop_all}
 use Rattle.steps.proofs.finish.finish_records.Goals as goal
 
 pub loop-i-init : goal.loop-i-init

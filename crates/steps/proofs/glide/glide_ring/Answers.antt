@@ -1,6 +1,5 @@
 -- `glide_ring` meets its contract: by the step due.
-use borrow.Author.Rules.{rules}
-use Rattle.steps.proofs.Gliding.{due_removal, due_split, stays}
+use Rattle.steps.proofs.Gliding.{stays}
 use Rattle.steps.proofs.glide.glide_ring.Goals as goal
 
 pub returns-in-Validity : goal.returns-in-Validity

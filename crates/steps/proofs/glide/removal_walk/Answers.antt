@@ -1,7 +1,6 @@
 -- `removal_walk` meets its contract: each turn is a step that moves on.
 use borrow.Author.Rules.{rules}
-use Rattle.rings.specs.Progress.{removal}
-use Rattle.steps.proofs.Gliding.{GlidingAt, due_going, begun, x_on, about, removal_stops, removal_drops, removal_ends, removal_on}
+use Rattle.steps.proofs.Gliding.{due_going, begun, removal_stops, removal_drops, removal_ends, removal_on}
 use Rattle.steps.proofs.glide.removal_walk.Goals as goal
 
 pub present_of-x-requires : goal.present_of-x-requires

@@ -1,7 +1,6 @@
 -- `split_walk` meets its contract: each turn is a step that moves on.
 use borrow.Author.Rules.{rules}
-use Rattle.rings.specs.Progress.{split}
-use Rattle.steps.proofs.Gliding.{GlidingAt, due_going, begun, x_on, about, split_stops, split_first, split_start, split_on}
+use Rattle.steps.proofs.Gliding.{due_going, begun, split_stops, split_first, split_start, split_on}
 use Rattle.steps.proofs.glide.split_walk.Goals as goal
 
 pub present_of-x-requires : goal.present_of-x-requires

@@ -2,13 +2,10 @@
 use Prim.Native.Nat.{◌-◌, ◌≤◌}
 use mathlib.Core.Path.{◌≡◌}
 use mathlib.Core.Bool.{false}
-use borrow.Author.Rules.{rules}
 use Rattle.store.specs.Words.{view}
 use Rattle.store.specs.Sound.{recs}
 use Rattle.audit.specs.Tests.{any_below}
-use Rattle.audit.proofs.Testing.{none, more, hit, whole}
 use Rattle.acts.specs.Step.{live}
-use Rattle.steps.specs.Live.{any_live}
 use Rattle.steps.proofs.step.any_live.Given as goal
 
 abbrev pub invariant-loop-i : goal.invariant-loop-i

@@ -1,5 +1,4 @@
 -- `cut_at` meets its contract.
-use borrow.Author.Rules.{rules}
 use Rattle.turns.proofs.Decisions.{cut_is}
 use Rattle.turns.proofs.decide.cut_at.Goals as goal
 

@@ -1,5 +1,4 @@
 -- `decide_due` meets its contract.
-use borrow.Author.Rules.{rules}
 use Rattle.turns.proofs.Decisions.{at_validity_lem, at_removal, at_triangle, at_split_lem, at_done}
 use Rattle.turns.proofs.decide.decide_due.Goals as goal
 

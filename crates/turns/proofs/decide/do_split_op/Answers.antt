@@ -1,5 +1,4 @@
 -- `do_split_op` meets its contract.
-use borrow.Author.Rules.{rules}
 use Rattle.turns.proofs.Decisions.{too_small, large}
 use Rattle.turns.proofs.decide.do_split_op.Goals as goal
 

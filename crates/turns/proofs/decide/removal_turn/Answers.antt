@@ -1,6 +1,5 @@
 -- `removal_turn` meets its contract.
-use borrow.Author.Rules.{rules}
-use Rattle.turns.proofs.Decisions.{three_of, turn_drops, turn_ends, turn_goes}
+use Rattle.turns.proofs.Decisions.{turn_drops, turn_ends, turn_goes}
 use Rattle.turns.proofs.decide.removal_turn.Goals as goal
 
 pub returns-then-gone : goal.returns-then-gone

@@ -1,6 +1,5 @@
 -- `valid_without` meets its contract.
-use borrow.Author.Rules.{rules}
-use Rattle.turns.proofs.Decisions.{valid_1, valid_2, valid_3, three_of, valid_4, valid_5}
+use Rattle.turns.proofs.Decisions.{valid_1, valid_2, valid_3, valid_4, valid_5}
 use Rattle.turns.proofs.decide.valid_without.Goals as goal
 
 pub returns-then-a-x : goal.returns-then-a-x
