@@ -1,0 +1,13 @@
+-- `tell_job` meets its contract.
+use borrow.Author.Rules.{rules}
+use Rattle.job_reasons.proofs.Telling.{may_tell, job_told, job_refused}
+use Rattle.job_reasons.proofs.tell_job.Goals as goal
+
+pub tell_records-requires : goal.tell_records-requires
+tell_records-requires c = search may_tell
+
+pub returns-in-Paths : goal.returns-in-Paths
+returns-in-Paths c = search job_told
+
+pub returns-in-Refused : goal.returns-in-Refused
+returns-in-Refused c = search job_refused
