@@ -1,8 +1,7 @@
 -- `containment::put_by_boxes` meets its contract.
 use borrow.Author.Rules.{rules}
-use Rattle.containment.specs.Needs.{AllPairs}
 use Prim.Native.Nat.{◌-◌}
-use Rattle.containment.proofs.Rows.{pairing_begins, pairing_length, pairing_ends, pairing_field, pairing_on}
+use Rattle.containment.proofs.Rows.{pairing_begins, pairing_field, pairing_on}
 use Rattle.containment.proofs.put_by_boxes.Goals as goal
 
 pub loop-i-init : goal.loop-i-init

@@ -1,8 +1,6 @@
 -- `containment::put_by_boxes` meets its contract.
-use borrow.Author.Rules.{rules}
 use Rattle.containment.specs.Needs.{AllPairs}
 use Prim.Native.Nat.{◌-◌}
-use Rattle.containment.proofs.Rows.{pairing_begins, pairing_length, pairing_ends, pairing_field, pairing_on}
 use Rattle.containment.proofs.put_by_boxes.Given as goal
 
 abbrev pub invariant-loop-i : goal.invariant-loop-i

@@ -1,9 +1,7 @@
 -- `containment::put_row` meets its contract.
-use borrow.Author.Rules.{rules}
 use Rattle.listing.specs.Fields.{path_in, paths_in}
 use Rattle.containment.specs.Answers.{row}
 use Rattle.containment.specs.Needs.{Rowing}
-use Rattle.containment.proofs.Rows.{rowing_begins, rowing_length, rowing_ends, rowing_field, rowing_box, rowing_on}
 use Rattle.containment.proofs.put_row.Given as goal
 
 abbrev pub invariant-loop-left : goal.invariant-loop-left

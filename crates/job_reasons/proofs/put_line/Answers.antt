@@ -1,5 +1,4 @@
 -- `put_line` meets its contract.
-use borrow.Author.Rules.{rules}
 use Rattle.job_reasons.proofs.Lines.{line_told}
 use Rattle.job_reasons.proofs.put_line.Goals as goal
 

@@ -1,5 +1,4 @@
 -- `put_record` meets its contract: the call tells the record.
-use borrow.Author.Rules.{rules}
 use Rattle.job_reasons.proofs.Telling.{number_fits, record_told, never_refused}
 use Rattle.job_reasons.proofs.put_record.Goals as goal
 

@@ -1,10 +1,8 @@
 -- `put_records` meets its contract: the lines of the records passed are poured.
 use borrow.Author.Rules.{rules}
 use Prim.Native.Nat.{◌-◌}
-use Rattle.store.specs.Words.{view}
-use Rattle.job_reasons.specs.Needs.{Going}
-use Rattle.job_reasons.proofs.Lines.{going_begins, going_on, going_length, going_ends}
-use Rattle.job_reasons.proofs.Telling.{long_enough, known_record}
+use Rattle.job_reasons.proofs.Lines.{going_begins, going_on, going_ends}
+use Rattle.job_reasons.proofs.Telling.{long_enough}
 use Rattle.job_reasons.proofs.put_records.Goals as goal
 
 pub get-n-requires : goal.get-n-requires

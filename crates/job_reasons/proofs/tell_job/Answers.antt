@@ -1,5 +1,4 @@
 -- `tell_job` meets its contract.
-use borrow.Author.Rules.{rules}
 use Rattle.job_reasons.proofs.Telling.{may_tell, job_told, job_refused}
 use Rattle.job_reasons.proofs.tell_job.Goals as goal
 

@@ -1,5 +1,4 @@
 -- `tell_records` meets its contract.
-use borrow.Author.Rules.{rules}
 use Rattle.job_reasons.proofs.Lines.{with_room, without_room}
 use Rattle.job_reasons.proofs.tell_records.Goals as goal
 

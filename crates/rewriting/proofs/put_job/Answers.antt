@@ -1,5 +1,4 @@
 -- `rewriting::put_job` meets its contract.
-use borrow.Author.Rules.{rules}
 use Rattle.rewriting.proofs.Laying.{job_poured}
 use Rattle.rewriting.proofs.put_job.Goals as goal
 

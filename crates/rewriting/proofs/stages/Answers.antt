@@ -1,5 +1,4 @@
 -- `rewriting::stages` meets its contract: what rows 1 to 8 say.
-use borrow.Author.Rules.{rules}
 use Rattle.rewriting.proofs.Ends.{may_write, rows_passed, rows_refused}
 use Rattle.rewriting.proofs.stages.Goals as goal
 

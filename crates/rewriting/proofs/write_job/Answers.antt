@@ -1,5 +1,4 @@
 -- `rewriting::write_job` meets its contract.
-use borrow.Author.Rules.{rules}
 use Rattle.rewriting.proofs.Ends.{job_written_lem}
 use Rattle.rewriting.proofs.write_job.Goals as goal
 

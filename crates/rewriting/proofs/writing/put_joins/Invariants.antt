@@ -1,8 +1,7 @@
 -- `rewriting::writing::put_joins` meets its contract: the joins below i are written.
 use Prim.Native.Nat.{◌-◌}
-use borrow.Author.Rules.{rules}
 use Rattle.rewriting.specs.Fields.{pair_field}
-use Rattle.rewriting.proofs.Laying.{FieldsLaid, laid_begun, pair_on, laid_length, laid_over}
+use Rattle.rewriting.proofs.Laying.{FieldsLaid}
 use Rattle.rewriting.proofs.writing.put_joins.Given as goal
 
 abbrev pub invariant-loop-i : goal.invariant-loop-i

@@ -1,7 +1,7 @@
 -- `rewriting::writing::put_points` meets its contract: the rings of the records below i are written.
 use Prim.Native.Nat.{◌-◌}
 use borrow.Author.Rules.{rules}
-use Rattle.rewriting.proofs.Laying.{RingsLaid, rings_begun, rings_on, rings_length, rings_over}
+use Rattle.rewriting.proofs.Laying.{rings_begun, rings_on}
 use Rattle.rewriting.proofs.writing.put_points.Goals as goal
 
 pub loop-i-init : goal.loop-i-init

@@ -1,7 +1,6 @@
 -- `rewriting::writing::put_points` meets its contract: the rings of the records below i are written.
 use Prim.Native.Nat.{◌-◌}
-use borrow.Author.Rules.{rules}
-use Rattle.rewriting.proofs.Laying.{RingsLaid, rings_begun, rings_on, rings_length, rings_over}
+use Rattle.rewriting.proofs.Laying.{RingsLaid}
 use Rattle.rewriting.proofs.writing.put_points.Given as goal
 
 abbrev pub invariant-loop-i : goal.invariant-loop-i

@@ -1,8 +1,7 @@
 -- `rewriting::writing::put_records` meets its contract: the records below i are written.
 use Prim.Native.Nat.{◌-◌}
-use borrow.Author.Rules.{rules}
 use Rattle.rewriting.specs.Fields.{drawn_field}
-use Rattle.rewriting.proofs.Laying.{FieldsLaid, laid_begun, laid_on, laid_length, laid_all}
+use Rattle.rewriting.proofs.Laying.{FieldsLaid}
 use Rattle.rewriting.proofs.writing.put_records.Given as goal
 
 abbrev pub invariant-loop-i : goal.invariant-loop-i

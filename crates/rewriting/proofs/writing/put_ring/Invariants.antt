@@ -1,7 +1,6 @@
 -- `rewriting::writing::put_ring` meets its contract: the loop follows the ring, with `left` points to go.
-use borrow.Author.Rules.{rules}
 use Rattle.rewriting.specs.Fields.{corner_field}
-use Rattle.rewriting.proofs.Laying.{RingLaid, ring_begun, ring_length, ring_back, ring_on, ring_over}
+use Rattle.rewriting.proofs.Laying.{RingLaid}
 use Rattle.rewriting.proofs.writing.put_ring.Given as goal
 
 abbrev pub invariant-loop-left : goal.invariant-loop-left

@@ -1,8 +1,7 @@
 -- `rewriting::writing::put_segments` meets its contract: the segments below i are written.
 use Prim.Native.Nat.{◌-◌}
 use borrow.Author.Rules.{rules}
-use Rattle.rewriting.specs.Fields.{level_field}
-use Rattle.rewriting.proofs.Laying.{FieldsLaid, laid_begun, level_on, laid_length, laid_over}
+use Rattle.rewriting.proofs.Laying.{laid_begun, level_on}
 use Rattle.rewriting.proofs.writing.put_segments.Goals as goal
 
 pub loop-i-init : goal.loop-i-init
