@@ -1,5 +1,4 @@
 -- `outline_records_in` meets its contract: its four numbers are the window.
-use borrow.Author.Rules.{rules}
 use Rattle.outline.proofs.Numbers.{found_here, as_found_lem}
 use Rattle.outline.proofs.outline_records_in.Goals as goal
 
