@@ -2,7 +2,7 @@
 // work, and `main` only reads, calls and writes.
 #![tactic(auto)]
 
-ghost use Rattle.std.specs.Prelude.{◌≤◌, length};
+ghost use Rattle.std.specs.Prelude.{◌≡◌, ◌≤◌, length};
 ghost use Rattle.std.specs.Io.{ReadsAtMost};
 ghost use Rattle.listing.specs.Needs.{Whole};
 ghost use Rattle.cutlist.specs.Taking.{Untaken};
@@ -82,10 +82,11 @@ fn rate_given<E: Env>(rt: &E) -> Rate {
     rate_of(word_count(rt), &arg[..n])
 }
 
-// Reads the job, unless the rate is bad: then no byte is taken, and the buffer stays as it was.
+// Reads the job, unless the rate is bad: then no byte is taken, the buffer stays as it was, and nothing fails.
 fn read_job<R: Read>(from: &mut R, rate: Rate, job: &mut [u8]) -> io::Result<usize>
     ensures within { ReadsAtMost result job.new }
     ensures untaken { Untaken rate job.old job.new }
+    ensures bad { rate ≡ Rate.Bad → result ≡ Ok 0 }
 {
     match rate {
         Rate::NoRate => fill(from, job),
