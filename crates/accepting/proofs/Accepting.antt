@@ -5,6 +5,8 @@ use mathlib.Core.Bool.{◌||◌}
 use Prim.Native.Nat.{ℕ, ◌*◌, ◌≤◌}
 use native.Mathlib.Omega.{arith}
 use lib.ListN.{length}
+use Rattle.std.specs.Prelude.{Result}
+use Rattle.std.proofs.Common.{Ok, Err}
 use Rattle.job.specs.declared.Job.{Job}
 use Rattle.job.specs.declared.refusal.Refusal.{Refusal}
 use Rattle.store.specs.Field.{BLOCK, ct, SETTINGS, POINTS, RECORDS}
@@ -12,8 +14,6 @@ use Rattle.store.specs.Words.{write}
 use Rattle.store.specs.Named.{points_of, records_of, first_of}
 use Rattle.store.proofs.Storing.{length_writes}
 use Rattle.audit.specs.Tests.{any_below, no_such, no_such_of}
-use Rattle.reading.specs.declared.fill.Outcome.{Outcome}
-use Rattle.reading.specs.declared.fill.Outcome.TheVariants.{Ok, Refused}
 use Rattle.reading.specs.Fill.{ReadEnd, end, fill_of}
 use Rattle.reading.specs.Needs.{Space}
 use Rattle.reading.specs.Read.{counted, with_counts, read_of}
@@ -21,8 +21,6 @@ use Rattle.reading.specs.Alike.{Counts, Bits, Unringed}
 use Rattle.reading.proofs.Counted.{filled, counts}
 use Rattle.reading.proofs.Bits.{fields_of}
 use Rattle.reading.proofs.Placing.{no_first}
-use Rattle.audit.specs.declared.Verdict.{Verdict}
-use Rattle.audit.specs.declared.Verdict.TheVariants as verdict
 use Rattle.rows.specs.Rows.{unnamed, rows_of}
 use Rattle.rows.specs.Found.{Filled}
 use Rattle.audit.proofs.Testing.{or_left, or_right}
@@ -57,7 +55,7 @@ read_whole bytes w ss js s j v ts ks e = by (fill_of bytes w ss js) refl e (fiel
           unringed = subst Unringed (sym b) q.1;
           space = record { words = omega (arith, l, n); segments = omega (arith, s.segments, g.segments); joins = omega (arith, s.joins, g.joins) };
         })
-    by (end (Refused x) u us ls) f d q = absurd (let z : ◌≡◌ {A = ℕ} 0 1 = cc in omega arith)
+    by (end (Err x) u us ls) f d q = absurd (let z : ◌≡◌ {A = ℕ} 0 1 = cc in omega arith)
 
 pub filled_of : (j : Job) (w ss js : List ℕ) → Whole j w ss js → Filled w ss j.segments js j.joins
 filled_of j w ss js g =
@@ -71,17 +69,17 @@ filled_of j w ss js g =
     }
 
 -- for the code of `accept`
-pub may_judge : (bytes w ss js v ts ks : List ℕ) (r : Outcome) (j : Job) → Space w ss js → end r v ts ks ≡ read_of bytes w ss js → r ≡ Ok j → Filled v ts j.segments ks j.joins
+pub may_judge : (bytes w ss js v ts ks : List ℕ) (r : Result Job Refusal) (j : Job) → Space w ss js → end r v ts ks ≡ read_of bytes w ss js → r ≡ Ok j → Filled v ts j.segments ks j.joins
 may_judge bytes w ss js v ts ks r j s e h =
     let q : read_of bytes w ss js ≡ end (Ok j) v ts ks = cc in
     filled_of j v ts ks (read_whole bytes w ss js s j v ts ks q)
 
-module _ (bytes w ss js v ts ks : List ℕ) (r : Outcome) (e : end r v ts ks ≡ read_of bytes w ss js) where
-  pub was_judged : (j : Job) (o : Outcome) → r ≡ Ok j → o ≡ judge_of j v ts ks → end o v ts ks ≡ accept_of bytes w ss js
+module _ (bytes w ss js v ts ks : List ℕ) (r : Result Job Refusal) (e : end r v ts ks ≡ read_of bytes w ss js) where
+  pub was_judged : (j : Job) (o : Result Job Refusal) → r ≡ Ok j → o ≡ judge_of j v ts ks → end o v ts ks ≡ accept_of bytes w ss js
   unfolding accept_of
   was_judged j o h a = rw (a, ← e, h)
 
-  pub was_refused : (x : Refusal) → r ≡ Refused x → end (Refused x) v ts ks ≡ accept_of bytes w ss js
+  pub was_refused : (x : Refusal) → r ≡ Err x → end (Err x) v ts ks ≡ accept_of bytes w ss js
   unfolding accept_of
   was_refused x h = rw (← e, h)
 
@@ -90,7 +88,7 @@ pub accepted : (bytes w ss js : List ℕ) → Space w ss js → (j : Job) (v ts 
 unfolding accept_of
 accepted bytes w ss js s j v ts ks e = by (read_of bytes w ss js) refl e
   where
-    of : (i : Job) (u us ls : List ℕ) → Whole i u us ls → rows_of u us i.segments ls i.joins ≡ verdict.Passed → Accepted i u us ls
+    of : (i : Job) (u us ls : List ℕ) → Whole i u us ls → rows_of u us i.segments ls i.joins ≡ Ok tt → Accepted i u us ls
     of i u us ls g p =
         let f = filled_of i u us ls g in
         let c = clear u us i.segments ls i.joins p in
@@ -108,15 +106,15 @@ accepted bytes w ss js s j v ts ks e = by (read_of bytes w ss js) refl e
           closed = c.edges;
         }
 
-    at : (i : Job) (u us ls : List ℕ) → Whole i u us ls → (x : Verdict) → rows_of u us i.segments ls i.joins ≡ x → end (answer x i) u us ls ≡ end (Ok j) v ts ks → Accepted j v ts ks
-    at i u us ls g verdict.Passed p d =
+    at : (i : Job) (u us ls : List ℕ) → Whole i u us ls → (x : Result (Unit {0}) Refusal) → rows_of u us i.segments ls i.joins ≡ x → end (answer x i) u us ls ≡ end (Ok j) v ts ks → Accepted j v ts ks
+    at i u us ls g (Ok _) p d =
         let a : i ≡ j = cc (d) in
         let b : u ≡ v = cc (d) in
         let c : us ≡ ts = cc (d) in
         let k : ls ≡ ks = cc (d) in
         rw (← a, ← b, ← c, ← k) (of i u us ls g p)
-    at i u us ls g (verdict.Refused x) p d = absurd (let z : ◌≡◌ {A = ℕ} 0 1 = cc in omega arith)
+    at i u us ls g (Err x) p d = absurd (let z : ◌≡◌ {A = ℕ} 0 1 = cc in omega arith)
 
     by : (T : ReadEnd) → read_of bytes w ss js ≡ T → judged T ≡ end (Ok j) v ts ks → Accepted j v ts ks
     by (end (Ok i) u us ls) f d = at i u us ls (read_whole bytes w ss js s i u us ls f) (rows_of u us i.segments ls i.joins) refl d
-    by (end (Refused x) u us ls) f d = absurd (let z : ◌≡◌ {A = ℕ} 0 1 = cc in omega arith)
+    by (end (Err x) u us ls) f d = absurd (let z : ◌≡◌ {A = ℕ} 0 1 = cc in omega arith)

@@ -3,13 +3,13 @@ use mathlib.Core.Path.{◌≡◌, refl}
 use mathlib.Core.List.{List, [], ◌∷◌, ◌++◌, map}
 use Prim.Native.Nat.{ℕ, ◌*◌}
 use lib.ListN.{replicate}
+use Rattle.std.proofs.Common.{Ok, Err}
 use Rattle.job.specs.Limits.{SEGMENTS, JOINS}
 use Rattle.job.specs.Field.{body_of, field_of}
 use Rattle.job.specs.Refusal.{number_of}
 use Rattle.store.specs.Field.{BLOCK}
 use Rattle.store.specs.Words.{cell, put}
 use Rattle.audit.specs.Tests.{any_below}
-use Rattle.reading.specs.declared.fill.Outcome.TheVariants.{Ok, Refused}
 use Rattle.reading.specs.Fill.{ReadEnd, end, turn_of, run, fill_of}
 use Rattle.reading.specs.Read.{read_of}
 use Rattle.joins.specs.Resolve.{find_in}
@@ -25,7 +25,7 @@ pub record Row : Type 0 where
 
 abbrev said : ReadEnd → ℕ
 said (end (Ok j) w ss js) = 0
-said (end (Refused r) w ss js) = number_of r
+said (end (Err r) w ss js) = number_of r
 
 abbrev row : List ℕ → ℕ → Row
 row j n = record { job = j; says = n }

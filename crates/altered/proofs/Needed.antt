@@ -7,6 +7,7 @@ use mathlib.Core.List.{List, [], ◌∷◌, ◌++◌}
 use native.Mathlib.Omega.{arith}
 use lib.Ieee.{to_signed, add, of_int, mul}
 use lib.ListN.{replicate}
+use Rattle.std.specs.Prelude.{Ok}
 use Rattle.rings.specs.Progress.{Ring, Due, split, done}
 use Rattle.rings.specs.Walk as walk
 use Rattle.geometry.specs.declared.Point.{Point}
@@ -21,7 +22,6 @@ use Rattle.store.specs.Words.{Write, write, cell, put, view, on_words}
 use Rattle.store.specs.Sound.{recs, lone_at}
 use Rattle.store.specs.Boxes.{set_sides, ring_box, misboxed, boxed_at}
 use Rattle.store.specs.Value.{word_of}
-use Rattle.audit.specs.declared.Verdict.TheVariants.{Passed}
 use Rattle.audit.specs.Tests.{any_below, reach, reached_by, tests_of}
 use Rattle.handed.specs.Handed.{any_misboxed, kept_twice, tested_of, handed_of}
 use Rattle.acts.specs.InStep.{Holds, no_ring, an_open, a_closed}
@@ -44,7 +44,7 @@ example =
     ++ write (ct POINTS) 0 5 ∷ write (ct RECORDS) 0 1 ∷ write (rc OWNER) 0 NONE ∷ write (rc MARK) 0 3 ∷ write (rc PRESENT) 0 1 ∷ write (rc START) 0 5 ∷ write (rc CUT) 0 NONE ∷ []))
     0 (record { left = 1048571; top = 1048576; right = 1048586; bottom = 1048588 })
 
-pub passes : handed_of example ≡ Passed
+pub passes : handed_of example ≡ Ok tt
 unfolding handed_of tested_of any_misboxed misboxed ring_box widen set_sides kept_twice tests_of any_below reach reached_by walk.run cell put
 passes = refl
 

@@ -6,6 +6,7 @@ use mathlib.Core.List.{List, [], ◌∷◌}
 use native.Mathlib.Omega.{arith}
 use lib.Dec.{eqb}
 use lib.ListN.{length}
+use Rattle.std.specs.Prelude.{Ok}
 use Rattle.rings.specs.Progress.{Ring}
 use Rattle.geometry.specs.declared.Point.{Point}
 use Rattle.lone.specs.Forest.{Forest, answer, step_forest, run_forest}
@@ -13,7 +14,6 @@ use Rattle.lone.specs.Plane.{lone_ring}
 use Rattle.store.specs.Field.{ct, SETTINGS, BLOCK}
 use Rattle.store.specs.Words.{Store, view}
 use Rattle.store.specs.Value.{preserve_collinear}
-use Rattle.audit.specs.declared.Verdict.TheVariants as verdict
 use Rattle.handed.specs.Handed.{handed_of, Usable}
 use Rattle.handed.proofs.Handing.{handed_usable}
 use Rattle.acts.specs.Step.{step_w}
@@ -83,7 +83,7 @@ module _ (b : Bool) where
   answered : (w : List ℕ) (F : Forest (Ring Point) (List Point)) → Going w F → (i : ℕ) → (step_of w i).answer ≡ stepped_as (answer (lone_ring b) 2048 512 F i)
   answered w F g i = subst (λ (k : Bool). (step_of w i).answer ≡ stepped_as (answer (lone_ring k) 2048 512 F i)) g.setting (one_step w g.fit i F g.holds).answers
 
-pub altered : (w : List ℕ) → handed_of w ≡ verdict.Passed → Altered w
+pub altered : (w : List ℕ) → handed_of w ≡ Ok tt → Altered w
 altered w e =
     let f : Usable w = handed_usable w e in
     record {

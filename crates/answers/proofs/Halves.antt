@@ -6,27 +6,22 @@ use mathlib.Core.Bool.{Bool}
 use native.Mathlib.Omega.{arith}
 use Rattle.job.specs.Limits as limit
 use Rattle.rates.specs.declared.Rate.TheVariants.{NoRate, Cents}
-use Rattle.paths.specs.declared.Written.{Written}
+use Rattle.std.specs.Prelude.{Result, Ok}
+use Rattle.job.specs.declared.refusal.Refusal.{Refusal}
 use Rattle.paths.specs.Tray.{tag_of}
 use Rattle.prefix.specs.Decides.{LONGEST}
-use Rattle.rewriting.specs.declared.Rewritten.{Rewritten}
-use Rattle.rewriting.specs.declared.Rewritten.TheVariants as rewritten
 use Rattle.rewriting.specs.Answers.{BytesWithin}
 use Rattle.telling.specs.declared.Reason.{Reason}
 use Rattle.telling.specs.declared.Reason.TheVariants.{Joined}
 use Rattle.telling.specs.declared.Reason.TheVariants as reason
-use Rattle.telling.specs.declared.Told.{Told}
-use Rattle.telling.specs.declared.Told.TheVariants as telling
 use Rattle.telling.specs.Within.{NumberWithin, ToldWithin}
-use Rattle.windows.specs.declared.Found.{Found}
-use Rattle.windows.specs.declared.Found.TheVariants.{Records}
 use Rattle.windows.specs.Within.{FoundWithin}
 use Rattle.answers.specs.Answers.{rewritten_number, reason_word, told_number, found_number, rate_from}
 
-pub half_fits : (a : Rewritten) (k : ℕ) → BytesWithin a LONGEST → a ≡ rewritten.Bytes k → 4294967296 * k < 2 ^ 64
-half_fits a k h e = let l : k ≤ LONGEST = subst (λ (b : Rewritten). BytesWithin b LONGEST) e h in omega arith
+pub half_fits : (a : Result ℕ Refusal) (k : ℕ) → BytesWithin a LONGEST → a ≡ Ok k → 4294967296 * k < 2 ^ 64
+half_fits a k h e = let l : k ≤ LONGEST = subst (λ (b : Result ℕ Refusal). BytesWithin b LONGEST) e h in omega arith
 
-pub half_is : (a : Rewritten) (k : ℕ) → a ≡ rewritten.Bytes k → 4294967296 * k ≡ rewritten_number a
+pub half_is : (a : Result ℕ Refusal) (k : ℕ) → a ≡ Ok k → 4294967296 * k ≡ rewritten_number a
 half_is a k e = rw e
 
 module _ (x : Reason) (h : NumberWithin x) where
@@ -42,10 +37,10 @@ joined_is x t r e h = rw (h, e)
 pub written_is : (x : Reason) (o : Bool) (p r : ℕ) → x ≡ reason.Written o p → r ≡ 8 + 256 * tag_of o + 65536 * p → r ≡ reason_word x
 written_is x o p r e h = rw (h, e)
 
-pub told_is : (a : Told) (x : Reason) (n : ℕ) → a ≡ telling.Because x → n ≡ reason_word x → 4294967296 * n ≡ told_number a
+pub told_is : (a : Result Reason Refusal) (x : Reason) (n : ℕ) → a ≡ Ok x → n ≡ reason_word x → 4294967296 * n ≡ told_number a
 told_is a x n e h = rw (e, h)
 
-pub reason_within : (a : Told) (x : Reason) → ToldWithin a → a ≡ telling.Because x → NumberWithin x
+pub reason_within : (a : Result Reason Refusal) (x : Reason) → ToldWithin a → a ≡ Ok x → NumberWithin x
 reason_within a x h e = subst ToldWithin e h
 
 pub no_rate : (n : ℕ) → n ≡ 0 → NoRate ≡ rate_from n
@@ -55,8 +50,8 @@ pub some_rate : (n m : ℕ) → n ≢ 0 → m ≡ n → Cents m ≡ rate_from n
 some_rate zero m h e = absurd (h refl)
 some_rate (suc n) m h e = ap (λ (k : ℕ). Cents k) e
 
-pub found_fits : (a : Found) (k : ℕ) → FoundWithin a → a ≡ Records k → 4294967296 * k < 2 ^ 64
+pub found_fits : (a : Result ℕ Refusal) (k : ℕ) → FoundWithin a → a ≡ Ok k → 4294967296 * k < 2 ^ 64
 found_fits a k h e = let l : k ≤ limit.RECORDS = subst FoundWithin e h in omega arith
 
-pub found_is : (a : Found) (k : ℕ) → a ≡ Records k → 4294967296 * k ≡ found_number a
+pub found_is : (a : Result ℕ Refusal) (k : ℕ) → a ≡ Ok k → 4294967296 * k ≡ found_number a
 found_is a k e = rw e

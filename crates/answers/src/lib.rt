@@ -10,61 +10,54 @@ ghost use Rattle.telling.specs.Within.{NumberWithin, ToldWithin};
 ghost use Rattle.windows.specs.Within.{FoundWithin};
 ghost use Rattle.answers.specs.Answers.{opened_number, reply_number, written_number, listed_bytes, rewritten_number, reason_word, told_number, found_number, rate_from};
 
-use audit::Reply;
-use listing::Listed;
-use opening::open::Opened;
+use job::refusal::Refusal;
 use paths::{Written, tag_of};
 use rates::Rate;
-use rewriting::Rewritten;
-use telling::{Reason, Told};
-use windows::Found;
+use telling::Reason;
 
 // ---- the numbers of answers
 
-pub fn opened_number(a: Opened) -> u32
+pub fn opened_number(a: Result<(), Refusal>) -> u32
     ensures { result ≡ opened_number a }
 {
-    match a {
-        Opened::Accepted => 0,
-        Opened::Refused(x) => x.number(),
-    }
+    reply_number(a)
 }
 
-pub fn reply_number(a: Reply) -> u32
+pub fn reply_number(a: Result<(), Refusal>) -> u32
     ensures { result ≡ reply_number a }
 {
     match a {
-        Reply::Done => 0,
-        Reply::Refused(x) => x.number(),
+        Ok(()) => 0,
+        Err(x) => x.number(),
     }
 }
 
-pub fn written_number(a: Written) -> u32
+pub fn written_number(a: Result<Written, Refusal>) -> u32
     ensures { result ≡ written_number a }
 {
     match a {
-        Written::Paths { .. } => 0,
-        Written::Refused(x) => x.number(),
+        Ok(_) => 0,
+        Err(x) => x.number(),
     }
 }
 
-pub fn listed_bytes(a: Listed) -> u64
+pub fn listed_bytes(a: Option<usize>) -> u64
     ensures { result ≡ listed_bytes a }
 {
     match a {
-        Listed::Bytes(n) => n as u64,
-        Listed::NoRoom => 0,
+        Some(n) => n as u64,
+        None => 0,
     }
 }
 
 // In the low half 0 or the refusal's number, in the high half how many bytes the job has.
-pub fn rewritten_number(a: Rewritten) -> u64
+pub fn rewritten_number(a: Result<usize, Refusal>) -> u64
     requires { BytesWithin a LONGEST }
     ensures { result ≡ rewritten_number a }
 {
     match a {
-        Rewritten::Bytes(n) => 4294967296 * n as u64,
-        Rewritten::Refused(x) => x.number() as u64,
+        Ok(n) => 4294967296 * n as u64,
+        Err(x) => x.number() as u64,
     }
 }
 
@@ -101,39 +94,33 @@ fn reason_word(x: Reason) -> u64
 }
 
 // In the low half 0 or the refusal's number, in the high half the reason.
-pub fn told_number(a: Told) -> u64
+pub fn told_number(a: Result<Reason, Refusal>) -> u64
     requires { ToldWithin a }
     ensures { result ≡ told_number a }
 {
     match a {
-        Told::Because(x) => {
+        Ok(x) => {
             let n = reason_word(x);
             return 4294967296 * n;
         }
-        Told::Refused(x) => {
+        Err(x) => {
             return x.number() as u64;
         }
     }
 }
 
 // In the low half 0 or the refusal's number, in the high half how many records were found.
-pub fn found_number(a: Found) -> u64
+pub fn found_number(a: Result<usize, Refusal>) -> u64
     requires { FoundWithin a }
     ensures { result ≡ found_number a }
 {
     match a {
-        Found::Records(n) => 4294967296 * n as u64,
-        Found::Refused(x) => x.number() as u64,
+        Ok(n) => 4294967296 * n as u64,
+        Err(x) => x.number() as u64,
     }
 }
 
 // ---- a rate handed over
-
-fn wide(n: u32) -> u64
-    ensures { result ≡ n }
-{
-    n as u64
-}
 
 // 0 is none; whether another is in the range the listing asks.
 pub fn rate_from(n: u32) -> Rate
@@ -142,5 +129,5 @@ pub fn rate_from(n: u32) -> Rate
     if n == 0 {
         return Rate::NoRate;
     }
-    Rate::Cents(wide(n))
+    Rate::Cents(u64::from(n))
 }

@@ -20,7 +20,7 @@ use primitives::{dispose_out_pt, dispose_out_pts, link_between, new_out_pt, star
 use store::{AT_SPLIT, AT_VALIDITY, Col, WHILE_REMOVING, get, set};
 use turns::{Act, Discard, Due};
 
-// The progress mark of a step due.
+// The progress mark of a step due. A From for it would have to stand in turns, and is no plainer than this match.
 fn mark_of(d: Due) -> usize
     ensures { (result ≡ mark_of (due_is d)) × (result < 2 ^ 32) }
 {
@@ -65,7 +65,7 @@ fn to_first(w: &mut [u32], i: usize, d: Due)
     set(w, Col::Mark, i, m);
 }
 
-// The number that is kept of the rule that discards a ring.
+// The number that is kept of the rule that discards a ring; a From is no plainer here either.
 fn reason_number(y: Discard) -> usize
     ensures { (result ≡ reason_number (discard_is y)) × (result < 2 ^ 32) }
 {
@@ -95,9 +95,9 @@ fn fix_first(w: &mut [u32], i: usize, x: usize, p: usize)
     let f = get(w, Col::First, i);
     if f == x {
         set(w, Col::First, i, p);
-        return;
+    } else {
+        set(w, Col::First, i, f);
     }
-    set(w, Col::First, i, f);
 }
 
 // The present point goes out.
@@ -204,9 +204,9 @@ fn cut_itself(w: &mut [u32], i: usize, v: Point, put: bool, d: Due)
 {
     if put {
         cut_put(w, i, v, d);
-        return;
+    } else {
+        cut_ring(w, i, d);
     }
-    cut_ring(w, i, d);
 }
 
 // A cut, with an offcut or not: `do_split_op`.
@@ -219,7 +219,6 @@ fn cut(w: &mut [u32], i: usize, v: Point, put: bool, off: bool, d: Due)
     cut_itself(w, i, v, put, d);
     if off {
         make_offcut(w, i, x, y, v);
-        return;
     }
 }
 
@@ -229,32 +228,12 @@ pub fn apply(w: &mut [u32], i: usize, act: Act)
     ensures { w.new ≡ after_w raised w.old i (act_is act) }
 {
     match act {
-        Act::Stay => {
-            return;
-        }
-        Act::Discard(y) => {
-            discard_ring(w, i, y);
-            return;
-        }
-        Act::Drop => {
-            drop_point(w, i);
-            return;
-        }
-        Act::MoveOn(d) => {
-            move_on(w, i, d);
-            return;
-        }
-        Act::ToFirst(d) => {
-            to_first(w, i, d);
-            return;
-        }
-        Act::Double(v, d) => {
-            double_point(w, i, v, d);
-            return;
-        }
-        Act::Cut(v, put, off, d) => {
-            cut(w, i, v, put, off, d);
-            return;
-        }
+        Act::Stay => {}
+        Act::Discard(y) => discard_ring(w, i, y),
+        Act::Drop => drop_point(w, i),
+        Act::MoveOn(d) => move_on(w, i, d),
+        Act::ToFirst(d) => to_first(w, i, d),
+        Act::Double(v, d) => double_point(w, i, v, d),
+        Act::Cut(v, put, off, d) => cut(w, i, v, put, off, d),
     }
 }

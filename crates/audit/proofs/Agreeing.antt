@@ -7,6 +7,7 @@ use mathlib.Core.List.{List}
 use native.Mathlib.Omega.{arith}
 use native.Mathlib.Decide.{dec_lt}
 use borrow.Author.Tests.{ne_eqb, eqb-true}
+use Rattle.std.specs.Prelude.{Ok}
 use Rattle.rings.specs.Count.{occ}
 use Rattle.rings.specs.Progress.{is_done}
 use Rattle.rings.specs.Whole.{Whole}
@@ -19,7 +20,6 @@ use Rattle.store.specs.Named.{points_of, records_of, next_of, prev_of, first_of,
 use Rattle.store.specs.Sound.{ringless, ring_at, due_of}
 use Rattle.store.specs.Good.{PointIn, Sound}
 use Rattle.store.proofs.Soundness.{whole, first_on}
-use Rattle.audit.specs.declared.Verdict.TheVariants.{Passed}
 use Rattle.audit.specs.Tests.{reached_by, off_table, no_such, no_such_of, lost_taker, loose, shared, misplaced, untold, tests_of}
 use Rattle.audit.proofs.Reaching.{only_reached}
 use Rattle.audit.proofs.Saying.{all_none, none_reached, table_on, such_not, tied_not, owned_not, taker_not, alone_not, misplaced_not, untold_not, Passing, passing, passed}
@@ -126,12 +126,12 @@ module _ (w : List ℕ) (s : Sound (view w)) where
         explained_all = all_none (records_of w) (untold w) (λ i h. untold_not w i (s.good i h).explained);
       }
 
-pub passed_sound : (w : List ℕ) → tests_of w ≡ Passed → Sound (view w)
+pub passed_sound : (w : List ℕ) → tests_of w ≡ Ok tt → Sound (view w)
 passed_sound w e = passing_sound w (passing w e)
 
-pub sound_passed : (w : List ℕ) → Sound (view w) → tests_of w ≡ Passed
+pub sound_passed : (w : List ℕ) → Sound (view w) → tests_of w ≡ Ok tt
 sound_passed w s = passed w (sound_passing w s)
 
 -- the tests pass exactly when the store is sound
-pub tests_decide : (w : List ℕ) → (tests_of w ≡ Passed) ↔ Sound (view w)
+pub tests_decide : (w : List ℕ) → (tests_of w ≡ Ok tt) ↔ Sound (view w)
 tests_decide w = (passed_sound w, sound_passed w)

@@ -6,5 +6,6 @@ pub mod Marking
 pub mod Reaching
 pub mod Saying
 pub mod Ringing
+pub mod Finding
 pub mod Deciding
 pub mod Agreeing

@@ -10,16 +10,15 @@ use lib.Dec.{ltb}
 use lib.ListN.{length, set, replicate, length-set, length-replicate, get_or-replicate, get_or-eq_default}
 use lib.Seq.{get_or-set_same, get_or-set_other}
 use borrow.Author.Tests.{lt-ltb, le-ltb, ltb-true, ltb-false}
+use Rattle.std.specs.Prelude.{Result}
 use Rattle.job.specs.Limits as limit
+use Rattle.job.specs.declared.refusal.Refusal.{Refusal}
 use Rattle.rings.specs.Count.{occ}
 use Rattle.rings.proofs.Counting.{one_else, occ_head}
 use Rattle.store.specs.Field.{BLOCK}
 use Rattle.store.specs.Named.{points_of, records_of, next_of, first_of}
-use Rattle.audit.specs.declared.Verdict.{Verdict}
-use Rattle.audit.specs.declared.PointTest.{PointTest}
-use Rattle.audit.specs.declared.PointTest.TheVariants.{Table, Numbers, Links}
-use Rattle.audit.specs.Tests.{is_in, any_below, any_reached, any_record, reach, reached_by, crowded, shared, tests_of}
-use Rattle.audit.specs.Marks.{Counted, Clear, is_marked, mark_from, marks_by, meets, AllMarked, fails, any_marked, links_of, passes_of}
+use Rattle.audit.specs.Tests.{is_in, any_below, any_reached, any_record, reach, reached_by, crowded, shared, tests_of, off_table, no_such, loose}
+use Rattle.audit.specs.Marks.{Counted, Clear, is_marked, mark_from, marks_by, meets, AllMarked, any_marked, links_of, passes_of}
 
 -- the marks ms, of at least m places, are those of the points l
 pub record Marks (m : ℕ) (ms l : List ℕ) : Type 0 where
@@ -65,19 +64,19 @@ any_same (suc n) q r h = rw (any_same n q r h, h n)
 -- ---- the tests by the marks
 
 module _ (w ms : List ℕ) (c : Clear w ms) where
-  any_marked_is : (t : PointTest) → any_marked w (marks_by w ms (records_of w)) t ≡ any_reached w (fails t w)
-  any_marked_is t =
-      any_same (points_of w) (λ k. is_marked (marks_by w ms (records_of w)) k && fails t w k) (λ k. is_in k (reached_by w (records_of w)) && fails t w k)
-      (λ k. ap (λ (b : Bool). b && fails t w k) ((marks_are w ms c (records_of w)).is k))
+  any_marked_is : (q : ℕ → Bool) → any_marked w (marks_by w ms (records_of w)) q ≡ any_reached w q
+  any_marked_is q =
+      any_same (points_of w) (λ k. is_marked (marks_by w ms (records_of w)) k && q k) (λ k. is_in k (reached_by w (records_of w)) && q k)
+      (λ k. ap (λ (b : Bool). b && q k) ((marks_are w ms c (records_of w)).is k))
 
   pub meets_is : any_record w (meets w ms) ≡ any_record w (shared w)
   meets_is = any_same (records_of w) (meets w ms) (shared w) (λ i. (marks_are w ms c i).is (first_of w i))
 
   tested_is : crowded w ≡ false → passes_of w (marks_by w ms (records_of w)) (any_record w (meets w ms)) ≡ tests_of w
   unfolding links_of tests_of
-  tested_is e = rw (e, any_marked_is Table, any_marked_is Numbers, any_marked_is Links, meets_is)
+  tested_is e = rw (e, any_marked_is (off_table w), any_marked_is (no_such w), any_marked_is (loose w), meets_is)
 
-  pub in_order : (ms' : List ℕ) (s : Bool) (r : Verdict) → Counted w → AllMarked w ms ms' s → r ≡ passes_of w ms' s → r ≡ tests_of w
+  pub in_order : (ms' : List ℕ) (s : Bool) (r : Result (Unit {0}) Refusal) → Counted w → AllMarked w ms ms' s → r ≡ passes_of w ms' s → r ≡ tests_of w
   in_order ms' s r h a e =
       e ∙ ap (λ (l : List ℕ). passes_of w l s) a.marks ∙ ap (passes_of w (marks_by w ms (records_of w))) a.shares
       ∙ tested_is (rw (le-ltb limit.POINTS (points_of w) h.points, le-ltb limit.RECORDS (records_of w) h.records))

@@ -8,6 +8,7 @@ use native.Mathlib.Omega.{arith}
 use native.Mathlib.Decide.{ℕ_discrete, dec_lt}
 use lib.Dec.{eqb, ltb}
 use borrow.Author.Tests.{eq-eqb, ne_eqb, eqb-true, lt-ltb, le-ltb, ltb-true, ltb-false, not-false}
+use Rattle.std.specs.Prelude.{Ok, Err}
 use Rattle.job.specs.Limits as limit
 use Rattle.job.specs.declared.refusal.Refusal.TheVariants.{Crowded, OffTheTable, NoSuch, Loose, Muddled}
 use Rattle.rings.specs.Count.{occ}
@@ -17,7 +18,6 @@ use Rattle.store.specs.Named.{points_of, records_of, next_of, prev_of, rec_of, o
 use Rattle.store.specs.Reason.{JOINED, is_kept}
 use Rattle.store.specs.Good.{Explained}
 use Rattle.store.specs.Sound.{ringless, ring_at, is_open}
-use Rattle.audit.specs.declared.Verdict.TheVariants.{Passed, Refused}
 use Rattle.audit.specs.Tests.{is_in, any_below, any_reached, any_record, reached_by, crowded, off_table, no_such, no_such_of, names_nothing, lost_taker, loose, shared, misplaced, untold, tests_of}
 use Rattle.audit.proofs.Reaching.{in_true, in_false, true_in, false_in}
 
@@ -212,7 +212,7 @@ pub record Off (c t n l m : Bool) : Type 0 where
   pub links : l ≡ false
   pub rings : m ≡ false
 
-all_off : (c t n l m : Bool) → cond c (Refused Crowded) (cond t (Refused OffTheTable) (cond n (Refused NoSuch) (cond l (Refused Loose) (cond m (Refused Muddled) Passed)))) ≡ Passed → Off c t n l m
+all_off : (c t n l m : Bool) → cond c (Err Crowded) (cond t (Err OffTheTable) (cond n (Err NoSuch) (cond l (Err Loose) (cond m (Err Muddled) (Ok tt))))) ≡ Ok (tt {0}) → Off c t n l m
 all_off true t n l m e = let z : ◌≡◌ {A = ℕ} 0 1 = cc in absurd (omega arith)
 all_off false true n l m e = let z : ◌≡◌ {A = ℕ} 0 1 = cc in absurd (omega arith)
 all_off false false true l m e = let z : ◌≡◌ {A = ℕ} 0 1 = cc in absurd (omega arith)
@@ -233,7 +233,7 @@ module _ (w : List ℕ) where
     pub meant : any_record w (misplaced w) ≡ false
     pub explained_all : any_record w (untold w) ≡ false
 
-  pub passing : tests_of w ≡ Passed → Passing
+  pub passing : tests_of w ≡ Ok tt → Passing
   unfolding tests_of
   passing e =
       let o = all_off (crowded w) (any_reached w (off_table w)) (any_reached w (no_such w) || (any_record w (no_such_of w) || any_record w (lost_taker w))) (any_reached w (loose w)) (any_record w (shared w) || (any_record w (misplaced w) || any_record w (untold w))) e in
@@ -255,6 +255,6 @@ module _ (w : List ℕ) where
         explained_all = u.1;
       }
 
-  pub passed : Passing → tests_of w ≡ Passed
+  pub passed : Passing → tests_of w ≡ Ok tt
   unfolding tests_of
   passed p = rw (le-ltb limit.POINTS (points_of w) p.points, le-ltb limit.RECORDS (records_of w) p.records, p.placed, p.numbered, p.owned, p.taken, p.tied, p.apart, p.meant, p.explained_all)

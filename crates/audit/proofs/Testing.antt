@@ -1,15 +1,16 @@
 -- The loops of the tests, one turn at a time: each law's premises are what the callees ensure, and the branches.
-use Prim.Native.Nat.{ℕ, zero, suc, ◌+◌, ◌-◌, ◌*◌, ◌%◌, ◌≤◌, ◌<◌}
+use Prim.Native.Nat.{ℕ, zero, suc, ◌+◌, ◌*◌, ◌%◌, ◌≤◌, ◌<◌}
 use mathlib.Core.Path.{◌≡◌, refl, ap, ◌∙◌, sym, subst}
 use mathlib.Core.Logic.{◌≢◌}
 use mathlib.Core.Bool.{Bool, true, false, not, ◌&&◌, ◌||◌}
 use mathlib.Core.List.{List}
 use native.Mathlib.Omega.{arith}
 use native.Mathlib.Nat.{zero-add}
-use native.Mathlib.Numerals.{sub-one, add-one}
+use native.Mathlib.Numerals.{add-one}
 use lib.Dec.{eqb, ltb}
 use lib.ListN.{length, get_or, set, get_or-eq_default}
 use borrow.Author.Tests.{eq-eqb, ne_eqb, lt-ltb, le-ltb}
+use Rattle.std.specs.Prelude.{Result, Ok, Err}
 use Rattle.rings.specs.Count.{one, occ}
 use Rattle.rings.specs.Walk.{run}
 use Rattle.rings.proofs.Counting.{one_here, one_else}
@@ -18,14 +19,10 @@ use Rattle.store.specs.Field.{pt, X, Y, NONE}
 use Rattle.store.specs.Words.{view}
 use Rattle.store.specs.Named.{points_of, records_of, next_of, prev_of, rec_of, owner_of, first_of, flags_of, progress_of, present_of, kept_of, taker_of, ring_of}
 use Rattle.store.specs.Reason.{JOINED, is_kept}
+use Rattle.job.specs.declared.refusal.Refusal.{Refusal}
 use Rattle.job.specs.declared.refusal.Refusal.TheVariants.{Crowded, OffTheTable, NoSuch, Loose, Muddled}
-use Rattle.audit.specs.declared.Verdict.{Verdict}
-use Rattle.audit.specs.declared.Verdict.TheVariants.{Passed, Refused}
-use Rattle.audit.specs.declared.PointTest.{PointTest}
-use Rattle.audit.specs.declared.PointTest.TheVariants.{Table, Numbers, Links}
-use Rattle.audit.specs.declared.RecordTest.{RecordTest}
 use Rattle.audit.specs.Tests.{is_in, any_below, any_record, crowded, off_table, no_such, loose, names_nothing, no_such_of, misplaced, tests_of, lost_taker, untold}
-use Rattle.audit.specs.Marks.{is_marked, mark_from, marks_by, meets, AllMarked, faulty, fails, fails_of, any_marked, links_of, passes_of}
+use Rattle.audit.specs.Marks.{is_marked, mark_from, marks_by, meets, AllMarked, faulty, any_marked, links_of, passes_of}
 
 -- ---- tests that fail, and that do not
 
@@ -53,7 +50,7 @@ module _ (q : ℕ → Bool) where
   unfolding any_below
   more i b h e f = rw (add-one, h, sym e ∙ f)
 
-  first : (n i : ℕ) (b : Bool) → i < n → b ≡ q i → b ≡ true → true ≡ any_below n q
+  pub first : (n i : ℕ) (b : Bool) → i < n → b ≡ q i → b ≡ true → true ≡ any_below n q
   unfolding any_below
   first zero i b h e f = absurd (omega arith)
   first (suc n) i b h e f = go (any_below n q) refl (q n) refl (λ l. first n i b l e f)
@@ -101,10 +98,13 @@ module _ (n : ℕ → ℕ) (m p : ℕ) (ms F : List ℕ) where
   mark_met zero c d l h e = e
   mark_met (suc k) c d l h e = rw (lt-ltb p m (omega arith), ne_eqb (get_or ms p 0) 0 h) at e
 
-  pub mark_on : (k c q : ℕ) → 0 < k → c ≡ m → p < c → get_or ms p 0 ≡ 0 → q ≡ n p → mark_from k n m ms p ≡ F → mark_from (k - 1) n m (set ms p 1) q ≡ F
+  -- j turns left after this one
+  pub mark_on : (k j c q : ℕ) → k ≡ j + 1 → c ≡ m → p < c → get_or ms p 0 ≡ 0 → q ≡ n p → mark_from k n m ms p ≡ F → mark_from j n m (set ms p 1) q ≡ F
   unfolding mark_from
-  mark_on zero c q z d l h g e = absurd (omega arith)
-  mark_on (suc k) c q z d l h g e = rw (sub-one, g) (rw (lt-ltb p m (omega arith), eq-eqb (get_or ms p 0) 0 h) at e)
+  mark_on k j c q z d l h g e = rw g (rw (lt-ltb p m (omega arith), eq-eqb (get_or ms p 0) 0 h) at f)
+    where
+      f : mark_from (suc j) n m ms p ≡ F
+      f = rw (z, add-one) at e
 
   pub mark_over : (k : ℕ) → k ≤ 0 → mark_from k n m ms p ≡ F → ms ≡ F
   unfolding mark_from
@@ -171,10 +171,13 @@ module _ (n : ℕ → ℕ) (stop p k : ℕ) (F : Bool) where
   ring_back zero q z d g h e = absurd (omega arith)
   ring_back (suc f) q z d g h e = rw (eq-eqb (n p) stop (sym g ∙ h), one_else k p d) at e
 
-  pub ring_on : (f q : ℕ) → 0 < f → p ≢ k → q ≡ n p → q ≢ stop → is_in k (run n stop f p) ≡ F → is_in k (run n stop (f - 1) q) ≡ F
+  -- j turns left after this one
+  pub ring_on : (f j q : ℕ) → f ≡ j + 1 → p ≢ k → q ≡ n p → q ≢ stop → is_in k (run n stop f p) ≡ F → is_in k (run n stop j q) ≡ F
   unfolding run
-  ring_on zero q z d g h e = absurd (omega arith)
-  ring_on (suc f) q z d g h e = rw (sub-one, g) (rw (ne_eqb (n p) stop (λ y. h (g ∙ y)), one_else k p d, zero-add) at e)
+  ring_on f j q z d g h e = rw g (rw (ne_eqb (n p) stop (λ y. h (g ∙ y)), one_else k p d, zero-add) at x)
+    where
+      x : is_in k (run n stop (suc j) p) ≡ F
+      x = rw (z, add-one) at e
 
   pub ring_over : (f : ℕ) → f ≤ 0 → is_in k (run n stop f p) ≡ F → false ≡ F
   unfolding run
@@ -209,32 +212,32 @@ module _ (w : List ℕ) (i f : ℕ) (ef : f ≡ first_of w i) where
 
 -- ---- the tests together
 
-module _ (w ms : List ℕ) (s a : Bool) (ea : a ≡ (any_marked w ms Numbers || (any_record w (no_such_of w) || any_record w (lost_taker w)))) where
-  pub says_no_such : a ≡ true → Refused NoSuch ≡ links_of w ms s
+module _ (w ms : List ℕ) (s a : Bool) (ea : a ≡ (any_marked w ms (no_such w) || (any_record w (no_such_of w) || any_record w (lost_taker w)))) where
+  pub says_no_such : a ≡ true → Err NoSuch ≡ links_of w ms s
   unfolding links_of
   says_no_such h = rw (sym ea ∙ h)
 
-  module _ (ha : a ≡ false) (b : Bool) (eb : b ≡ any_marked w ms Links) where
-    pub says_loose : b ≡ true → Refused Loose ≡ links_of w ms s
+  module _ (ha : a ≡ false) (b : Bool) (eb : b ≡ any_marked w ms (loose w)) where
+    pub says_loose : b ≡ true → Err Loose ≡ links_of w ms s
     unfolding links_of
     says_loose h = rw (sym ea ∙ ha, sym eb ∙ h)
 
     module _ (hb : b ≡ false) (d : Bool) (ed : d ≡ (s || (any_record w (misplaced w) || any_record w (untold w)))) where
-      pub says_muddled : d ≡ true → Refused Muddled ≡ links_of w ms s
+      pub says_muddled : d ≡ true → Err Muddled ≡ links_of w ms s
       unfolding links_of
       says_muddled h = rw (sym ea ∙ ha, sym eb ∙ hb, sym ed ∙ h)
 
-      pub says_passed : d ≡ false → Passed ≡ links_of w ms s
+      pub says_passed : d ≡ false → Ok tt ≡ links_of w ms s
       unfolding links_of
       says_passed h = rw (sym ea ∙ ha, sym eb ∙ hb, sym ed ∙ h)
 
-pub says_off : (w ms : List ℕ) (s a : Bool) → a ≡ any_marked w ms Table → a ≡ true → Refused OffTheTable ≡ passes_of w ms s
+pub says_off : (w ms : List ℕ) (s a : Bool) → a ≡ any_marked w ms (off_table w) → a ≡ true → Err OffTheTable ≡ passes_of w ms s
 says_off w ms s a e h = rw (sym e ∙ h)
 
-pub says_links : (w ms : List ℕ) (s a : Bool) (r : Verdict) → a ≡ any_marked w ms Table → a ≡ false → r ≡ links_of w ms s → r ≡ passes_of w ms s
+pub says_links : (w ms : List ℕ) (s a : Bool) (r : Result (Unit {0}) Refusal) → a ≡ any_marked w ms (off_table w) → a ≡ false → r ≡ links_of w ms s → r ≡ passes_of w ms s
 says_links w ms s a r e h g = rw (sym e ∙ h) g
 
-pub says_crowded : (w : List ℕ) (b : Bool) → b ≡ crowded w → b ≡ true → Refused Crowded ≡ tests_of w
+pub says_crowded : (w : List ℕ) (b : Bool) → b ≡ crowded w → b ≡ true → Err Crowded ≡ tests_of w
 unfolding tests_of
 says_crowded w b e h = rw (sym e ∙ h)
 
@@ -262,12 +265,6 @@ module _ (w : List ℕ) (i : ℕ) where
 
   pub says_untold : (f r : ℕ) → f ≡ first_of w i → r ≡ kept_of w i → (eqb f NONE && not (is_kept r)) ≡ untold w i
   says_untold f r ef er = rw (ef, er)
-
-pub by_point_test : (w : List ℕ) (k : ℕ) (t u : PointTest) (r : Bool) → t ≡ u → r ≡ fails u w k → r ≡ fails t w k
-by_point_test w k t u r e h = rw e h
-
-pub by_record_test : (w : List ℕ) (i : ℕ) (t u : RecordTest) (r : Bool) → t ≡ u → r ≡ fails_of u w i → r ≡ fails_of t w i
-by_record_test w i t u r e h = rw e h
 
 -- ---- tests beside each other
 

@@ -1,16 +1,12 @@
--- The tests as the code goes through them in order: one mark for each point, set by the walks; and a test by its name.
+-- The tests as the code goes through them in order: one mark for each point, set by the walks.
 use Rattle.std.specs.Prelude.{ℕ, zero, suc, ◌≤◌, ◌≡◌, Bool, false, cond, not, ◌&&◌, ◌||◌, List, eqb, ltb, length, get_or, set}
+use Rattle.std.specs.Prelude.{Err, Ok, Result}
 use Rattle.job.specs.Limits as limit
+use Rattle.job.specs.declared.refusal.Refusal.{Refusal}
 use Rattle.job.specs.declared.refusal.Refusal.TheVariants.{OffTheTable, NoSuch, Loose, Muddled}
-use Rattle.audit.specs.declared.Verdict.{Verdict}
-use Rattle.audit.specs.declared.Verdict.TheVariants.{Passed, Refused}
 use Rattle.store.specs.Field.{BLOCK}
 use Rattle.store.specs.Named.{points_of, records_of, next_of, prev_of, rec_of, first_of}
 use Rattle.audit.specs.Tests.{any_below, any_record, off_table, no_such, loose, no_such_of, lost_taker, misplaced, untold}
-use Rattle.audit.specs.declared.PointTest.{PointTest}
-use Rattle.audit.specs.declared.PointTest.TheVariants.{Table, Numbers, Links}
-use Rattle.audit.specs.declared.RecordTest.{RecordTest}
-use Rattle.audit.specs.declared.RecordTest.TheVariants.{Named, Taken, Placed, Explained}
 
 -- a work space whose counts are within the limits
 pub record Counted (w : List ℕ) : Type 0 where
@@ -47,33 +43,22 @@ pub record AllMarked (w ms ms' : List ℕ) (r : Bool) : Type 0 where
   pub marks : ms' ≡ marks_by w ms (records_of w)
   pub shares : r ≡ any_below (records_of w) (λ i. meets w ms i)
 
-abbrev pub fails : PointTest → List ℕ → ℕ → Bool
-fails Table w k = off_table w k
-fails Numbers w k = no_such w k
-fails Links w k = loose w k
-
 -- a point fails a test that a round asks: its next, record, prev of next, and coordinates
 abbrev pub faulty : List ℕ → ℕ → Bool
 faulty w k =
     not (ltb (next_of w k) (points_of w))
     || (not (ltb (rec_of w k) (records_of w)) || (not (eqb (prev_of w (next_of w k)) k) || off_table w k))
 
-abbrev pub fails_of : RecordTest → List ℕ → ℕ → Bool
-fails_of Named w i = no_such_of w i
-fails_of Taken w i = lost_taker w i
-fails_of Placed w i = misplaced w i
-fails_of Explained w i = untold w i
-
 -- a marked point fails the test
-abbrev pub any_marked : List ℕ → List ℕ → PointTest → Bool
-any_marked w ms t = any_below (points_of w) (λ k. is_marked ms k && fails t w k)
+abbrev pub any_marked : List ℕ → List ℕ → (ℕ → Bool) → Bool
+any_marked w ms q = any_below (points_of w) (λ k. is_marked ms k && q k)
 
 -- the tests by the marks; whether records share a ring is known by then
-unfoldable pub links_of : List ℕ → List ℕ → Bool → Verdict
+unfoldable pub links_of : List ℕ → List ℕ → Bool → Result (Unit {0}) Refusal
 links_of w ms shares =
-    cond (any_marked w ms Numbers || (any_record w (λ i. no_such_of w i) || any_record w (λ i. lost_taker w i))) (Refused NoSuch)
-    (cond (any_marked w ms Links) (Refused Loose)
-    (cond (shares || (any_record w (λ i. misplaced w i) || any_record w (λ i. untold w i))) (Refused Muddled) Passed))
+    cond (any_marked w ms (λ k. no_such w k) || (any_record w (λ i. no_such_of w i) || any_record w (λ i. lost_taker w i))) (Err NoSuch)
+    (cond (any_marked w ms (λ k. loose w k)) (Err Loose)
+    (cond (shares || (any_record w (λ i. misplaced w i) || any_record w (λ i. untold w i))) (Err Muddled) (Ok tt)))
 
-abbrev pub passes_of : List ℕ → List ℕ → Bool → Verdict
-passes_of w ms shares = cond (any_marked w ms Table) (Refused OffTheTable) (links_of w ms shares)
+abbrev pub passes_of : List ℕ → List ℕ → Bool → Result (Unit {0}) Refusal
+passes_of w ms shares = cond (any_marked w ms (λ k. off_table w k)) (Err OffTheTable) (links_of w ms shares)

@@ -1,11 +1,10 @@
 -- The tests of a handed work space: document 01, "A step, or writing out after steps, first tests the work space it is handed".
-use Rattle.std.specs.Prelude.{ℕ, zero, suc, Bool, false, cond, not, ◌&&◌, ◌||◌, List, [], ◌∷◌, eqb, ltb}
+use Rattle.std.specs.Prelude.{ℕ, zero, suc, Bool, false, cond, not, ◌&&◌, ◌||◌, List, [], ◌∷◌, eqb, ltb, Result, Ok, Err}
 use Rattle.rings.specs.Count.{occ}
 use Rattle.job.specs.Limits as limit
 use Rattle.job.specs.Coordinate.{off_the_table}
+use Rattle.job.specs.declared.refusal.Refusal.{Refusal}
 use Rattle.job.specs.declared.refusal.Refusal.TheVariants.{Crowded, OffTheTable, NoSuch, Loose, Muddled}
-use Rattle.audit.specs.declared.Verdict.{Verdict}
-use Rattle.audit.specs.declared.Verdict.TheVariants.{Passed, Refused}
 use Rattle.store.specs.Field.{pt, X, Y, NEXT, NONE}
 use Rattle.store.specs.Words.{view}
 use Rattle.store.specs.Named.{points_of, records_of, next_of, prev_of, rec_of, owner_of, first_of, progress_of, present_of, kept_of, taker_of}
@@ -89,10 +88,10 @@ untold w i = ringless (view w) i && not (is_kept (kept_of w i))
 -- ---- the tests together, in the paper's order
 
 -- the first that fails
-unfoldable pub tests_of : List ℕ → Verdict
+unfoldable pub tests_of : List ℕ → Result (Unit {0}) Refusal
 tests_of w =
-    cond (crowded w) (Refused Crowded)
-    (cond (any_reached w (λ k. off_table w k)) (Refused OffTheTable)
-    (cond (any_reached w (λ k. no_such w k) || (any_record w (λ i. no_such_of w i) || any_record w (λ i. lost_taker w i))) (Refused NoSuch)
-    (cond (any_reached w (λ k. loose w k)) (Refused Loose)
-    (cond (any_record w (λ i. shared w i) || (any_record w (λ i. misplaced w i) || any_record w (λ i. untold w i))) (Refused Muddled) Passed))))
+    cond (crowded w) (Err Crowded)
+    (cond (any_reached w (λ k. off_table w k)) (Err OffTheTable)
+    (cond (any_reached w (λ k. no_such w k) || (any_record w (λ i. no_such_of w i) || any_record w (λ i. lost_taker w i))) (Err NoSuch)
+    (cond (any_reached w (λ k. loose w k)) (Err Loose)
+    (cond (any_record w (λ i. shared w i) || (any_record w (λ i. misplaced w i) || any_record w (λ i. untold w i))) (Err Muddled) (Ok tt)))))

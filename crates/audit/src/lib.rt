@@ -5,12 +5,11 @@ pub mod points;
 pub mod records;
 mod walks;
 
-ghost use Rattle.std.specs.Prelude.{◌≡◌, ◌||◌, ◌≤◌, length};
+ghost use Rattle.std.specs.Prelude.{◌≡◌, ◌||◌, ◌≤◌, ℕ, Bool, length};
 ghost use Rattle.store.specs.Field.{BLOCK};
 ghost use Rattle.store.specs.Named.{records_of};
-ghost use Rattle.audit.specs.Tests.{any_below, no_such_of, lost_taker, misplaced, untold, crowded, any_record, tests_of};
-ghost use Rattle.audit.specs.declared.PointTest.TheVariants.{Numbers};
-ghost use Rattle.audit.specs.Marks.{Counted, fails, fails_of, any_marked, links_of, passes_of};
+ghost use Rattle.audit.specs.Tests.{any_below, no_such, no_such_of, lost_taker, misplaced, untold, crowded, any_record, tests_of};
+ghost use Rattle.audit.specs.Marks.{Counted, any_marked, links_of, passes_of};
 
 use crate::points::{loose, no_such, off_table};
 use crate::records::{lost_taker, misplaced, no_such_of, untold};
@@ -18,37 +17,6 @@ use crate::walks::{any_marked, mark_all};
 use job::Job;
 use job::refusal::Refusal;
 use store::{Col, get};
-
-// What the tests of a work space say.
-#[derive(Clone, Copy)]
-pub enum Verdict {
-    Passed,
-    Refused(Refusal),
-}
-
-// What a call answers that changes what it is lent: done, or a refusal.
-#[derive(Clone, Copy)]
-pub enum Reply {
-    Done,
-    Refused(Refusal),
-}
-
-// A test of a reached point: its coordinates, its numbers, its links.
-#[derive(Clone, Copy)]
-pub enum PointTest {
-    Table,
-    Numbers,
-    Links,
-}
-
-// A test of a record: its numbers, the record that took it, its progress, why it has no ring.
-#[derive(Clone, Copy)]
-pub enum RecordTest {
-    Named,
-    Taken,
-    Placed,
-    Explained,
-}
 
 // Whether a count is above its limit.
 pub fn crowded(w: &[u32]) -> bool
@@ -60,60 +28,13 @@ pub fn crowded(w: &[u32]) -> bool
     (Job::POINTS < m) | (Job::RECORDS < n)
 }
 
-// ---- one test, by its name
-
-pub fn point_fails(w: &[u32], t: PointTest, k: usize) -> bool
-    requires { BLOCK ≤ length w.now }
-    ensures { result ≡ fails t w.now k }
-{
-    match t {
-        PointTest::Table => {
-            return off_table(w, k);
-        }
-        PointTest::Numbers => {
-            return no_such(w, k);
-        }
-        PointTest::Links => {
-            return loose(w, k);
-        }
-    }
-}
-
-fn record_fails(w: &[u32], t: RecordTest, i: usize) -> bool
-    requires { BLOCK ≤ length w.now }
-    ensures { result ≡ fails_of t w.now i }
-{
-    match t {
-        RecordTest::Named => {
-            return no_such_of(w, i);
-        }
-        RecordTest::Taken => {
-            return lost_taker(w, i);
-        }
-        RecordTest::Placed => {
-            return misplaced(w, i);
-        }
-        RecordTest::Explained => {
-            return untold(w, i);
-        }
-    }
-}
-
 // Whether a record fails the test.
-pub fn any_record(w: &[u32], t: RecordTest) -> bool
-    requires { BLOCK ≤ length w.now }
-    ensures { result ≡ any_below (records_of w.now) (fails_of t w.now) }
+fn any_record<F: Fn(usize) -> bool>(w: &[u32], fails: F) -> bool
+    requires long { BLOCK ≤ length w.now }
+    requires callable { F.IsAlwaysCallable fails }
+    ensures { (q : ℕ → Bool) → ((i : ℕ) (r : Bool) → F.post fails i r → r ≡ q i) → result ≡ any_below (records_of w.now) q }
 {
-    let n = get(w, Col::Records, 0);
-    let mut i: usize = 0;
-    while i < n {
-        let found = record_fails(w, t, i);
-        if found {
-            return true;
-        }
-        i += 1;
-    }
-    false
+    (0..get(w, Col::Records, 0)).any(|i| fails(i))
 }
 
 // ---- all tests, in order
@@ -121,11 +42,11 @@ pub fn any_record(w: &[u32], t: RecordTest) -> bool
 // Whether a number names nothing: of a marked point, a record's owner's or first point's, or a taker's.
 fn any_no_such(w: &[u32], marks: &[u8]) -> bool
     requires { BLOCK ≤ length w.now }
-    ensures { result ≡ (any_marked w.now marks.now Numbers || (any_record w.now (no_such_of w.now) || any_record w.now (lost_taker w.now))) }
+    ensures { result ≡ (any_marked w.now marks.now (no_such w.now) || (any_record w.now (no_such_of w.now) || any_record w.now (lost_taker w.now))) }
 {
-    let a = any_marked(w, marks, PointTest::Numbers);
-    let b = any_record(w, RecordTest::Named);
-    let c = any_record(w, RecordTest::Taken);
+    let a = any_marked(w, marks, |k| no_such(w, k));
+    let b = any_record(w, |i| no_such_of(w, i));
+    let c = any_record(w, |i| lost_taker(w, i));
     a | (b | c)
 }
 
@@ -137,45 +58,41 @@ fn any_muddled(w: &[u32], shares: bool) -> bool
     if shares {
         return true;
     }
-    let a = any_record(w, RecordTest::Placed);
-    let b = any_record(w, RecordTest::Explained);
+    let a = any_record(w, |i| misplaced(w, i));
+    let b = any_record(w, |i| untold(w, i));
     a | b
 }
 
 // The tests after the coordinates: numbers, links, rings and progress.
-fn links_of(w: &[u32], marks: &[u8], shares: bool) -> Verdict
+fn links_of(w: &[u32], marks: &[u8], shares: bool) -> Result<(), Refusal>
     requires { BLOCK ≤ length w.now }
     ensures { result ≡ links_of w.now marks.now shares }
 {
-    let a = any_no_such(w, marks);
-    if a {
-        return Verdict::Refused(Refusal::NoSuch);
+    if any_no_such(w, marks) {
+        return Err(Refusal::NoSuch);
     }
-    let b = any_marked(w, marks, PointTest::Links);
-    if b {
-        return Verdict::Refused(Refusal::Loose);
+    if any_marked(w, marks, |k| loose(w, k)) {
+        return Err(Refusal::Loose);
     }
-    let d = any_muddled(w, shares);
-    if d {
-        return Verdict::Refused(Refusal::Muddled);
+    if any_muddled(w, shares) {
+        return Err(Refusal::Muddled);
     }
-    Verdict::Passed
+    Ok(())
 }
 
 // The tests after the counts, one after the other.
-fn passes_of(w: &[u32], marks: &[u8], shares: bool) -> Verdict
+fn passes_of(w: &[u32], marks: &[u8], shares: bool) -> Result<(), Refusal>
     requires { BLOCK ≤ length w.now }
     ensures { result ≡ passes_of w.now marks.now shares }
 {
-    let a = any_marked(w, marks, PointTest::Table);
-    if a {
-        return Verdict::Refused(Refusal::OffTheTable);
+    if any_marked(w, marks, |k| off_table(w, k)) {
+        return Err(Refusal::OffTheTable);
     }
     links_of(w, marks, shares)
 }
 
 // The tests after the counts, in their order.
-pub fn in_order(w: &[u32]) -> Verdict
+pub fn in_order(w: &[u32]) -> Result<(), Refusal>
     requires { Counted w.now }
     ensures { result ≡ tests_of w.now }
 {
@@ -185,13 +102,12 @@ pub fn in_order(w: &[u32]) -> Verdict
 }
 
 // The tests of the live block, in their order.
-pub fn tests_of(w: &[u32]) -> Verdict
+pub fn tests_of(w: &[u32]) -> Result<(), Refusal>
     requires { BLOCK ≤ length w.now }
     ensures { result ≡ tests_of w.now }
 {
-    let many = crowded(w);
-    if many {
-        return Verdict::Refused(Refusal::Crowded);
+    if crowded(w) {
+        return Err(Refusal::Crowded);
     }
     in_order(w)
 }

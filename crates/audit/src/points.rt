@@ -12,7 +12,7 @@ use store::{Col, get, read};
 // The word of the largest coordinate.
 pub const FAR: usize = 2 * (Job::COORDINATE as usize);
 
-pub(crate) fn off_table(w: &[u32], k: usize) -> bool
+pub fn off_table(w: &[u32], k: usize) -> bool
     requires { BLOCK ≤ length w.now }
     ensures { result ≡ off_table w.now k }
 {
@@ -21,7 +21,7 @@ pub(crate) fn off_table(w: &[u32], k: usize) -> bool
     (FAR < x) | (FAR < y)
 }
 
-pub(crate) fn no_such(w: &[u32], k: usize) -> bool
+pub fn no_such(w: &[u32], k: usize) -> bool
     requires { BLOCK ≤ length w.now }
     ensures { result ≡ no_such w.now k }
 {
@@ -33,7 +33,7 @@ pub(crate) fn no_such(w: &[u32], k: usize) -> bool
     !(a < m) | (!(b < m) | !(r < n))
 }
 
-pub(crate) fn loose(w: &[u32], k: usize) -> bool
+pub fn loose(w: &[u32], k: usize) -> bool
     requires { BLOCK ≤ length w.now }
     ensures { result ≡ loose w.now k }
 {

@@ -14,7 +14,7 @@ pub fn names_nothing(n: usize, v: usize) -> bool
     !(v == NONE) & !(v < n)
 }
 
-pub(crate) fn no_such_of(w: &[u32], i: usize) -> bool
+pub fn no_such_of(w: &[u32], i: usize) -> bool
     requires { BLOCK ≤ length w.now }
     ensures { result ≡ no_such_of w.now i }
 {
@@ -53,8 +53,7 @@ fn is_on_ring(w: &[u32], a: usize, k: usize) -> bool
     ensures { result ≡ is_in k (ring_of w.now a) }
 {
     let mut p = a;
-    let mut left: usize = Job::POINTS;
-    while 0 < left {
+    for _turn in 0..Job::POINTS {
         if p == k {
             return true;
         }
@@ -62,7 +61,6 @@ fn is_on_ring(w: &[u32], a: usize, k: usize) -> bool
         if p == a {
             return false;
         }
-        left -= 1;
     }
     false
 }

@@ -1,11 +1,10 @@
 // The walks along next from the first points, which mark what they reach; and the marked points, by one test.
-ghost use Rattle.std.specs.Prelude.{◌≡◌, ◌&&◌, ◌≤◌, length};
+ghost use Rattle.std.specs.Prelude.{◌≡◌, ◌≤◌, ℕ, Bool, length};
 ghost use Rattle.job.specs.Limits as limit;
 ghost use Rattle.store.specs.Field.{BLOCK};
 ghost use Rattle.store.specs.Named.{points_of, next_of};
-ghost use Rattle.audit.specs.Marks.{Counted, is_marked, mark_from, AllMarked, fails, any_marked};
+ghost use Rattle.audit.specs.Marks.{Counted, is_marked, mark_from, AllMarked, any_marked};
 
-use crate::{PointTest, point_fails};
 use job::Job;
 use store::{Col, get};
 
@@ -25,8 +24,7 @@ fn mark_from(w: &[u32], marks: &mut [u8], m: usize, a: usize)
     ensures { marks.new ≡ mark_from limit.POINTS (next_of w.now) (points_of w.now) marks.old a }
 {
     let mut p = a;
-    let mut left: usize = Job::POINTS;
-    while 0 < left {
+    for _turn in 0..Job::POINTS {
         if m <= p {
             return;
         }
@@ -35,7 +33,6 @@ fn mark_from(w: &[u32], marks: &mut [u8], m: usize, a: usize)
         }
         marks[p] = 1;
         p = get(w, Col::Next, p);
-        left -= 1;
     }
 }
 
@@ -45,46 +42,22 @@ pub fn mark_all(w: &[u32], marks: &mut [u8]) -> bool
     ensures { AllMarked w.now marks.old marks.new result }
 {
     let m = get(w, Col::Points, 0);
-    let n = get(w, Col::Records, 0);
     let mut shared = false;
-    let mut i: usize = 0;
-    while i < n {
+    for i in 0..get(w, Col::Records, 0) {
         let a = get(w, Col::First, i);
-        let met = is_marked(marks, a);
-        shared = shared | met;
+        shared = shared | is_marked(marks, a);
         mark_from(w, marks, m, a);
-        i += 1;
     }
     shared
 }
 
 // ---- the marked points, by one test
 
-// Whether the point is marked and fails the test.
-fn marked_fails(w: &[u32], marks: &[u8], t: PointTest, k: usize) -> bool
-    requires { BLOCK ≤ length w.now }
-    ensures { result ≡ (is_marked marks.now k && fails t w.now k) }
-{
-    let marked = is_marked(marks, k);
-    if marked {
-        return point_fails(w, t, k);
-    }
-    false
-}
-
 // Whether a marked point fails the test.
-pub fn any_marked(w: &[u32], marks: &[u8], t: PointTest) -> bool
-    requires { BLOCK ≤ length w.now }
-    ensures { result ≡ any_marked w.now marks.now t }
+pub fn any_marked<F: Fn(usize) -> bool>(w: &[u32], marks: &[u8], fails: F) -> bool
+    requires long { BLOCK ≤ length w.now }
+    requires callable { F.IsAlwaysCallable fails }
+    ensures { (q : ℕ → Bool) → ((k : ℕ) (r : Bool) → F.post fails k r → r ≡ q k) → result ≡ any_marked w.now marks.now q }
 {
-    let m = get(w, Col::Points, 0);
-    let mut k: usize = 0;
-    while k < m {
-        let found = marked_fails(w, marks, t, k);
-        if found {
-            return true;
-        }
-        k += 1;
-    }
-    false
+    (0..get(w, Col::Points, 0)).any(|k| is_marked(marks, k) && fails(k))
 }

@@ -6,8 +6,9 @@ ghost use Rattle.job.specs.Limits as limit;
 ghost use Rattle.store.specs.Field.{size, BLOCK};
 ghost use Rattle.store.specs.Column.{column_of};
 
-use audit::{Verdict, tests_of};
+use audit::tests_of;
 use job::Job;
+use job::refusal::Refusal;
 use primitives::start_record;
 use std::io;
 use store::{Col, JOINED, LENGTH, NO_RING, NONE, set};
@@ -49,22 +50,11 @@ fn build(w: &mut [u32])
 }
 
 // What the tests say.
-fn say<R: Print>(rt: &R, v: Verdict) -> io::Result<()> {
+fn say<R: Print>(rt: &R, v: Result<(), Refusal>) -> io::Result<()> {
     match v {
-        Verdict::Passed => println!(rt; "passed"),
-        Verdict::Refused(r) => {
-            let n = r.number();
-            let mut line = *b"refused   \n";
-            line[8] = digit(n / 10);
-            line[9] = digit(n % 10);
-            rt.write_all(&line)
-        }
+        Ok(()) => println!(rt; "passed"),
+        Err(r) => println!(rt; "refused {:02}", r.number()),
     }
-}
-
-// A digit.
-fn digit(n: u32) -> u8 {
-    48 + (n % 10) as u8
 }
 
 // The good work space with one word altered.

@@ -1,6 +1,6 @@
 -- The walk that finds a ring's box, one turn at a time; and the box of a record's ring.
 use Prim.Native.Nat.{ℕ, zero, suc, ◌-◌, ◌<◌, ◌≤◌}
-use mathlib.Core.Path.{◌≡◌, refl, sym, ap, ◌∙◌}
+use mathlib.Core.Path.{◌≡◌, refl, sym, ap, ◌∙◌, subst}
 use mathlib.Core.Logic.{◌≢◌}
 use mathlib.Core.Bool.{Bool, true, false, cond, not}
 use mathlib.Core.List.{List, []}
@@ -65,6 +65,13 @@ module _ (w : List ℕ) (a : ℕ) where
         go zero z i = absurd (omega arith)
         go (suc f) z i = rw (sub-one, g, e) (rw (ne_eqb p a d) at i)
 
+    -- the same with g points to go after it
+    pub onward : (c : Sides) (q g : ℕ) → suc g ≡ f → p ≢ a → c ≡ widen_sides (view w) b p → q ≡ next_of w p → widen_along (view w) b (rest (next_of w) a f p) ≡ found (view w) a
+        → widen_along (view w) c (rest (next_of w) a g q) ≡ found (view w) a
+    onward c q g s d e h i =
+        let k : f - 1 ≡ g = omega arith in
+        subst (λ (j : ℕ). widen_along (view w) c (rest (next_of w) a j q) ≡ found (view w) a) k (on c q (omega arith) d e h i)
+
 -- ---- a record's ring
 
 module _ (s : Store) (i : ℕ) where
@@ -100,6 +107,9 @@ module _ (w : List ℕ) (i a : ℕ) (e : a ≡ first_of w i) where
   says_misboxed d b c x eb ec ex =
       ap not (ex ∙ ap (same_sides c) eb ∙ sym (same_means c (sides_at w i)))
       ∙ sym (ap (λ (o : Option Rect). differs o (box_at w i)) (ringed d c ec))
+
+  pub misboxed_is : a ≢ NONE → (b c : Sides) (x : Bool) → b ≡ sides_at w i → box_from (view w) a ≡ some (rect_of c) → x ≡ not (same_sides c b) → x ≡ misboxed w i
+  misboxed_is d b c x eb ec ex = ex ∙ says_misboxed d b c (same_sides c b) eb ec refl
 
 pub none_small : Small (record { left = 0; top = 0; right = 0; bottom = 0 })
 none_small = record { left = omega arith; top = omega arith; right = omega arith; bottom = omega arith }

@@ -1,5 +1,5 @@
 -- Least and greatest by words are those by value: raising keeps the order. And what the steps of the walk come to.
-use Prim.Native.Nat.{ℕ, suc, ◌-◌, ◌<◌, ◌≤◌, ◌^◌}
+use Prim.Native.Nat.{ℕ, suc, ◌-◌, ◌<◌, ◌≤◌, ◌^◌, min, max}
 use mathlib.Core.Path.{◌≡◌, refl, sym, ap, ◌∙◌}
 use mathlib.Core.Bool.{Bool, true, false, cond}
 use mathlib.Core.List.{List, [], ◌∷◌, map}
@@ -105,10 +105,25 @@ most_first a b h = rw (le-ltb a b h)
 pub point_is : (s : Store) (k x y : ℕ) → x ≡ s (pt X) k → y ≡ s (pt Y) k → record { left = x; top = y; right = x; bottom = y } ≡ point_sides s k
 point_is s k x y ex ey = rw (ex, ey)
 
-pub sides_by : (b : Sides) (x y l t r m : ℕ) → l ≡ least b.left x → t ≡ least b.top y → r ≡ most b.right x → m ≡ most b.bottom y
+-- the library's least and greatest
+least_is : (a b : ℕ) → min a b ≡ least a b
+least_is a b = by (dec_lt b a)
+  where
+    by : Dec (b < a) → min a b ≡ least a b
+    by (yes l) = let e : min a b ≡ b = omega arith in e ∙ least_second a b l
+    by (no n) = let e : min a b ≡ a = omega arith in e ∙ least_first a b (omega arith)
+
+most_is : (a b : ℕ) → max a b ≡ most a b
+most_is a b = by (dec_lt a b)
+  where
+    by : Dec (a < b) → max a b ≡ most a b
+    by (yes l) = let e : max a b ≡ b = omega arith in e ∙ most_second a b l
+    by (no n) = let e : max a b ≡ a = omega arith in e ∙ most_first a b (omega arith)
+
+pub sides_by : (b : Sides) (x y l t r m : ℕ) → l ≡ min b.left x → t ≡ min b.top y → r ≡ max b.right x → m ≡ max b.bottom y
     → record { left = l; top = t; right = r; bottom = m } ≡ widen_by b x y
 unfolding widen_by
-sides_by b x y l t r m el et er em = rw (el, et, er, em)
+sides_by b x y l t r m el et er em = rw (el ∙ least_is b.left x, et ∙ least_is b.top y, er ∙ most_is b.right x, em ∙ most_is b.bottom y)
 
 pub widen_is : (s : Store) (b c : Sides) (k x y : ℕ) → x ≡ s (pt X) k → y ≡ s (pt Y) k → c ≡ widen_by b x y → c ≡ widen_sides s b k
 widen_is s b c k x y ex ey e = rw (← ex, ← ey) e

@@ -9,31 +9,11 @@ ghost use Rattle.store.specs.Words.{view};
 ghost use Rattle.store.specs.Named.{records_of};
 ghost use Rattle.store.specs.Boxes.{rect_of, sides_of, ring_box, misboxed, boxed_at, all_boxed};
 ghost use Rattle.store.specs.Needs.{Small};
-ghost use Rattle.bounds.specs.Along.{least, most, point_sides, widen_by, widen_sides, box_from, same_sides};
+ghost use Rattle.bounds.specs.Along.{point_sides, widen_by, widen_sides, box_from, same_sides};
 
 use job::Job;
 use store::boxed::{Sides, set_sides, sides_of};
 use store::{Col, NONE, get, read};
-
-// The lesser of two.
-fn least(a: usize, b: usize) -> usize
-    ensures { result ≡ least a b }
-{
-    if b < a {
-        return b;
-    }
-    a
-}
-
-// The greater of two.
-fn most(a: usize, b: usize) -> usize
-    ensures { result ≡ most a b }
-{
-    if a < b {
-        return b;
-    }
-    a
-}
 
 // The box of one point.
 fn point_sides(w: &[u32], k: usize) -> Sides
@@ -54,15 +34,11 @@ fn point_sides(w: &[u32], k: usize) -> Sides
 pub fn widen_by(b: Sides, x: usize, y: usize) -> Sides
     ensures { result ≡ widen_by b x y }
 {
-    let left = least(b.left, x);
-    let top = least(b.top, y);
-    let right = most(b.right, x);
-    let bottom = most(b.bottom, y);
     Sides {
-        left,
-        top,
-        right,
-        bottom,
+        left: b.left.min(x),
+        top: b.top.min(y),
+        right: b.right.max(x),
+        bottom: b.bottom.max(y),
     }
 }
 
@@ -71,9 +47,7 @@ fn widen(w: &[u32], b: Sides, k: usize) -> Sides
     requires { (BLOCK ≤ length w.now) × Small b }
     ensures { (result ≡ widen_sides (view w.now) b k) × Small result }
 {
-    let x = read(w, Col::X, k);
-    let y = read(w, Col::Y, k);
-    widen_by(b, x, y)
+    widen_by(b, read(w, Col::X, k), read(w, Col::Y, k))
 }
 
 // The box of the ring that starts at a.
@@ -83,14 +57,12 @@ fn ring_sides(w: &[u32], a: usize) -> Sides
 {
     let mut b = point_sides(w, a);
     let mut p = read(w, Col::Next, a);
-    let mut left: usize = Job::POINTS - 1;
-    while 0 < left {
+    for _ in 1..Job::POINTS {
         if p == a {
             return b;
         }
         b = widen(w, b, p);
         p = read(w, Col::Next, p);
-        left -= 1;
     }
     b
 }
@@ -117,12 +89,10 @@ pub fn box_record(w: &mut [u32], i: usize)
     requires { (BLOCK ≤ length w.old) × (records_of w.old ≤ limit.RECORDS) }
     ensures { w.new ≡ boxed_at w.old i }
 {
-    let n = get(w, Col::Records, 0);
-    if n <= i {
+    if get(w, Col::Records, 0) <= i {
         return;
     }
-    let b = record_sides(w, i);
-    set_sides(w, i, b);
+    set_sides(w, i, record_sides(w, i));
 }
 
 // Every record has its ring's box.
@@ -130,19 +100,16 @@ pub fn box_records(w: &mut [u32])
     requires { (BLOCK ≤ length w.old) × (records_of w.old ≤ limit.RECORDS) }
     ensures { w.new ≡ all_boxed w.old }
 {
-    let n = get(w, Col::Records, 0);
-    let mut i: usize = 0;
-    while i < n {
+    for i in 0..get(w, Col::Records, 0) {
         box_record(w, i);
-        i += 1;
     }
 }
 
-// Whether two boxes have the same words.
+// Whether two boxes have the same words: `==`, under the name that `handed` calls.
 pub fn same_sides(a: Sides, b: Sides) -> bool
     ensures { result ≡ same_sides a b }
 {
-    (a.left == b.left) & ((a.top == b.top) & ((a.right == b.right) & (a.bottom == b.bottom)))
+    a == b
 }
 
 // Whether record i has a ring, and its words are not that ring's box.
@@ -154,8 +121,5 @@ pub fn misboxed(w: &[u32], i: usize) -> bool
     if a == NONE {
         return false;
     }
-    let b = sides_of(w, i);
-    let c = ring_sides(w, a);
-    let same = same_sides(c, b);
-    !same
+    ring_sides(w, a) != sides_of(w, i)
 }

@@ -6,7 +6,7 @@ use mathlib.Core.List.{List}
 use native.Mathlib.Omega.{arith}
 use lib.ListN.{length}
 use Rattle.job.specs.Limits as limit
-use Rattle.lone.specs.Forest.{Answer, ok, full, out_of_turn}
+use Rattle.lone.specs.Forest.{Answer, ok, out_of_turn}
 use Rattle.store.specs.Field.{BLOCK}
 use Rattle.store.specs.Words.{Store, view}
 use Rattle.store.specs.Named.{records_of}
@@ -21,9 +21,10 @@ use Rattle.acts.proofs.Stepping.{able, length_step, step_w_sound}
 use Rattle.turns.specs.Form.{raised, geometry_of}
 use Rattle.turns.specs.Reads.{Steps}
 use Rattle.turns.proofs.Ready.{laws}
-use Rattle.steps.specs.declared.Answer as code
-use Rattle.steps.specs.declared.Answer.TheVariants as answers
-use Rattle.steps.specs.Code.{answer_is}
+use Rattle.std.specs.Prelude.{Result, Ok, Err, ⊤}
+use Rattle.steps.specs.declared.StepError.{StepError}
+use Rattle.steps.specs.declared.StepError.TheVariants.{Full, OutOfTurn}
+use Rattle.steps.specs.Code.{error_is, answer_is}
 use Rattle.steps.specs.Foretold.{Foretold}
 use Rattle.steps.proofs.Steps as step
 use Rattle.boxes.proofs.AtHand.{at_hand}
@@ -48,7 +49,7 @@ both_boxed w u v i n e f = f ∙ ap (λ (x : List ℕ). boxed_at x n) e
 
 -- ---- a step on an unfinished closed ring
 
-module _ (w : List ℕ) (i : ℕ) (s : Steps w i) (a : code.Answer) (w₁ : List ℕ) (h : outcome (answer_is a) w₁ ≡ step_words (geometry_of (view w)) raised w i) where
+module _ (w : List ℕ) (i : ℕ) (s : Steps w i) (a : Result Bool StepError) (w₁ : List ℕ) (h : outcome (answer_is a) w₁ ≡ step_words (geometry_of (view w)) raised w i) where
   says : answer_is a ≡ answer_s (geometry_of (view w)) raised (view w) i
   unfolding step_words
   says = cc
@@ -65,34 +66,41 @@ module _ (w : List ℕ) (i : ℕ) (s : Steps w i) (a : code.Answer) (w₁ : List
         few = (step_w_sound (geometry_of (view w)) raised (laws (preserve_collinear (view w))) w i s.long s.sound).few_records;
       })
 
-  pub unchanged : (changes : Bool) → Usable w → Foretold w i a changes → a ≡ answers.Ok → Unchanged w₁ i changes
+  pub unchanged : (changes : Bool) → Usable w → Foretold w i a → a ≡ Ok changes → Unchanged w₁ i changes
   unchanged changes u t e =
-      let k : answer_s (geometry_of (view w)) raised (view w) i ≡ ok = sym says ∙ ap answer_is e in
+      let k : answer_s (geometry_of (view w)) raised (view w) i ≡ ok = sym says ∙ ap (λ (y : Result Bool StepError). answer_is y) e in
       let b = u.boxed i s.closed.known in
       record {
         same = λ f.
             subst (λ (v : List ℕ). boxed_at v i ≡ v) (sym words)
             (not_walked w s.long s.sound i k b
-            (at_hand (sides_at w i) (view w) i s.sound (able (geometry_of (view w)) raised (view w) i k) (b.box s.closed.ringed) ∙ sym (t.told e) ∙ f));
+            (at_hand (sides_at w i) (view w) i s.sound (able (geometry_of (view w)) raised (view w) i k) (b.box s.closed.ringed) ∙ sym (t.told changes e) ∙ f));
       }
 
   by_answer : (x : Answer) (w₂ : List ℕ) → answer_is a ≡ x → w₂ ≡ step_leaves x w i → outcome x w₂ ≡ boxed_step w i
   unfolding boxed_step
   by_answer x w₂ e f = ap (outcome x) f ∙ ap (λ (y : Answer). outcome y (step_leaves y w i)) (sym e ∙ says)
 
-  pub done : (n : ℕ) (w₂ : List ℕ) → a ≡ answers.Ok → n ≡ records_of w → w₂ ≡ boxed_at (boxed_at w₁ i) n → outcome ok w₂ ≡ boxed_step w i
-  done n w₂ e g f = by_answer ok w₂ (ap answer_is e) (f ∙ ap (boxed_at (boxed_at w₁ i)) g ∙ ap (λ (v : List ℕ). boxed_at (boxed_at v i) (recs (view w))) words)
+  pub done : (changes : Bool) (n : ℕ) (w₂ : List ℕ) → a ≡ Ok changes → n ≡ records_of w → w₂ ≡ boxed_at (boxed_at w₁ i) n → outcome ok w₂ ≡ boxed_step w i
+  done changes n w₂ e g f = by_answer ok w₂ (ap (λ (y : Result Bool StepError). answer_is y) e) (f ∙ ap (boxed_at (boxed_at w₁ i)) g ∙ ap (λ (v : List ℕ). boxed_at (boxed_at v i) (recs (view w))) words)
 
   -- a refused one left the words
   unmoved : (x : Answer) → answer_is a ≡ x → step_by_w (geometry_of (view w)) raised w i x ≡ w → w₁ ≡ w
   unfolding step_w
   unmoved x e g = words ∙ ap (step_by_w (geometry_of (view w)) raised w i) (sym says ∙ e) ∙ g
 
-  pub full_is : a ≡ answers.Full → outcome full w₁ ≡ boxed_step w i
-  full_is e = by_answer full w₁ (ap answer_is e) (unmoved full (ap answer_is e) refl)
+  pub refused : (b : Result ⊤ StepError) (x : StepError) → a ≡ Err x → b ≡ Err x → outcome (answer_is b) w₁ ≡ boxed_step w i
+  refused b x e f =
+      let k : answer_is a ≡ error_is x = ap (λ (y : Result Bool StepError). answer_is y) e in
+      ap (λ (y : Result ⊤ StepError). outcome (answer_is y) w₁) f ∙ by_answer (error_is x) w₁ k (unmoved (error_is x) k (kept x) ∙ sym (left x))
+    where
+      kept : (x : StepError) → step_by_w (geometry_of (view w)) raised w i (error_is x) ≡ w
+      kept Full = refl
+      kept OutOfTurn = refl
 
-  pub out_is : a ≡ answers.OutOfTurn → outcome out_of_turn w₁ ≡ boxed_step w i
-  out_is e = by_answer out_of_turn w₁ (ap answer_is e) (unmoved out_of_turn (ap answer_is e) refl)
+      left : (x : StepError) → step_leaves (error_is x) w i ≡ w
+      left Full = refl
+      left OutOfTurn = refl
 
 -- ---- a record number that may be any
 

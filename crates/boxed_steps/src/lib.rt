@@ -11,7 +11,7 @@ ghost use Rattle.boxed_steps.specs.Leaves.{boxed_step};
 ghost use Rattle.boxed_steps.specs.Needs.{Unchanged, Boxable};
 
 use bounds::box_record;
-use steps::Answer;
+use steps::StepError;
 use steps::step::{is_live, step_ring};
 use store::{Col, get};
 
@@ -36,35 +36,23 @@ fn box_stepped(w: &mut [u32], i: usize, n: usize, changes: bool)
 }
 
 // A step on an unfinished closed ring.
-fn step_boxed(w: &mut [u32], i: usize) -> Answer
+fn step_boxed(w: &mut [u32], i: usize) -> Result<(), StepError>
     requires { Usable w.old × Steps w.old i }
     ensures { outcome (answer_is result) w.new ≡ boxed_step w.old i }
 {
     let n = get(w, Col::Records, 0);
-    let s = step_ring(w, i);
-    let a = s.answer;
-    match a {
-        Answer::Ok => {
-            box_stepped(w, i, n, s.changes);
-            return Answer::Ok;
-        }
-        Answer::Full => {
-            return Answer::Full;
-        }
-        Answer::OutOfTurn => {
-            return Answer::OutOfTurn;
-        }
-    }
+    let changes = step_ring(w, i)?;
+    box_stepped(w, i, n, changes);
+    Ok(())
 }
 
 // A step on any record number.
-pub fn step_record(w: &mut [u32], i: usize) -> Answer
+pub fn step_record(w: &mut [u32], i: usize) -> Result<(), StepError>
     requires { Usable w.old }
     ensures { outcome (answer_is result) w.new ≡ boxed_step w.old i }
 {
-    let live = is_live(w, i);
-    if live {
+    if is_live(w, i) {
         return step_boxed(w, i);
     }
-    Answer::OutOfTurn
+    Err(StepError::OutOfTurn)
 }

@@ -7,7 +7,7 @@ ghost use Rattle.rewriting.specs.Answers.{BytesWithin};
 
 use job::refusal::Refusal;
 use prefix::DECIDES;
-use rewriting::{LONGEST, Rewritten, rewrite};
+use rewriting::{LONGEST, rewrite};
 use std::io;
 use std::process::ExitCode;
 use store::LENGTH;
@@ -20,18 +20,13 @@ fn refuse<R: Eprint>(rt: &R, x: Refusal) -> io::Result<ExitCode> {
     Ok(ExitCode::SUCCESS)
 }
 
-// Writes to standard output; says so where that does not take all of it.
-fn put<R: Print + Eprint>(rt: &R, bytes: &[u8]) -> io::Result<ExitCode> {
-    write_or_say(rt, "canon", bytes)
-}
-
 // Writes the job, or why there is none.
-fn say<R: Print + Eprint>(rt: &R, a: Rewritten, tray: &[u8]) -> io::Result<ExitCode>
+fn say<R: Print + Eprint>(rt: &R, a: Result<usize, Refusal>, tray: &[u8]) -> io::Result<ExitCode>
     requires { BytesWithin a (length tray.now) }
 {
     match a {
-        Rewritten::Bytes(m) => put(rt, &tray[..m]),
-        Rewritten::Refused(x) => refuse(rt, x),
+        Ok(m) => write_or_say(rt, "canon", &tray[..m]),
+        Err(x) => refuse(rt, x),
     }
 }
 

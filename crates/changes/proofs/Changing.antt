@@ -46,8 +46,11 @@ module _ (w : List ℕ) (i x : ℕ) (b : Sides) (t : Bool) (p : Found w (cell (r
   there : t ≡ side_word (sides_at w i) (view w) (view w (rc PRESENT) i)
   there = f ∙ rw (e, p.is)
 
-  pub off_side : t ≡ false → false ≡ changes_at (sides_at w i) (view w) (view w (rc PRESENT) i) drop_point
-  off_side h = rw (sym there ∙ h)
+  pub off_side : t ≡ false → t ≡ changes_at (sides_at w i) (view w) (view w (rc PRESENT) i) drop_point
+  off_side h = h ∙ off
+    where
+      off : false ≡ changes_at (sides_at w i) (view w) (view w (rc PRESENT) i) drop_point
+      off = rw (sym there ∙ h)
 
   pub at_side : (r : Bool) → t ≡ true → r ≡ spike_at (view w) x → r ≡ changes_at (sides_at w i) (view w) (view w (rc PRESENT) i) drop_point
   at_side r h g = rw (sym there ∙ h) (g ∙ rw p.is)

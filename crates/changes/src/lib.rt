@@ -56,11 +56,7 @@ fn drop_may_change(w: &[u32], i: usize) -> bool
 {
     let x = present_of(w, i);
     let b = sides_of(w, i);
-    let side = on_side(w, b, x);
-    if side {
-        return is_spike(w, x);
-    }
-    false
+    on_side(w, b, x) && is_spike(w, x)
 }
 
 // The present point and the next are cut away: one of them on a side.
@@ -82,26 +78,9 @@ pub fn may_change(w: &[u32], i: usize, act: Act) -> bool
     ensures { result ≡ changes_at (sides_at w.now i) (view w.now) (view w.now (rc PRESENT) i) (act_is act) }
 {
     match act {
-        Act::Stay => {
-            return false;
-        }
-        Act::Discard(_) => {
-            return true;
-        }
-        Act::Drop => {
-            return drop_may_change(w, i);
-        }
-        Act::MoveOn(_) => {
-            return false;
-        }
-        Act::ToFirst(_) => {
-            return false;
-        }
-        Act::Double(_, _) => {
-            return false;
-        }
-        Act::Cut(_, _, _, _) => {
-            return cut_may_change(w, i);
-        }
+        Act::Discard(_) => true,
+        Act::Drop => drop_may_change(w, i),
+        Act::Cut(_, _, _, _) => cut_may_change(w, i),
+        Act::Stay | Act::MoveOn(_) | Act::ToFirst(_) | Act::Double(_, _) => false,
     }
 }

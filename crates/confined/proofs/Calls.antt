@@ -2,9 +2,9 @@
 use Prim.Native.Nat.{ℕ}
 use mathlib.Core.Path.{◌≡◌}
 use mathlib.Core.List.{List}
+use Rattle.std.proofs.Common.{Ok}
 use Rattle.store.specs.Boxes.{ring_box}
 use Rattle.handed.proofs.Handing.{handed_usable}
-use Rattle.opening.specs.declared.open.Opened.TheVariants.{Accepted}
 use Rattle.opening.specs.Open.{end, open_of}
 use Rattle.order.specs.Calls.{words_after}
 use Rattle.history.specs.Histories.{History, led, start_after, begun}
@@ -23,5 +23,5 @@ of_calls h u a =
     }
 
 -- of every job that opening accepts
-pub job_calls : (bytes lent w : List ℕ) → open_of bytes lent ≡ end Accepted w → OfCalls (begun w) w
+pub job_calls : (bytes lent w : List ℕ) → open_of bytes lent ≡ end (Ok tt) w → OfCalls (begun w) w
 job_calls bytes lent w e = of_calls (begun w) w (opened_then bytes lent w e).further.after_calls

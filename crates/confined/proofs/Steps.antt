@@ -4,7 +4,9 @@ use mathlib.Core.Path.{◌≡◌, refl, sym, ap, ◌∙◌, subst}
 use mathlib.Core.List.{List, [], ◌∷◌, ◌++◌}
 use native.Mathlib.Omega.{arith}
 use lib.ListN.{length}
+use Rattle.std.specs.Prelude.{Result, Ok, Err}
 use Rattle.job.specs.Limits as limit
+use Rattle.job.specs.declared.refusal.Refusal.{Refusal}
 use Rattle.lone.specs.Forest.{Answer, ok, full, out_of_turn}
 use Rattle.store.specs.Words.{Store, view}
 use Rattle.store.specs.Sound.{recs}
@@ -12,8 +14,6 @@ use Rattle.store.specs.Good.{SoundWords}
 use Rattle.store.specs.Boxes.{boxed_at}
 use Rattle.store.specs.Value.{preserve_collinear}
 use Rattle.bounds.proofs.Beside.{view_boxed}
-use Rattle.audit.specs.declared.Verdict.{Verdict}
-use Rattle.audit.specs.declared.Verdict.TheVariants.{Passed, Refused}
 use Rattle.handed.specs.Handed.{handed_of}
 use Rattle.handed.proofs.Handing.{handed_sound}
 use Rattle.acts.specs.Step.{answer_s, step_w}
@@ -39,9 +39,9 @@ module _ (Q : Store → Store → Type 0) (none : (s : Store) → Q s s) (w : Li
   unfolding step_of
   step_keeps = go (handed_of w) refl
     where
-      go : (v : Verdict) → handed_of w ≡ v → Q (view w) (view (step_by v w i).words)
-      go (Refused r) e = none (view w)
-      go Passed e = by_answer (handed_sound w e) (answer_s (geometry_of (view w)) raised (view w) i)
+      go : (v : Result (Unit {0}) Refusal) → handed_of w ≡ v → Q (view w) (view (step_by v w i).words)
+      go (Err r) e = none (view w)
+      go (Ok _) e = by_answer (handed_sound w e) (answer_s (geometry_of (view w)) raised (view w) i)
 
 module _ (w : List ℕ) (i : ℕ) where
   pub shrinks : Shrinks (view w) (view (step_of w i).words)

@@ -9,13 +9,13 @@ use native.Mathlib.Omega.{arith}
 use native.Mathlib.Decide.{dec_lt}
 use lib.Dec.{ltb}
 use borrow.Author.Tests.{lt-ltb, le-ltb}
+use Rattle.std.proofs.Common.{Ok}
 use Rattle.job.specs.Limits as limit
 use Rattle.geometry.specs.declared.Rect.{Rect}
 use Rattle.store.specs.Field.{rc, CUT}
 use Rattle.store.specs.Words.{view}
 use Rattle.store.specs.Sound.{recs}
 use Rattle.store.specs.Boxes.{ring_box}
-use Rattle.opening.specs.declared.open.Opened.TheVariants.{Accepted}
 use Rattle.opening.specs.Open.{end, open_of}
 use Rattle.finishing.specs.Step.{step_of}
 use Rattle.finishing.specs.Run.{run_of}
@@ -159,5 +159,5 @@ module _ (w : List ℕ) (o : Start w) where
   confined = boxes_kept
 
 -- of every job that opening accepts
-pub of_job : (bytes lent w : List ℕ) → open_of bytes lent ≡ end Accepted w → Confined w
+pub of_job : (bytes lent w : List ℕ) → open_of bytes lent ≡ end (Ok tt) w → Confined w
 of_job bytes lent w e = confined w (opening_left bytes lent w e)

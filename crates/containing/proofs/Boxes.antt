@@ -1,11 +1,11 @@
 -- The box of a path and its middle, as the code's words hold them; both stay within the limit.
-use Prim.Native.Nat.{ℕ, zero, suc, ◌+◌, ◌-◌, ◌*◌, ◌/◌, ◌≤◌, ◌<◌, ◌^◌}
+use Prim.Native.Nat.{ℕ, suc, ◌+◌, ◌-◌, ◌/◌, ◌≤◌, ◌<◌, ◌^◌}
 use mathlib.Core.Path.{◌≡◌, refl, sym, ap, ◌∙◌, subst}
 use mathlib.Core.Bool.{Bool, true, false, cond}
 use mathlib.Core.List.{List, [], ◌∷◌}
-use mathlib.Core.Option.{Option, none, some}
+use mathlib.Core.Option.{Option, some}
 use native.Mathlib.Omega.{arith}
-use lib.IntN.{ℤ, pos, negsuc, neg_ℤ, nat_abs, ◌+ℤ◌}
+use lib.IntN.{ℤ, pos, negsuc, nat_abs, ◌+ℤ◌}
 use lib.Signed.{lt_z, quot_z}
 use mir.Syntax.{w32}
 use mir.Val.{SFits}
@@ -18,28 +18,15 @@ use Rattle.geometry.specs.Table.{InTable, AllInTable}
 use Rattle.listing.specs.Needs as goal
 use Rattle.listing.specs.Fields.{point_in, points_in}
 use Rattle.listing.specs.Needs.{Run}
-use Rattle.listing.proofs.Runs.{run_head, run_rest}
+use Rattle.listing.proofs.Runs.{run_rest, head_at, rest_at, points_at, points_over}
 use Rattle.geometry.specs.declared.Rect.{Rect}
 use Rattle.geometry.specs.Box.{lesser, greater, around, widen, widen_all, box_of}
 use Rattle.paths.specs.Tray.{POINT}
 use Rattle.containing.specs.Middle.{half, mid_point}
 use Rattle.containing.specs.Needs.{BoxIn, Widening}
-use Rattle.polygons.proofs.Going.{points_next, points_none}
 
 -- ---- the lesser and the greater
 module _ {a b : ℤ} (h : SFits w32 a) (k : SFits w32 b) where
-  pub lesser_second : lt_z (i32 b) (i32 a) ≡ true → i32 b ≡ lesser a b
-  lesser_second e = to_z-of_z k ∙ rw (rw (to_z-of_z h, to_z-of_z k) at e)
-
-  pub lesser_first : lt_z (i32 b) (i32 a) ≡ false → i32 a ≡ lesser a b
-  lesser_first e = to_z-of_z h ∙ rw (rw (to_z-of_z h, to_z-of_z k) at e)
-
-  pub greater_second : lt_z (i32 a) (i32 b) ≡ true → i32 b ≡ greater a b
-  greater_second e = to_z-of_z k ∙ rw (rw (to_z-of_z h, to_z-of_z k) at e)
-
-  pub greater_first : lt_z (i32 a) (i32 b) ≡ false → i32 a ≡ greater a b
-  greater_first e = to_z-of_z h ∙ rw (rw (to_z-of_z h, to_z-of_z k) at e)
-
   either : (t : Bool) → SFits w32 (cond t b a)
   either true = k
   either false = h
@@ -75,19 +62,19 @@ module _ (t : List ℕ) where
       let z : suc (n - 1) ≡ n = omega arith in
       subst (λ (k : ℕ). Widening t b (from + POINT) (n - 1) (box_of (points_in t k from))) z (begins (n - 1) from p b (run_rest t n from r h) e f)
 
-  module _ (b : Rect) (at left : ℕ) (total : Option Rect) (w : Widening t b at left total) where
-    pub widening_head : 0 < left → goal.Held t at
-    widening_head h = run_head t left at w.rest h
+  module _ (b : Rect) (at c i : ℕ) (total : Option Rect) (w : Widening t b at (c - i) total) where
+    pub widening_head : i < c → goal.Held t at
+    widening_head h = head_at t c i at w.rest h
 
-    pub widening_on : (q : Point) (b' : Rect) → 0 < left → q ≡ point_in t at → b' ≡ widen b q → Widening t b' (at + POINT) (left - 1) total
+    pub widening_on : (q : Point) (b' : Rect) → i < c → q ≡ point_in t at → b' ≡ widen b q → Widening t b' (at + POINT) (c - (i + 1)) total
     widening_on q b' h e f =
         record {
-          rest = run_rest t left at w.rest h;
-          all = ap (λ (x : Rect). some (widen_all x (points_in t (left - 1) (at + POINT)))) (f ∙ ap (widen b) e) ∙ ap (λ (l : List Point). some (widen_all b l)) (sym (points_next t left at h)) ∙ w.all;
+          rest = rest_at t c i at w.rest h;
+          all = ap (λ (x : Rect). some (widen_all x (points_in t (c - (i + 1)) (at + POINT)))) (f ∙ ap (widen b) e) ∙ ap (λ (l : List Point). some (widen_all b l)) (sym (points_at t c i at h)) ∙ w.all;
         }
 
-    pub widening_ends : left ≤ 0 → some b ≡ total
-    widening_ends h = ap (λ (l : List Point). some (widen_all b l)) (sym (points_none t left at h)) ∙ w.all
+    pub widening_ends : c ≤ i → some b ≡ total
+    widening_ends h = ap (λ (l : List Point). some (widen_all b l)) (sym (points_over t c i at h)) ∙ w.all
 
 -- ---- half a sum
 half_size : (z : ℤ) → nat_abs (quot_z z (pos 2)) ≡ nat_abs z / 2

@@ -4,13 +4,13 @@
 ghost use Rattle.std.specs.Prelude.{◌≡◌, ◌<◌, ◌^◌};
 ghost use Rattle.std.proofs.Math.Option.{some};
 ghost use Rattle.exact.specs.Num.{Within};
-ghost use Rattle.geometry.specs.Box.{lesser, greater, around, widen, box_of};
+ghost use Rattle.geometry.specs.Box.{around, widen, box_of};
 ghost use Rattle.listing.specs.Fields.{points_in};
 ghost use Rattle.listing.specs.Needs.{Run};
 ghost use Rattle.containing.specs.Middle.{half, mid_point};
 ghost use Rattle.containing.specs.Outside.{outside, begins_outside};
 ghost use Rattle.containing.specs.Needs.{BoxIn};
-ghost use Rattle.containing.specs.Contains.{is_inside, is_outside, repeats, latest, middle_inside, path2_contains_path1};
+ghost use Rattle.containing.specs.Contains.{is_inside, repeats, latest, middle_inside, path2_contains_path1};
 
 use geometry::{Point, Rect};
 use listing::point_in;
@@ -18,26 +18,6 @@ use paths::POINT;
 use polygons::{PointInPolygonResult, point_in_polygon};
 
 // ---- the box of a path, and its middle
-
-// The lesser of two.
-fn lesser(a: i32, b: i32) -> i32
-    ensures { result ≡ lesser a b }
-{
-    if b < a {
-        return b;
-    }
-    a
-}
-
-// The greater of two.
-fn greater(a: i32, b: i32) -> i32
-    ensures { result ≡ greater a b }
-{
-    if a < b {
-        return b;
-    }
-    a
-}
 
 // The box of one point.
 fn around(p: Point) -> Rect
@@ -55,15 +35,11 @@ fn around(p: Point) -> Rect
 fn widen(b: Rect, p: Point) -> Rect
     ensures { result ≡ widen b p }
 {
-    let left = lesser(b.left, p.x);
-    let top = lesser(b.top, p.y);
-    let right = greater(b.right, p.x);
-    let bottom = greater(b.bottom, p.y);
     Rect {
-        left,
-        top,
-        right,
-        bottom,
+        left: b.left.min(p.x),
+        top: b.top.min(p.y),
+        right: p.x.max(b.right),
+        bottom: p.y.max(b.bottom),
     }
 }
 
@@ -76,12 +52,9 @@ pub fn get_bounds_path(t: &[u8], from: usize, n: usize) -> Rect
     let p = point_in(t, from);
     let mut b = around(p);
     let mut at = from + POINT;
-    let mut left = n - 1;
-    while 0 < left {
-        let q = point_in(t, at);
-        b = widen(b, q);
+    for i in 1..n {
+        b = widen(b, point_in(t, at));
         at += POINT;
-        left -= 1;
     }
     b
 }
@@ -131,43 +104,24 @@ pub fn begins_outside(t: &[u8], from: usize, n: usize, b: Rect) -> bool
 fn is_inside(r: PointInPolygonResult) -> bool
     ensures { result ≡ is_inside r }
 {
-    match r {
-        PointInPolygonResult::IsOn => false,
-        PointInPolygonResult::IsInside => true,
-        PointInPolygonResult::IsOutside => false,
-    }
-}
-
-// Whether it is outside.
-fn is_outside(r: PointInPolygonResult) -> bool
-    ensures { result ≡ is_outside r }
-{
-    match r {
-        PointInPolygonResult::IsOn => false,
-        PointInPolygonResult::IsInside => false,
-        PointInPolygonResult::IsOutside => true,
-    }
+    r == PointInPolygonResult::IsInside
 }
 
 // Whether r, off the path, is as the last one off the path was.
 fn repeats(last: PointInPolygonResult, r: PointInPolygonResult) -> bool
     ensures { result ≡ repeats last r }
 {
-    match r {
-        PointInPolygonResult::IsOn => false,
-        PointInPolygonResult::IsInside => is_inside(last),
-        PointInPolygonResult::IsOutside => is_outside(last),
-    }
+    r != PointInPolygonResult::IsOn && r == last
 }
 
 // The last one off the path.
 fn latest(last: PointInPolygonResult, r: PointInPolygonResult) -> PointInPolygonResult
     ensures { result ≡ latest last r }
 {
-    match r {
-        PointInPolygonResult::IsOn => last,
-        PointInPolygonResult::IsInside => PointInPolygonResult::IsInside,
-        PointInPolygonResult::IsOutside => PointInPolygonResult::IsOutside,
+    if r == PointInPolygonResult::IsOn {
+        last
+    } else {
+        r
     }
 }
 
@@ -195,20 +149,16 @@ pub fn path2_contains_path1(t: &[u8], from1: usize, n1: usize, from2: usize, n2:
     }
     let mut pip = PointInPolygonResult::IsOn;
     let mut at = from1;
-    let mut left = n1;
-    while 0 < left {
+    for i in 0..n1 {
         let pt = point_in(t, at);
         let r = point_in_polygon(pt, t, from2, n2);
-        let sure = repeats(pip, r);
-        if sure {
+        if repeats(pip, r) {
             return is_inside(r);
         }
         pip = latest(pip, r);
         at += POINT;
-        left -= 1;
     }
-    let inside = is_inside(pip);
-    if inside {
+    if is_inside(pip) {
         return middle_inside(t, from1, n1, from2, n2);
     }
     false

@@ -10,7 +10,7 @@ use Rattle.job.specs.Limits.{RECORDS}
 use Rattle.geometry.specs.declared.Point.{Point}
 use Rattle.store.specs.Words.{Store, view}
 use Rattle.store.specs.Sound.{recs}
-use Rattle.paths.specs.declared.Written.TheVariants.{Paths}
+use Rattle.paths.specs.Wrote.{ok_paths}
 use Rattle.paths.specs.Path.{path_if, listed, paths_below, closed_paths}
 use Rattle.finishing.specs.InOneCall.{finished, finish_of}
 use Rattle.listing.specs.Fields.{as_words, paths_in}
@@ -27,7 +27,7 @@ paths_few s o (suc n) = omega (arith, length-append (paths_below n o s) (listed 
     one none = omega arith
     one (some p) = omega arith
 
-module _ (c o : ℕ) (w' t' t bytes lent : List ℕ) (e : finished (Paths c o) w' t' ≡ finish_of bytes lent t) where
+module _ (c o : ℕ) (w' t' t bytes lent : List ℕ) (e : finished (ok_paths c o) w' t' ≡ finish_of bytes lent t) where
   pub closed_count : c ≡ length (closed_paths (view w'))
   closed_count = let f = finish_from c o w' t' t bytes lent e in (written_out (view w') c o f.before t' f.is).closed
 

@@ -25,7 +25,7 @@ use Rattle.paths.specs.Tray.{POINT}
 use Rattle.containment.specs.Answers.{bit, row, rows, pair_answers, pair_count}
 use Rattle.containing.specs.Outside.{begins_outside, AllEnclosed}
 use Rattle.containing.proofs.Apart.{outside_not_contained}
-use Rattle.path_boxes.specs.Table.{rect_at, filled, Boxed}
+use Rattle.path_boxes.specs.Table.{nowhere, rect_at, filled, Boxed}
 use Rattle.path_boxes.proofs.Tables.{filled_boxed}
 use Rattle.containment.specs.Needs.{Fielded, FieldOf, BoxFor, BoxesFrom, Rowing, AllPairs}
 use Rattle.containment.proofs.Fields.{fields_next, paths_next, paths_none, fields_first, fields_rest, after_more, paths_more, paths_length}
@@ -41,7 +41,7 @@ pub one_poured : (t : List ℕ) (f g at k b : ℕ) (y : Bool) (out out' : List �
 one_poured t f g at k b y out out' e h i = i ∙ ap (λ (x : ℕ). pour (x ∷ []) at out) (h ∙ ap bit e)
 
 -- ---- by the box: outside of it, no
-pub contains_not : (t : List ℕ) (boxes : List ℤ) (j f g a : ℕ) (e : Rect) (x : Bool) → BoxFor t boxes j g → (a ≡ value_length t f) × (a < 65536) → e ≡ rect_at boxes j → x ≡ begins_outside e (points_in t (a / POINT) (f + 3))
+pub contains_not : (t : List ℕ) (boxes : List Rect) (j f g a : ℕ) (e : Rect) (x : Bool) → BoxFor t boxes j g → (a ≡ value_length t f) × (a < 65536) → e ≡ rect_at boxes j → x ≡ begins_outside e (points_in t (a / POINT) (f + 3))
     → x ≡ true → false ≡ path2_contains_path1 (path_in t f) (path_in t g)
 contains_not t boxes j f g a e x h i k l m =
     let z : begins_outside (rect_at boxes j) (path_in t f) ≡ true =
@@ -50,11 +50,11 @@ contains_not t boxes j f g a e x h i k l m =
     sym (outside_not_contained (rect_at boxes j) (path_in t f) (path_in t g) h.within z)
 
 -- ---- a row
-pub rowing_begins : (t : List ℕ) (boxes : List ℤ) (p : List Point) (first from count at : ℕ) (out : List ℕ) → FieldsIn t count from → BoxesFrom t boxes first from count
+pub rowing_begins : (t : List ℕ) (boxes : List Rect) (p : List Point) (first from count at : ℕ) (out : List ℕ) → FieldsIn t count from → BoxesFrom t boxes first from count
     → Rowing t boxes p at out (row p (paths_in t count from)) out at first from count
 rowing_begins t boxes p first from count at out r b = record { rest = r; boxes_from = b; done = []; is = pour_none out at; all = refl }
 
-module _ (t : List ℕ) (boxes : List ℤ) (p : List Point) (at : ℕ) (out₀ total out : List ℕ) (k j g left : ℕ) (s : Rowing t boxes p at out₀ total out k j g left) where
+module _ (t : List ℕ) (boxes : List Rect) (p : List Point) (at : ℕ) (out₀ total out : List ℕ) (k j g left : ℕ) (s : Rowing t boxes p at out₀ total out k j g left) where
   pub rowing_length : length out ≡ length out₀
   rowing_length = pour_length s.done out₀ out at k s.is
 
@@ -98,6 +98,23 @@ module _ (t : List ℕ) (boxes : List ℤ) (p : List Point) (at : ℕ) (out₀ t
               ∙ s.all;
         }
 
+-- of count fields i are passed
+pub rowing_starts : (t : List ℕ) (boxes : List Rect) (p : List Point) (first from count at : ℕ) (out : List ℕ) → FieldsIn t count from → BoxesFrom t boxes first from count
+    → Rowing t boxes p at out (row p (paths_in t count from)) out at (first + 0) from (count - 0)
+rowing_starts t boxes p first from count at out r b =
+    let y : first ≡ first + 0 = omega arith in
+    let z : count ≡ count - 0 = omega arith in
+    subst (λ (j : ℕ). Rowing t boxes p at out (row p (paths_in t count from)) out at j from (count - 0)) y
+    (subst (λ (n : ℕ). Rowing t boxes p at out (row p (paths_in t count from)) out at first from n) z (rowing_begins t boxes p first from count at out r b))
+
+pub rowing_next : (t : List ℕ) (boxes : List Rect) (p : List Point) (at : ℕ) (out₀ total out : List ℕ) (k first i g count : ℕ) → Rowing t boxes p at out₀ total out k (first + i) g (count - i) → i < count → (k' v : ℕ) (out' : List ℕ)
+    → poured k' out' ≡ pour (row p (paths_in t 1 g)) k out → (v ≡ value_length t g) × (v < 65536) → Rowing t boxes p at out₀ total out' k' (first + (i + 1)) (g + 3 + v) (count - (i + 1))
+rowing_next t boxes p at out₀ total out k first i g count s h k' v out' e f =
+    let y : first + i + 1 ≡ first + (i + 1) = omega arith in
+    let z : count - i - 1 ≡ count - (i + 1) = omega arith in
+    subst (λ (j : ℕ). Rowing t boxes p at out₀ total out' k' j (g + 3 + v) (count - (i + 1))) y
+    (subst (λ (n : ℕ). Rowing t boxes p at out₀ total out' k' (first + i + 1) (g + 3 + v) n) z (rowing_on t boxes p at out₀ total out k (first + i) g (count - i) s (omega arith) k' v out' e f))
+
 -- ---- a path against all others
 row_append : (p : List Point) (a b : List (List Point)) → row p (a ++ b) ≡ row p a ++ row p b
 row_append p [] b = refl
@@ -127,10 +144,10 @@ module _ (t : List ℕ) (c i f : ℕ) (s : FieldOf t c i f) where
         }
 
 -- the boxes of those before and those after path i
-pub boxes_before : (t : List ℕ) (boxes : List ℤ) (c i : ℕ) → Boxed t boxes c → i < c → BoxesFrom t boxes 0 0 i
+pub boxes_before : (t : List ℕ) (boxes : List Rect) (c i : ℕ) → Boxed t boxes c → i < c → BoxesFrom t boxes 0 0 i
 boxes_before t boxes c i b h = record { known = c; boxed = b; few = omega arith; at_is = refl }
 
-pub boxes_after : (t : List ℕ) (boxes : List ℤ) (c i f : ℕ) → FieldOf t c i f → i < c → Boxed t boxes c → (v : ℕ) → (v ≡ value_length t f) × (v < 65536) → BoxesFrom t boxes (i + 1) (f + 3 + v) (c - i - 1)
+pub boxes_after : (t : List ℕ) (boxes : List Rect) (c i f : ℕ) → FieldOf t c i f → i < c → Boxed t boxes c → (v : ℕ) → (v ≡ value_length t f) × (v < 65536) → BoxesFrom t boxes (i + 1) (f + 3 + v) (c - i - 1)
 boxes_after t boxes c i f s h b v e = record { known = c; boxed = b; few = omega arith; at_is = (placed_next t c i f s h v e.0).at_is }
 
 pub others_poured : (t : List ℕ) (c i f v at a r : ℕ) (o₁ o₂ o₃ : List ℕ) → (v ≡ value_length t f) × (v < 65536) → poured a o₂ ≡ pour (row (path_in t f) (paths_in t i 0)) at o₁
@@ -142,8 +159,8 @@ others_poured t c i f v at a r o₁ o₂ o₃ e g h =
     (sym (row_append p (paths_in t i 0) (paths_in t (c - i - 1) (f + 3 + v))) ∙ ap (λ (m : ℕ). row p (paths_in t i 0 ++ paths_in t (c - i - 1) (f + 3 + m))) e.0)
 
 -- a table that was zero
-pub table_boxed : (t : List ℕ) (c : ℕ) (boxes : List ℤ) → Fielded t c → boxes ≡ filled t c 0 0 (replicate (4 * RECORDS) (pos 0)) → Boxed t boxes c
-table_boxed t c boxes h e = filled_boxed t c (replicate (4 * RECORDS) (pos 0)) boxes (omega (arith, h.few, length-replicate {A = ℤ} (4 * RECORDS) (pos 0))) e
+pub table_boxed : (t : List ℕ) (c : ℕ) (boxes : List Rect) → Fielded t c → boxes ≡ filled t c 0 0 (replicate RECORDS nowhere) → Boxed t boxes c
+table_boxed t c boxes h e = filled_boxed t c (replicate RECORDS nowhere) boxes (omega (arith, h.few, length-replicate {A = Rect} RECORDS nowhere)) e
 
 -- ---- all
 pub pairing_begins : (t : List ℕ) (c : ℕ) (out : List ℕ) → Fielded t c → AllPairs t c out out 0 0 0

@@ -11,8 +11,10 @@ use borrow.Author.Tests.{le-leb, lt-leb}
 use Rattle.geometry.specs.declared.Point.{Point}
 use Rattle.job.specs.Limits.{RECORDS}
 use Rattle.store.specs.Words.{view}
+use Rattle.std.specs.Prelude.{Result, Ok, Err}
+use Rattle.job.specs.declared.refusal.Refusal.{Refusal}
+use Rattle.paths.specs.Wrote.{ok_paths}
 use Rattle.paths.specs.declared.Written.{Written}
-use Rattle.paths.specs.declared.Written.TheVariants.{Paths, Refused}
 use Rattle.paths.specs.Path.{closed_paths}
 use Rattle.paths.specs.Tray.{padded}
 use Rattle.listing.specs.Fields.{as_words, paths_in}
@@ -33,13 +35,13 @@ few_suffice c h =
     le_trans (mul-le-mul_right (c - 1) h) (mul-le-mul_left RECORDS z)
 
 module _ (bytes lent t : List ℕ) (k : ℕ) where
-  by_answer : (r : Written) → (finish_of bytes lent t).answer ≡ r → contained_of bytes lent t k ≡ after_finishing r (finish_of bytes lent t).words (finish_of bytes lent t).tray k
+  by_answer : (r : Result Written Refusal) → (finish_of bytes lent t).answer ≡ r → contained_of bytes lent t k ≡ after_finishing r (finish_of bytes lent t).words (finish_of bytes lent t).tray k
   unfolding contained_of
-  by_answer r e = ap (λ (x : Written). after_finishing x (finish_of bytes lent t).words (finish_of bytes lent t).tray k) e
+  by_answer r e = ap (λ (x : Result Written Refusal). after_finishing x (finish_of bytes lent t).words (finish_of bytes lent t).tray k) e
 
-  module _ (c o : ℕ) (e : (finish_of bytes lent t).answer ≡ Paths c o) where
-    out : finished (Paths c o) (finish_of bytes lent t).words (finish_of bytes lent t).tray ≡ finish_of bytes lent t
-    out = ap (λ (x : Written). finished x (finish_of bytes lent t).words (finish_of bytes lent t).tray) (sym e)
+  module _ (c o : ℕ) (e : (finish_of bytes lent t).answer ≡ ok_paths c o) where
+    out : finished (ok_paths c o) (finish_of bytes lent t).words (finish_of bytes lent t).tray ≡ finish_of bytes lent t
+    out = ap (λ (x : Result Written Refusal). finished x (finish_of bytes lent t).words (finish_of bytes lent t).tray) (sym e)
 
     in_tray : paths_in (finish_of bytes lent t).tray c 0 ≡ map (map as_words) (closed_paths (view (finish_of bytes lent t).words))
     in_tray = closed_are c o (finish_of bytes lent t).words (finish_of bytes lent t).tray t bytes lent out
@@ -47,16 +49,16 @@ module _ (bytes lent t : List ℕ) (k : ℕ) where
     short : k < pair_count c → contained_of bytes lent t k ≡ short_slice (length (finish_of bytes lent t).words) (length (finish_of bytes lent t).tray) k
     short h =
         let p = pair_answers (paths_in (finish_of bytes lent t).tray c 0) in
-        by_answer (Paths c o) e ∙ rw (lt-leb (length p) k (omega (arith, h, pairs_length (finish_of bytes lent t).tray c)))
+        by_answer (ok_paths c o) e ∙ rw (lt-leb (length p) k (omega (arith, h, pairs_length (finish_of bytes lent t).tray c)))
 
     given : pair_count c ≤ k
-        → contained_of bytes lent t k ≡ contained (Paths c o) (finish_of bytes lent t).words (finish_of bytes lent t).tray (padded k (pair_answers (closed_paths (view (finish_of bytes lent t).words))))
+        → contained_of bytes lent t k ≡ contained (ok_paths c o) (finish_of bytes lent t).words (finish_of bytes lent t).tray (padded k (pair_answers (closed_paths (view (finish_of bytes lent t).words))))
     given h =
         let p = pair_answers (paths_in (finish_of bytes lent t).tray c 0) in
-        by_answer (Paths c o) e
+        by_answer (ok_paths c o) e
         ∙ rw (le-leb (length p) k (omega (arith, h, pairs_length (finish_of bytes lent t).tray c)))
-        (ap (λ (l : List (List Point)). contained (Paths c o) (finish_of bytes lent t).words (finish_of bytes lent t).tray (padded k (pair_answers l))) in_tray
-        ∙ ap (λ (l : List ℕ). contained (Paths c o) (finish_of bytes lent t).words (finish_of bytes lent t).tray (padded k l)) (answers_words (closed_paths (view (finish_of bytes lent t).words))))
+        (ap (λ (l : List (List Point)). contained (ok_paths c o) (finish_of bytes lent t).words (finish_of bytes lent t).tray (padded k (pair_answers l))) in_tray
+        ∙ ap (λ (l : List ℕ). contained (ok_paths c o) (finish_of bytes lent t).words (finish_of bytes lent t).tray (padded k l)) (answers_words (closed_paths (view (finish_of bytes lent t).words))))
 
   decided : contained_of (take DECIDES bytes) lent t k ≡ contained_of bytes lent t k
   unfolding contained_of
@@ -65,7 +67,7 @@ module _ (bytes lent t : List ℕ) (k : ℕ) where
   pub lies_in : LiesIn bytes lent t k
   lies_in =
       record {
-        refused = λ x e. by_answer (Refused x) e;
+        refused = λ x e. by_answer (Err x) e;
         short = λ c o e h. short c o e h;
         given = λ c o e h. given c o e h;
         in_tray = λ c o e. in_tray c o e;
@@ -75,29 +77,29 @@ module _ (bytes lent t : List ℕ) (k : ℕ) where
       }
 
   -- for programs: the answers are in the slice
-  within_of : (r : Written) → (finish_of bytes lent t).answer ≡ r → AnswersWithin (after_finishing r (finish_of bytes lent t).words (finish_of bytes lent t).tray k).answer (length (after_finishing r (finish_of bytes lent t).words (finish_of bytes lent t).tray k).answers)
-  within_of (Refused x) e = tt
-  within_of (Paths c o) e = go (leb (length p) k) refl
+  within_of : (r : Result Written Refusal) → (finish_of bytes lent t).answer ≡ r → AnswersWithin (after_finishing r (finish_of bytes lent t).words (finish_of bytes lent t).tray k).answer (length (after_finishing r (finish_of bytes lent t).words (finish_of bytes lent t).tray k).answers)
+  within_of (Err x) e = tt
+  within_of (Ok ps) e = go (leb (length p) k) refl
     where
       p : List ℕ
-      p = pair_answers (paths_in (finish_of bytes lent t).tray c 0)
+      p = pair_answers (paths_in (finish_of bytes lent t).tray ps.closed 0)
 
-      few : c ≤ RECORDS
-      few = closed_few c o (finish_of bytes lent t).words (finish_of bytes lent t).tray t bytes lent (out c o e)
+      few : ps.closed ≤ RECORDS
+      few = closed_few ps.closed ps.«open» (finish_of bytes lent t).words (finish_of bytes lent t).tray t bytes lent (out ps.closed ps.«open» e)
 
       go : (b : Bool) → leb (length p) k ≡ b
-          → AnswersWithin (cond b (contained (Paths c o) (finish_of bytes lent t).words (finish_of bytes lent t).tray (padded k p)) (short_slice (length (finish_of bytes lent t).words) (length (finish_of bytes lent t).tray) k)).answer
-          (length (cond b (contained (Paths c o) (finish_of bytes lent t).words (finish_of bytes lent t).tray (padded k p)) (short_slice (length (finish_of bytes lent t).words) (length (finish_of bytes lent t).tray) k)).answers)
-      go true h = (few, omega (arith, pairs_length (finish_of bytes lent t).tray c, length-append p (replicate (k - length p) 0)))
+          → AnswersWithin (cond b (contained (Ok ps) (finish_of bytes lent t).words (finish_of bytes lent t).tray (padded k p)) (short_slice (length (finish_of bytes lent t).words) (length (finish_of bytes lent t).tray) k)).answer
+          (length (cond b (contained (Ok ps) (finish_of bytes lent t).words (finish_of bytes lent t).tray (padded k p)) (short_slice (length (finish_of bytes lent t).words) (length (finish_of bytes lent t).tray) k)).answers)
+      go true h = (few, omega (arith, pairs_length (finish_of bytes lent t).tray ps.closed, length-append p (replicate (k - length p) 0)))
       go false h = tt
 
-  pub answers_within : (r : Written) (w' t' a' : List ℕ) → contained r w' t' a' ≡ contained_of bytes lent t k → AnswersWithin r (length a')
+  pub answers_within : (r : Result Written Refusal) (w' t' a' : List ℕ) → contained r w' t' a' ≡ contained_of bytes lent t k → AnswersWithin r (length a')
   answers_within r w' t' a' e =
       subst (λ (x : Contained). AnswersWithin x.answer (length x.answers)) (sym (e ∙ by_answer (finish_of bytes lent t).answer refl)) (within_of (finish_of bytes lent t).answer refl)
 
 -- the part of a slice that has so many bytes
-pub part_within : (c o m : ℕ) (a : List ℕ) (r : Written) → AnswersWithin r (length a) → r ≡ Paths c o → m ≡ pair_count c → m ≤ length a
-part_within c o m a r h e f = let x = subst (λ (y : Written). AnswersWithin y (length a)) e h in omega (arith, f, x.1)
+pub part_within : (p : Written) (m : ℕ) (a : List ℕ) (r : Result Written Refusal) → AnswersWithin r (length a) → r ≡ Ok p → m ≡ pair_count p.closed → m ≤ length a
+part_within p m a r h e f = let x = subst (λ (y : Result Written Refusal). AnswersWithin y (length a)) e h in omega (arith, f, x.1)
 
-pub few_paths : (c o : ℕ) (a : List ℕ) (r : Written) → AnswersWithin r (length a) → r ≡ Paths c o → c ≤ RECORDS
-few_paths c o a r h e = (subst (λ (y : Written). AnswersWithin y (length a)) e h).0
+pub few_paths : (p : Written) (a : List ℕ) (r : Result Written Refusal) → AnswersWithin r (length a) → r ≡ Ok p → p.closed ≤ RECORDS
+few_paths p a r h e = (subst (λ (y : Result Written Refusal). AnswersWithin y (length a)) e h).0

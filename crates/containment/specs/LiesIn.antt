@@ -4,7 +4,8 @@ use Rattle.std.specs.Prelude.{ℕ, ◌+◌, ◌-◌, ◌*◌, ◌≤◌, ◌<◌
 use Rattle.geometry.specs.declared.Point.{Point}
 use Rattle.job.specs.declared.refusal.Refusal.{Refusal}
 use Rattle.store.specs.Words.{view}
-use Rattle.paths.specs.declared.Written.TheVariants.{Paths, Refused}
+use Rattle.std.specs.Prelude.{Err}
+use Rattle.paths.specs.Wrote.{ok_paths}
 use Rattle.paths.specs.Path.{closed_paths}
 use Rattle.paths.specs.Tray.{padded}
 use Rattle.listing.specs.Fields.{as_words, paths_in}
@@ -28,16 +29,16 @@ pub record PairBytes (paths : List (List Point)) : Type 0 where
 -- of a job's bytes, a work space, a tray, and a slice of k bytes
 pub record LiesIn (bytes lent t : List ℕ) (k : ℕ) : Type 0 where
   -- "with that call's refusals .. on refusals, it is zero"
-  pub refused : (x : Refusal) → (finish_of bytes lent t).answer ≡ Refused x → contained_of bytes lent t k ≡ contained (Refused x) (finish_of bytes lent t).words (finish_of bytes lent t).tray (replicate k 0)
+  pub refused : (x : Refusal) → (finish_of bytes lent t).answer ≡ Err x → contained_of bytes lent t k ≡ contained (Err x) (finish_of bytes lent t).words (finish_of bytes lent t).tray (replicate k 0)
   -- "A short slice meets 11 .. on refusals, it is zero"; and so are tray and work space, as a job's refusals leave them
-  pub short : (c o : ℕ) → (finish_of bytes lent t).answer ≡ Paths c o → k < pair_count c → contained_of bytes lent t k ≡ short_slice (length (finish_of bytes lent t).words) (length (finish_of bytes lent t).tray) k
+  pub short : (c o : ℕ) → (finish_of bytes lent t).answer ≡ ok_paths c o → k < pair_count c → contained_of bytes lent t k ≡ short_slice (length (finish_of bytes lent t).words) (length (finish_of bytes lent t).tray) k
   -- else answer, words and tray are finishing's; the answers are those of the closed paths of these words, and "past the answers .. it is zero"
-  pub given : (c o : ℕ) → (finish_of bytes lent t).answer ≡ Paths c o → pair_count c ≤ k
-      → contained_of bytes lent t k ≡ contained (Paths c o) (finish_of bytes lent t).words (finish_of bytes lent t).tray (padded k (pair_answers (closed_paths (view (finish_of bytes lent t).words))))
+  pub given : (c o : ℕ) → (finish_of bytes lent t).answer ≡ ok_paths c o → pair_count c ≤ k
+      → contained_of bytes lent t k ≡ contained (ok_paths c o) (finish_of bytes lent t).words (finish_of bytes lent t).tray (padded k (pair_answers (closed_paths (view (finish_of bytes lent t).words))))
   -- these paths stand in the tray's first fields, 32 bits of each z, so the places are those of the tray
-  pub in_tray : (c o : ℕ) → (finish_of bytes lent t).answer ≡ Paths c o → paths_in (finish_of bytes lent t).tray c 0 ≡ map (map as_words) (closed_paths (view (finish_of bytes lent t).words))
-  pub as_many : (c o : ℕ) → (finish_of bytes lent t).answer ≡ Paths c o → c ≡ length (closed_paths (view (finish_of bytes lent t).words))
+  pub in_tray : (c o : ℕ) → (finish_of bytes lent t).answer ≡ ok_paths c o → paths_in (finish_of bytes lent t).tray c 0 ≡ map (map as_words) (closed_paths (view (finish_of bytes lent t).words))
+  pub as_many : (c o : ℕ) → (finish_of bytes lent t).answer ≡ ok_paths c o → c ≡ length (closed_paths (view (finish_of bytes lent t).words))
   -- 261,632 bytes always suffice
-  pub suffices : (c o : ℕ) → (finish_of bytes lent t).answer ≡ Paths c o → pair_count c ≤ ANSWERS
+  pub suffices : (c o : ℕ) → (finish_of bytes lent t).answer ≡ ok_paths c o → pair_count c ≤ ANSWERS
   -- 50,201 bytes decide: what follows them changes nothing
   pub decided : contained_of (take DECIDES bytes) lent t k ≡ contained_of bytes lent t k

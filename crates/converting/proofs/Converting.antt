@@ -5,6 +5,7 @@ use mathlib.Core.Logic.{◌⊎◌}
 use mathlib.Core.List.{List, [], ◌∷◌, map}
 use native.Mathlib.Omega.{arith}
 use lib.ListN.{get_or, length, length-map}
+use Rattle.std.proofs.Common.{Option, Some, None}
 use Rattle.job.specs.Limits as limit
 use Rattle.store.specs.Field.{NONE}
 use Rattle.joins.specs.Needs as goal
@@ -17,8 +18,6 @@ use Rattle.segments.specs.Needs.{Span}
 use Rattle.segments.specs.Update.{segments_of}
 use Rattle.segments.specs.Needs.{Listed}
 use Rattle.segments.proofs.Updates.{Listable, segments_length, segments_fit}
-use Rattle.converting.specs.declared.pairs.Converted.{Converted}
-use Rattle.converting.specs.declared.pairs.Converted.TheVariants.{Joins, Full}
 use Rattle.converting.specs.Make.{Made, made, Out, out, made_of, outer_from, sorted_segments, pairs_of, convert_horz_segs_to_joins}
 use Rattle.converting.specs.Needs.{Pairing, Converting}
 use Rattle.converting.proofs.Making.{PairingOf}
@@ -67,7 +66,7 @@ module _ (w ps : List ℕ) (n : ℕ) (js : List ℕ) (m : ℕ) (t : Converting w
     pub sorted_pairing : Pairing w ls rs fs js m
     sorted_pairing = converting_pairing ls rs fs spread_is
 
-    pub converted : (r : Converted) (x ls' js' : List ℕ) → out r x ls' js' ≡ outer_from 256 rs fs 0 w ls js m → made r x js' ≡ convert_horz_segs_to_joins w n ps js m
+    pub converted : (r : Option ℕ) (x ls' js' : List ℕ) → out r x ls' js' ≡ outer_from 256 rs fs 0 w ls js m → made r x js' ≡ convert_horz_segs_to_joins w n ps js m
     unfolding convert_horz_segs_to_joins pairs_of
     converted r x ls' js' h =
         let i : spread ls rs fs ≡ spread_of (sorted_segments w n ps) = spread_is in
@@ -78,8 +77,8 @@ module _ (w ps : List ℕ) (n : ℕ) (js : List ℕ) (m : ℕ) (t : Converting w
 
   -- what process_horz_joins asks
   abbrev pub JoinsOf : Made → Type 0
-  JoinsOf (made (Joins k) x js') = goal.Joins x k js'
-  JoinsOf (made Full x js') = Unit {0}
+  JoinsOf (made (Some k) x js') = goal.Joins x k js'
+  JoinsOf (made None x js') = Unit {0}
 
   pub convert_joins : JoinsOf (convert_horz_segs_to_joins w n ps js m)
   unfolding convert_horz_segs_to_joins pairs_of
@@ -95,5 +94,5 @@ module _ (w ps : List ℕ) (n : ℕ) (js : List ℕ) (m : ℕ) (t : Converting w
       fs = map (λ (q : HorzSegment). q.forward) (sorted_segments w n ps)
 
       go : (c : Out) → PairingOf rs fs c → JoinsOf (made_of c)
-      go (out (Joins k) x ls' js') p = record { ready = p.ready; fits = omega (arith, p.few, p.room, p.ready.resolved.few_points); points = p.named }
-      go (out Full x ls' js') p = tt
+      go (out (Some k) x ls' js') p = record { ready = p.ready; fits = omega (arith, p.few, p.room, p.ready.resolved.few_points); points = p.named }
+      go (out None x ls' js') p = tt

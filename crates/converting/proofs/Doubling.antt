@@ -8,7 +8,7 @@ use native.Mathlib.Omega.{arith}
 use lib.Dec.{ltb}
 use lib.ListN.{length}
 use borrow.Author.Tests.{eq-eqb, ne_eqb, ltb-true}
-use Rattle.primitives.specs.declared.Room.TheVariants.{At, Full}
+use Rattle.std.proofs.Common.{Some, None}
 use Rattle.store.specs.Field.{RecordCol, pt, rc, REC, FLAGS, BLOCK}
 use Rattle.store.specs.Words.{Store, view, Write, on_words}
 use Rattle.store.specs.Stores.{on_store}
@@ -183,8 +183,8 @@ pub record Grew (w x : List ℕ) (k : ℕ) : Type 0 where
   pub points : points_of x ≡ suc (points_of w)
 
 abbrev pub Doubles : List ℕ → Taken → Type 0
-Doubles w (taken (At k) x) = Grew w x k
-Doubles w (taken Full x) = x ≡ w
+Doubles w (taken (Some k) x) = Grew w x k
+Doubles w (taken None x) = x ≡ w
 
 pub beside : (w : List ℕ) (p : ℕ) → Point w p → Beside w p
 beside w p t =
@@ -198,7 +198,7 @@ pub doubles : (w : List ℕ) (p : ℕ) (after : Bool) → Point w p → Doubles 
 unfolding duplicate_op
 doubles w p after t = go (ltb (points_of w) 2048) after refl
   where
-    go : (m b : Bool) → ltb (points_of w) 2048 ≡ m → Doubles w (cond m (taken (At (points_of w)) (cond b (on_words w (after_writes (view w) p)) (on_words w (before_writes (view w) p)))) (taken Full w))
+    go : (m b : Bool) → ltb (points_of w) 2048 ≡ m → Doubles w (cond m (taken (Some (points_of w)) (cond b (on_words w (after_writes (view w) p)) (on_words w (before_writes (view w) p)))) (taken None w))
     go true true e =
         let room : points_of w < 2048 = ltb-true _ _ e in
         let z = home_of_lem (view w) t.ready.resolved p t.low in
@@ -214,14 +214,14 @@ doubles w p after t = go (ltb (points_of w) 2048) after refl
 
 -- a copy of a point on a closed ring leaves records and open rings as they are, and is on a closed ring itself
 abbrev pub Opens : List ℕ → Taken → Type 0
-Opens w (taken (At k) x) = Copied (view w) (view x) × Shut (view x) k
-Opens w (taken Full x) = x ≡ w
+Opens w (taken (Some k) x) = Copied (view w) (view x) × Shut (view x) k
+Opens w (taken None x) = x ≡ w
 
 pub opens : (w : List ℕ) (p : ℕ) (after : Bool) → Point w p → Shut (view w) p → Opens w (duplicate_op w p after)
 unfolding duplicate_op
 opens w p after t shut = go (ltb (points_of w) 2048) after refl
   where
-    go : (m b : Bool) → ltb (points_of w) 2048 ≡ m → Opens w (cond m (taken (At (points_of w)) (cond b (on_words w (after_writes (view w) p)) (on_words w (before_writes (view w) p)))) (taken Full w))
+    go : (m b : Bool) → ltb (points_of w) 2048 ≡ m → Opens w (cond m (taken (Some (points_of w)) (cond b (on_words w (after_writes (view w) p)) (on_words w (before_writes (view w) p)))) (taken None w))
     go true true e =
         let room : points_of w < 2048 = ltb-true _ _ e in
         let z = home_of_lem (view w) t.ready.resolved p t.low in

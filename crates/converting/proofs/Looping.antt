@@ -8,9 +8,8 @@ use native.Mathlib.Omega.{arith}
 use lib.Dec.{eqb}
 use lib.ListN.{get_or, set, length}
 use borrow.Author.Tests.{eq-eqb, ne_eqb, eqb-false}
+use Rattle.std.proofs.Common.{Option, Some, None}
 use Rattle.store.specs.Field.{NONE, BLOCK}
-use Rattle.converting.specs.declared.pairs.Converted.{Converted}
-use Rattle.converting.specs.declared.pairs.Converted.TheVariants.{Joins, Full}
 use Rattle.segments.specs.Needs.{Meeting}
 use Rattle.converting.specs.Make.{made, make_join, Out, out, with_lefts, apart_of, join_pair, first_one, second_one, moved_pair, pair_of, and_then, inner_from, outer_from}
 use Rattle.converting.specs.Needs.{Making, Pairing, Valid, Overlapping, Moving, Joining, PairAt}
@@ -87,7 +86,7 @@ module _ (w ls rs fs : List ℕ) (i j : ℕ) (t : Overlapping w ls rs fs i j) wh
     pub join_back : Making w js m b a
     join_back = rw (e, f) (making_back w ls rs fs i j t js m p)
 
-    module _ (g : ℕ) (ls₁ ls₂ x js' : List ℕ) (r : Converted) (h : g ≡ get_or fs i 0) (k : ls₁ ≡ set ls i a) (l : ls₂ ≡ set ls₁ j b) where
+    module _ (g : ℕ) (ls₁ ls₂ x js' : List ℕ) (r : Option ℕ) (h : g ≡ get_or fs i 0) (k : ls₁ ≡ set ls i a) (l : ls₂ ≡ set ls₁ j b) where
       pub joined_on : g ≡ 1 → made r x js' ≡ make_join w js m a b → out r x ls₂ js' ≡ moved_pair w ls fs js m i j
       unfolding moved_pair join_pair
       joined_on n q =
@@ -103,13 +102,13 @@ module _ (w ls rs fs : List ℕ) (i j : ℕ) (t : Overlapping w ls rs fs i j) wh
 -- ---- the needs of pair
 
 module _ (w ls rs fs js : List ℕ) (m i j : ℕ) (b : Bool) (e : b ≡ apart_of w ls rs fs i j) where
-  pub pair_apart : b ≡ true → out (Joins m) w ls js ≡ pair_of rs fs js i j w ls m
+  pub pair_apart : b ≡ true → out (Some m) w ls js ≡ pair_of rs fs js i j w ls m
   unfolding pair_of
   pair_apart f =
       let z : apart_of w ls rs fs i j ≡ true = sym e ∙ f in
       rw z
 
-  pub pair_joined : (r : Converted) (x ls' js' : List ℕ) → b ≡ false → out r x ls' js' ≡ moved_pair w ls fs js m i j → out r x ls' js' ≡ pair_of rs fs js i j w ls m
+  pub pair_joined : (r : Option ℕ) (x ls' js' : List ℕ) → b ≡ false → out r x ls' js' ≡ moved_pair w ls fs js m i j → out r x ls' js' ≡ pair_of rs fs js i j w ls m
   unfolding pair_of
   pair_joined r x ls' js' f g =
       let z : apart_of w ls rs fs i j ≡ false = sym e ∙ f in
@@ -123,11 +122,11 @@ pair_pairing w ls rs fs js m i j t = t.pairing
 
 -- ---- segment i with those after it
 
-inner_one : (f : ℕ) (rs fs : List ℕ) (i j : ℕ) (w ls js : List ℕ) (m : ℕ) → inner_from (suc f) rs fs i j w ls js m ≡ cond (eqb (get_or rs j 0) NONE) (out (Joins m) w ls js) (and_then (inner_from f rs fs i (j + 1)) (pair_of rs fs js i j w ls m))
+inner_one : (f : ℕ) (rs fs : List ℕ) (i j : ℕ) (w ls js : List ℕ) (m : ℕ) → inner_from (suc f) rs fs i j w ls js m ≡ cond (eqb (get_or rs j 0) NONE) (out (Some m) w ls js) (and_then (inner_from f rs fs i (j + 1)) (pair_of rs fs js i j w ls m))
 unfolding inner_from
 inner_one f rs fs i j w ls js m = refl
 
-inner_none : (rs fs : List ℕ) (i j : ℕ) (w ls js : List ℕ) (m : ℕ) → inner_from zero rs fs i j w ls js m ≡ out (Joins m) w ls js
+inner_none : (rs fs : List ℕ) (i j : ℕ) (w ls js : List ℕ) (m : ℕ) → inner_from zero rs fs i j w ls js m ≡ out (Some m) w ls js
 unfolding inner_from
 inner_none rs fs i j w ls js m = refl
 
@@ -146,18 +145,18 @@ module _ (F : Out) (w ls rs fs js : List ℕ) (m i j : ℕ) (t : Inner F w ls rs
   pub inner_row : j < 256 → j < length rs
   inner_row h = omega (arith, t.pairing.rights)
 
-  pub inner_done : 256 ≤ j → out (Joins m) w ls js ≡ F
+  pub inner_done : 256 ≤ j → out (Some m) w ls js ≡ F
   inner_done h = go t.left t.far t.goes
     where
-      go : (n : ℕ) → j + n ≡ 256 → inner_from n rs fs i j w ls js m ≡ F → out (Joins m) w ls js ≡ F
+      go : (n : ℕ) → j + n ≡ 256 → inner_from n rs fs i j w ls js m ≡ F → out (Some m) w ls js ≡ F
       go zero p q = sym (inner_none rs fs i j w ls js m) ∙ q
       go (suc n) p q = absurd (omega arith)
 
   module _ (h : j < 256) (r : ℕ) (e : r ≡ get_or rs j 0) where
-    pub inner_stop : r ≡ NONE → out (Joins m) w ls js ≡ F
+    pub inner_stop : r ≡ NONE → out (Some m) w ls js ≡ F
     inner_stop d = go t.left t.far t.goes
       where
-        go : (n : ℕ) → j + n ≡ 256 → inner_from n rs fs i j w ls js m ≡ F → out (Joins m) w ls js ≡ F
+        go : (n : ℕ) → j + n ≡ 256 → inner_from n rs fs i j w ls js m ≡ F → out (Some m) w ls js ≡ F
         go zero p q = absurd (omega arith)
         go (suc n) p q = rw (eq-eqb (get_or rs j 0) NONE (sym e ∙ d)) at (sym (inner_one n rs fs i j w ls js m) ∙ q)
 
@@ -168,12 +167,12 @@ module _ (F : Out) (w ls rs fs js : List ℕ) (m i j : ℕ) (t : Inner F w ls rs
       inner_on : (n : ℕ) → inner_from (suc n) rs fs i j w ls js m ≡ F → and_then (inner_from n rs fs i (j + 1)) (pair_of rs fs js i j w ls m) ≡ F
       inner_on n q = rw (ne_eqb (get_or rs j 0) NONE (λ z. d (e ∙ z))) at (sym (inner_one n rs fs i j w ls js m) ∙ q)
 
-      module _ (p : Converted) (x ls' js' : List ℕ) (f : out p x ls' js' ≡ pair_of rs fs js i j w ls m) where
-        pub inner_next : (k : ℕ) → p ≡ Joins k → Inner F x ls' rs fs js' k i (j + 1)
+      module _ (p : Option ℕ) (x ls' js' : List ℕ) (f : out p x ls' js' ≡ pair_of rs fs js i j w ls m) where
+        pub inner_next : (k : ℕ) → p ≡ Some k → Inner F x ls' rs fs js' k i (j + 1)
         inner_next k g = go t.left t.far t.goes
           where
-            z : out (Joins k) x ls' js' ≡ pair_of rs fs js i j w ls m
-            z = ap (λ (c : Converted). out c x ls' js') (sym g) ∙ f
+            z : out (Some k) x ls' js' ≡ pair_of rs fs js i j w ls m
+            z = ap (λ (c : Option ℕ). out c x ls' js') (sym g) ∙ f
 
             go : (n : ℕ) → j + n ≡ 256 → inner_from n rs fs i j w ls js m ≡ F → Inner F x ls' rs fs js' k i (j + 1)
             go zero a q = absurd (omega arith)
@@ -187,13 +186,13 @@ module _ (F : Out) (w ls rs fs js : List ℕ) (m i j : ℕ) (t : Inner F w ls rs
                   goes = ap (and_then (inner_from n rs fs i (j + 1))) z ∙ inner_on n q;
                 }
 
-        pub inner_full : p ≡ Full → out Full x ls' js' ≡ F
+        pub inner_full : p ≡ None → out None x ls' js' ≡ F
         inner_full g = go t.left t.far t.goes
           where
-            z : out Full x ls' js' ≡ pair_of rs fs js i j w ls m
-            z = ap (λ (c : Converted). out c x ls' js') (sym g) ∙ f
+            z : out None x ls' js' ≡ pair_of rs fs js i j w ls m
+            z = ap (λ (c : Option ℕ). out c x ls' js') (sym g) ∙ f
 
-            go : (n : ℕ) → j + n ≡ 256 → inner_from n rs fs i j w ls js m ≡ F → out Full x ls' js' ≡ F
+            go : (n : ℕ) → j + n ≡ 256 → inner_from n rs fs i j w ls js m ≡ F → out None x ls' js' ≡ F
             go zero a q = absurd (omega arith)
             go (suc n) a q = ap (and_then (inner_from n rs fs i (j + 1))) z ∙ inner_on n q
 
@@ -204,20 +203,20 @@ inner_kept zero rs fs i j w ls js m p v b e = p
 inner_kept (suc f) rs fs i j w ls js m p v b e = go (eqb (get_or rs j 0) NONE) refl (λ x ls' js' k q. inner_kept f rs fs i (j + 1) x ls' js' k q v (omega arith) (omega arith))
   where
     after : (c : Out) → PairingOf rs fs c → ((x ls' js' : List ℕ) (k : ℕ) → Pairing x ls' rs fs js' k → PairingOf rs fs (inner_from f rs fs i (j + 1) x ls' js' k)) → PairingOf rs fs (and_then (inner_from f rs fs i (j + 1)) c)
-    after (out (Joins k) x ls' js') q r = r x ls' js' k q
-    after (out Full x ls' js') q r = tt
+    after (out (Some k) x ls' js') q r = r x ls' js' k q
+    after (out None x ls' js') q r = tt
 
-    go : (z : Bool) → eqb (get_or rs j 0) NONE ≡ z → ((x ls' js' : List ℕ) (k : ℕ) → Pairing x ls' rs fs js' k → PairingOf rs fs (inner_from f rs fs i (j + 1) x ls' js' k)) → PairingOf rs fs (cond z (out (Joins m) w ls js) (and_then (inner_from f rs fs i (j + 1)) (pair_of rs fs js i j w ls m)))
+    go : (z : Bool) → eqb (get_or rs j 0) NONE ≡ z → ((x ls' js' : List ℕ) (k : ℕ) → Pairing x ls' rs fs js' k → PairingOf rs fs (inner_from f rs fs i (j + 1) x ls' js' k)) → PairingOf rs fs (cond z (out (Some m) w ls js) (and_then (inner_from f rs fs i (j + 1)) (pair_of rs fs js i j w ls m)))
     go true d r = p
     go false d r = after (pair_of rs fs js i j w ls m) (pair_kept w ls rs fs js m i j (record { pairing = p; before = b; low = omega arith; one = v; two = eqb-false _ _ d })) r
 
 -- ---- every segment with those after it
 
-outer_one : (f : ℕ) (rs fs : List ℕ) (i : ℕ) (w ls js : List ℕ) (m : ℕ) → outer_from (suc f) rs fs i w ls js m ≡ cond (eqb (get_or rs i 0) NONE) (out (Joins m) w ls js) (and_then (outer_from f rs fs (i + 1)) (inner_from f rs fs i (i + 1) w ls js m))
+outer_one : (f : ℕ) (rs fs : List ℕ) (i : ℕ) (w ls js : List ℕ) (m : ℕ) → outer_from (suc f) rs fs i w ls js m ≡ cond (eqb (get_or rs i 0) NONE) (out (Some m) w ls js) (and_then (outer_from f rs fs (i + 1)) (inner_from f rs fs i (i + 1) w ls js m))
 unfolding outer_from
 outer_one f rs fs i w ls js m = refl
 
-outer_none : (rs fs : List ℕ) (i : ℕ) (w ls js : List ℕ) (m : ℕ) → outer_from zero rs fs i w ls js m ≡ out (Joins m) w ls js
+outer_none : (rs fs : List ℕ) (i : ℕ) (w ls js : List ℕ) (m : ℕ) → outer_from zero rs fs i w ls js m ≡ out (Some m) w ls js
 unfolding outer_from
 outer_none rs fs i w ls js m = refl
 
@@ -234,18 +233,18 @@ module _ (F : Out) (w ls rs fs js : List ℕ) (m i : ℕ) (t : Outer F w ls rs f
   pub outer_row : i < 256 → i < length rs
   outer_row h = omega (arith, t.pairing.rights)
 
-  pub outer_done : 256 ≤ i → out (Joins m) w ls js ≡ F
+  pub outer_done : 256 ≤ i → out (Some m) w ls js ≡ F
   outer_done h = go t.left t.far t.goes
     where
-      go : (n : ℕ) → i + n ≡ 256 → outer_from n rs fs i w ls js m ≡ F → out (Joins m) w ls js ≡ F
+      go : (n : ℕ) → i + n ≡ 256 → outer_from n rs fs i w ls js m ≡ F → out (Some m) w ls js ≡ F
       go zero p q = sym (outer_none rs fs i w ls js m) ∙ q
       go (suc n) p q = absurd (omega arith)
 
   module _ (h : i < 256) (r : ℕ) (e : r ≡ get_or rs i 0) where
-    pub outer_stop : r ≡ NONE → out (Joins m) w ls js ≡ F
+    pub outer_stop : r ≡ NONE → out (Some m) w ls js ≡ F
     outer_stop d = go t.left t.far t.goes
       where
-        go : (n : ℕ) → i + n ≡ 256 → outer_from n rs fs i w ls js m ≡ F → out (Joins m) w ls js ≡ F
+        go : (n : ℕ) → i + n ≡ 256 → outer_from n rs fs i w ls js m ≡ F → out (Some m) w ls js ≡ F
         go zero p q = absurd (omega arith)
         go (suc n) p q = rw (eq-eqb (get_or rs i 0) NONE (sym e ∙ d)) at (sym (outer_one n rs fs i w ls js m) ∙ q)
 
@@ -258,12 +257,12 @@ module _ (F : Out) (w ls rs fs js : List ℕ) (m i : ℕ) (t : Outer F w ls rs f
           let k : 256 - (i + 1) ≡ n = omega arith in
           rw k (rw (ne_eqb (get_or rs i 0) NONE (λ z. d (e ∙ z))) at (sym (outer_one n rs fs i w ls js m) ∙ q))
 
-      module _ (p : Converted) (x ls' js' : List ℕ) (f : out p x ls' js' ≡ inner_from (256 - (i + 1)) rs fs i (i + 1) w ls js m) where
-        pub outer_next : (k : ℕ) → p ≡ Joins k → Outer F x ls' rs fs js' k (i + 1)
+      module _ (p : Option ℕ) (x ls' js' : List ℕ) (f : out p x ls' js' ≡ inner_from (256 - (i + 1)) rs fs i (i + 1) w ls js m) where
+        pub outer_next : (k : ℕ) → p ≡ Some k → Outer F x ls' rs fs js' k (i + 1)
         outer_next k g = go t.left t.far t.goes
           where
-            z : out (Joins k) x ls' js' ≡ inner_from (256 - (i + 1)) rs fs i (i + 1) w ls js m
-            z = ap (λ (c : Converted). out c x ls' js') (sym g) ∙ f
+            z : out (Some k) x ls' js' ≡ inner_from (256 - (i + 1)) rs fs i (i + 1) w ls js m
+            z = ap (λ (c : Option ℕ). out c x ls' js') (sym g) ∙ f
 
             go : (n : ℕ) → i + n ≡ 256 → outer_from n rs fs i w ls js m ≡ F → Outer F x ls' rs fs js' k (i + 1)
             go zero a q = absurd (omega arith)
@@ -275,13 +274,13 @@ module _ (F : Out) (w ls rs fs js : List ℕ) (m i : ℕ) (t : Outer F w ls rs f
                   goes = ap (and_then (outer_from n rs fs (i + 1))) z ∙ outer_on n a q;
                 }
 
-        pub outer_full : p ≡ Full → out Full x ls' js' ≡ F
+        pub outer_full : p ≡ None → out None x ls' js' ≡ F
         outer_full g = go t.left t.far t.goes
           where
-            z : out Full x ls' js' ≡ inner_from (256 - (i + 1)) rs fs i (i + 1) w ls js m
-            z = ap (λ (c : Converted). out c x ls' js') (sym g) ∙ f
+            z : out None x ls' js' ≡ inner_from (256 - (i + 1)) rs fs i (i + 1) w ls js m
+            z = ap (λ (c : Option ℕ). out c x ls' js') (sym g) ∙ f
 
-            go : (n : ℕ) → i + n ≡ 256 → outer_from n rs fs i w ls js m ≡ F → out Full x ls' js' ≡ F
+            go : (n : ℕ) → i + n ≡ 256 → outer_from n rs fs i w ls js m ≡ F → out None x ls' js' ≡ F
             go zero a q = absurd (omega arith)
             go (suc n) a q = ap (and_then (outer_from n rs fs (i + 1))) z ∙ outer_on n a q
 
@@ -292,9 +291,9 @@ outer_kept zero rs fs i w ls js m p e = p
 outer_kept (suc f) rs fs i w ls js m p e = go (eqb (get_or rs i 0) NONE) refl (λ x ls' js' k q. outer_kept f rs fs (i + 1) x ls' js' k q (omega arith))
   where
     after : (c : Out) → PairingOf rs fs c → ((x ls' js' : List ℕ) (k : ℕ) → Pairing x ls' rs fs js' k → PairingOf rs fs (outer_from f rs fs (i + 1) x ls' js' k)) → PairingOf rs fs (and_then (outer_from f rs fs (i + 1)) c)
-    after (out (Joins k) x ls' js') q r = r x ls' js' k q
-    after (out Full x ls' js') q r = tt
+    after (out (Some k) x ls' js') q r = r x ls' js' k q
+    after (out None x ls' js') q r = tt
 
-    go : (z : Bool) → eqb (get_or rs i 0) NONE ≡ z → ((x ls' js' : List ℕ) (k : ℕ) → Pairing x ls' rs fs js' k → PairingOf rs fs (outer_from f rs fs (i + 1) x ls' js' k)) → PairingOf rs fs (cond z (out (Joins m) w ls js) (and_then (outer_from f rs fs (i + 1)) (inner_from f rs fs i (i + 1) w ls js m)))
+    go : (z : Bool) → eqb (get_or rs i 0) NONE ≡ z → ((x ls' js' : List ℕ) (k : ℕ) → Pairing x ls' rs fs js' k → PairingOf rs fs (outer_from f rs fs (i + 1) x ls' js' k)) → PairingOf rs fs (cond z (out (Some m) w ls js) (and_then (outer_from f rs fs (i + 1)) (inner_from f rs fs i (i + 1) w ls js m)))
     go true d r = p
     go false d r = after (inner_from f rs fs i (i + 1) w ls js m) (inner_kept f rs fs i (i + 1) w ls js m p (eqb-false _ _ d) (omega arith) (omega arith)) r

@@ -10,15 +10,12 @@ use lib.Dec.{eqb, ltb}
 use lib.ListN.{get_or, set, length, length-set}
 use lib.Seq.{get_or-set_same, get_or-set_other}
 use borrow.Author.Tests.{ltb-true}
-use Rattle.primitives.specs.declared.Room.{Room}
-use Rattle.primitives.specs.declared.Room.TheVariants as room
+use Rattle.std.proofs.Common.{Option, Some, None}
 use Rattle.store.specs.Field.{NONE}
 use Rattle.store.specs.Named.{points_of}
 use Rattle.primitives.specs.Primitive.{Taken, taken, duplicate_op}
 use Rattle.primitives.specs.Beside.{Beside}
 use Rattle.joins.specs.Needs.{Point}
-use Rattle.converting.specs.declared.pairs.Converted.{Converted}
-use Rattle.converting.specs.declared.pairs.Converted.TheVariants.{Joins, Full}
 use Rattle.segments.specs.Level.{x_of, y_of}
 use Rattle.segments.specs.Needs.{Span}
 use Rattle.converting.specs.Make.{Made, made, second_at, first_at, make_join, Out, out, with_lefts, apart_of, join_pair, first_one, second_one, moved_pair, pair_of}
@@ -39,8 +36,8 @@ pub record Gives (w x js js' : List ℕ) (m m' : ℕ) : Type 0 where
   pub is : js' ≡ set (set js (2 * m) one) (2 * m + 1) two
 
 abbrev pub GivesOf : List ℕ → List ℕ → ℕ → Made → Type 0
-GivesOf w js m (made (Joins m') x js') = Gives w x js js' m m'
-GivesOf w js m (made Full x js') = Unit {0}
+GivesOf w js m (made (Some m') x js') = Gives w x js js' m m'
+GivesOf w js m (made None x js') = Unit {0}
 
 module _ (w js : List ℕ) (m a b : ℕ) (t : Making w js m a b) where
   pub making_point : Point w a
@@ -49,25 +46,25 @@ module _ (w js : List ℕ) (m a b : ℕ) (t : Making w js m a b) where
   pub making_beside : Beside w a
   making_beside = beside w a making_point
 
-  first : (d : Room) (x : List ℕ) → taken d x ≡ duplicate_op w a true → Doubles w (taken d x)
+  first : (d : Option ℕ) (x : List ℕ) → taken d x ≡ duplicate_op w a true → Doubles w (taken d x)
   first d x e = subst (Doubles w) (sym e) (doubles w a true making_point)
 
-  pub making_second : (d : Room) (k : ℕ) (x : List ℕ) → taken d x ≡ duplicate_op w a true → d ≡ room.At k → Point x b
+  pub making_second : (d : Option ℕ) (k : ℕ) (x : List ℕ) → taken d x ≡ duplicate_op w a true → d ≡ Some k → Point x b
   making_second d k x e f =
-      let g : Grew w x k = subst (λ (c : Room). Doubles w (taken c x)) f (first d x e) in
+      let g : Grew w x k = subst (λ (c : Option ℕ). Doubles w (taken c x)) f (first d x e) in
       record { ready = g.keeps.ready; low = omega (arith, g.keeps.more, t.two) }
 
-  pub making_low : (d : Room) (k : ℕ) (x : List ℕ) → taken d x ≡ duplicate_op w a true → d ≡ room.At k → k < 2048
+  pub making_low : (d : Option ℕ) (k : ℕ) (x : List ℕ) → taken d x ≡ duplicate_op w a true → d ≡ Some k → k < 2048
   making_low d k x e f =
-      let g : Grew w x k = subst (λ (c : Room). Doubles w (taken c x)) f (first d x e) in
+      let g : Grew w x k = subst (λ (c : Option ℕ). Doubles w (taken c x)) f (first d x e) in
       omega (arith, g.is, g.points, g.keeps.ready.resolved.few_points)
 
-  pub making_room : (d : Room) (k : ℕ) (x : List ℕ) → taken d x ≡ duplicate_op w a true → d ≡ room.At k → 2 * m + 1 < length js
+  pub making_room : (d : Option ℕ) (k : ℕ) (x : List ℕ) → taken d x ≡ duplicate_op w a true → d ≡ Some k → 2 * m + 1 < length js
   making_room d k x e f = omega (arith, making_low d k x e f, t.few, t.room, low d k x e f)
     where
-      low : (d : Room) (k : ℕ) (x : List ℕ) → taken d x ≡ duplicate_op w a true → d ≡ room.At k → points_of w < 2048
+      low : (d : Option ℕ) (k : ℕ) (x : List ℕ) → taken d x ≡ duplicate_op w a true → d ≡ Some k → points_of w < 2048
       low d k x e f =
-          let g : Grew w x k = subst (λ (c : Room). Doubles w (taken c x)) f (first d x e) in
+          let g : Grew w x k = subst (λ (c : Option ℕ). Doubles w (taken c x)) f (first d x e) in
           omega (arith, g.points, g.keeps.ready.resolved.few_points)
 
   pub make_gives : GivesOf w js m (make_join w js m a b)
@@ -75,7 +72,7 @@ module _ (w js : List ℕ) (m a b : ℕ) (t : Making w js m a b) where
   make_gives = go (duplicate_op w a true) (doubles w a true making_point)
     where
       next : (k : ℕ) (x : List ℕ) → Grew w x k → (c : Taken) → Doubles x c → GivesOf w js m (second_at js m k c)
-      next k x g (taken (room.At j) y) h =
+      next k x g (taken (Some j) y) h =
           record {
             keeps = keeps_on w x y g.keeps h.keeps;
             more = refl;
@@ -86,40 +83,40 @@ module _ (w js : List ℕ) (m a b : ℕ) (t : Making w js m a b) where
             two_low = omega (arith, h.is, h.points);
             is = refl;
           }
-      next k x g (taken room.Full y) h = tt
+      next k x g (taken None y) h = tt
 
       go : (c : Taken) → Doubles w c → GivesOf w js m (first_at js m b c)
-      go (taken (room.At k) x) g = next k x g (duplicate_op x b false) (doubles x b false (record { ready = g.keeps.ready; low = omega (arith, g.keeps.more, t.two) }))
-      go (taken room.Full x) g = tt
+      go (taken (Some k) x) g = next k x g (duplicate_op x b false) (doubles x b false (record { ready = g.keeps.ready; low = omega (arith, g.keeps.more, t.two) }))
+      go (taken None x) g = tt
 
-  pub make_done : (d : Room) (k : ℕ) (x y js' : List ℕ) (r : Converted) → taken d x ≡ duplicate_op w a true → d ≡ room.At k → made r y js' ≡ second_at js m k (duplicate_op x b false) → made r y js' ≡ make_join w js m a b
+  pub make_done : (d : Option ℕ) (k : ℕ) (x y js' : List ℕ) (r : Option ℕ) → taken d x ≡ duplicate_op w a true → d ≡ Some k → made r y js' ≡ second_at js m k (duplicate_op x b false) → made r y js' ≡ make_join w js m a b
   unfolding make_join
   make_done d k x y js' r e f g =
-      let z : duplicate_op w a true ≡ taken (room.At k) x = sym e ∙ ap (λ (c : Room). taken c x) f in
+      let z : duplicate_op w a true ≡ taken (Some k) x = sym e ∙ ap (λ (c : Option ℕ). taken c x) f in
       rw z g
 
-  pub make_full : (d : Room) (x : List ℕ) → taken d x ≡ duplicate_op w a true → d ≡ room.Full → made Full x js ≡ make_join w js m a b
+  pub make_full : (d : Option ℕ) (x : List ℕ) → taken d x ≡ duplicate_op w a true → d ≡ None → made None x js ≡ make_join w js m a b
   unfolding make_join
   make_full d x e f =
-      let z : duplicate_op w a true ≡ taken room.Full x = sym e ∙ ap (λ (c : Room). taken c x) f in
+      let z : duplicate_op w a true ≡ taken None x = sym e ∙ ap (λ (c : Option ℕ). taken c x) f in
       rw z
 
 -- the needs of `second`
-pub doubled_low : (w : List ℕ) (b : ℕ) (after : Bool) → Point w b → (d : Room) (j : ℕ) (x : List ℕ) → taken d x ≡ duplicate_op w b after → d ≡ room.At j → j < 2048
+pub doubled_low : (w : List ℕ) (b : ℕ) (after : Bool) → Point w b → (d : Option ℕ) (j : ℕ) (x : List ℕ) → taken d x ≡ duplicate_op w b after → d ≡ Some j → j < 2048
 doubled_low w b after t d j x e f =
-    let g : Grew w x j = subst (Doubles w) (sym e ∙ ap (λ (c : Room). taken c x) f) (doubles w b after t) in
+    let g : Grew w x j = subst (Doubles w) (sym e ∙ ap (λ (c : Option ℕ). taken c x) f) (doubles w b after t) in
     omega (arith, g.is, g.points, g.keeps.ready.resolved.few_points)
 
 module _ (w js : List ℕ) (m k b : ℕ) (t : Point w b) where
-  pub second_done : (d : Room) (j : ℕ) (x js₁ js₂ : List ℕ) → taken d x ≡ duplicate_op w b false → d ≡ room.At j → js₁ ≡ set js (2 * m) k → js₂ ≡ set js₁ (2 * m + 1) j
-      → made (Joins (m + 1)) x js₂ ≡ second_at js m k (duplicate_op w b false)
+  pub second_done : (d : Option ℕ) (j : ℕ) (x js₁ js₂ : List ℕ) → taken d x ≡ duplicate_op w b false → d ≡ Some j → js₁ ≡ set js (2 * m) k → js₂ ≡ set js₁ (2 * m + 1) j
+      → made (Some (m + 1)) x js₂ ≡ second_at js m k (duplicate_op w b false)
   second_done d j x js₁ js₂ e f g h =
-      let z : duplicate_op w b false ≡ taken (room.At j) x = sym e ∙ ap (λ (c : Room). taken c x) f in
+      let z : duplicate_op w b false ≡ taken (Some j) x = sym e ∙ ap (λ (c : Option ℕ). taken c x) f in
       rw (z, h, g)
 
-  pub second_full : (d : Room) (x : List ℕ) → taken d x ≡ duplicate_op w b false → d ≡ room.Full → made Full x js ≡ second_at js m k (duplicate_op w b false)
+  pub second_full : (d : Option ℕ) (x : List ℕ) → taken d x ≡ duplicate_op w b false → d ≡ None → made None x js ≡ second_at js m k (duplicate_op w b false)
   second_full d x e f =
-      let z : duplicate_op w b false ≡ taken room.Full x = sym e ∙ ap (λ (c : Room). taken c x) f in
+      let z : duplicate_op w b false ≡ taken None x = sym e ∙ ap (λ (c : Option ℕ). taken c x) f in
       rw z
 
 -- ---- a pair
@@ -237,22 +234,22 @@ module _ (w ls rs fs : List ℕ) (i j : ℕ) (t : Overlapping w ls rs fs i j) wh
 
 -- what a pair, and the loops, leave
 abbrev pub PairingOf : List ℕ → List ℕ → Out → Type 0
-PairingOf rs fs (out (Joins m) w ls js) = Pairing w ls rs fs js m
-PairingOf rs fs (out Full w ls js) = Unit {0}
+PairingOf rs fs (out (Some m) w ls js) = Pairing w ls rs fs js m
+PairingOf rs fs (out None w ls js) = Unit {0}
 
 pub pair_kept : (w ls rs fs js : List ℕ) (m i j : ℕ) → PairAt w ls rs fs js m i j → PairingOf rs fs (pair_of rs fs js i j w ls m)
 unfolding pair_of moved_pair join_pair
 pair_kept w ls rs fs js m i j t = go (apart_of w ls rs fs i j) refl
   where
     left : Overlapping w ls rs fs i j → (c : Made) → GivesOf w js m c → PairingOf rs fs (with_lefts (set (set ls i (first_one w ls fs i j)) j (second_one w ls fs i j)) c)
-    left o (made (Joins m') x js') g = pairing_on w ls rs fs i j o js m t.pairing x js' m' g
-    left o (made Full x js') g = tt
+    left o (made (Some m') x js') g = pairing_on w ls rs fs i j o js m t.pairing x js' m' g
+    left o (made None x js') g = tt
 
     side : (o : Overlapping w ls rs fs i j) (on : Bool) → PairingOf rs fs (with_lefts (set (set ls i (first_one w ls fs i j)) j (second_one w ls fs i j))
         (cond on (make_join w js m (first_one w ls fs i j) (second_one w ls fs i j)) (make_join w js m (second_one w ls fs i j) (first_one w ls fs i j))))
     side o true = left o (make_join w js m (first_one w ls fs i j) (second_one w ls fs i j)) (make_gives w js m (first_one w ls fs i j) (second_one w ls fs i j) (making_on w ls rs fs i j o js m t.pairing))
     side o false = left o (make_join w js m (second_one w ls fs i j) (first_one w ls fs i j)) (make_gives w js m (second_one w ls fs i j) (first_one w ls fs i j) (making_back w ls rs fs i j o js m t.pairing))
 
-    go : (z : Bool) → apart_of w ls rs fs i j ≡ z → PairingOf rs fs (cond z (out (Joins m) w ls js) (moved_pair w ls fs js m i j))
+    go : (z : Bool) → apart_of w ls rs fs i j ≡ z → PairingOf rs fs (cond z (out (Some m) w ls js) (moved_pair w ls fs js m i j))
     go true e = t.pairing
     go false e = side (pair_overlaps w ls rs fs js m i j t e) (eqb (get_or fs i 0) 1)

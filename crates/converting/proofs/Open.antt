@@ -10,7 +10,7 @@ use lib.Dec.{eqb, ltb}
 use lib.ListN.{get_or, set, length, length-set}
 use lib.Seq.{get_or-set_same, get_or-set_other}
 use borrow.Author.Tests.{eqb-false}
-use Rattle.primitives.specs.declared.Room.TheVariants as room
+use Rattle.std.proofs.Common.{Some, None}
 use Rattle.store.specs.Field.{pt, REC, NONE}
 use Rattle.store.specs.Words.{view}
 use Rattle.store.specs.Named.{points_of}
@@ -21,7 +21,6 @@ use Rattle.joins.specs.Paths.{Lives}
 use Rattle.joins.specs.Needs.{Point}
 use Rattle.joins.proofs.Resolving.{res_same}
 use Rattle.joins.proofs.Joining.{Shut}
-use Rattle.converting.specs.declared.pairs.Converted.TheVariants.{Joins, Full}
 use Rattle.sorting.specs.declared.HorzSegment.{HorzSegment}
 use Rattle.segments.specs.Level.{x_of}
 use Rattle.segments.specs.Needs.{Span}
@@ -44,8 +43,8 @@ pub record Shuts (w ls rs js : List ℕ) (m : ℕ) : Type 0 where
 -- ---- two copies and their join
 
 abbrev MadeOpen : List ℕ → ℕ → Made → Type 0
-MadeOpen w m (made (Joins m') x js') = Copied (view w) (view x) × ((k : ℕ) → k < 2 * m' → Shut (view x) (get_or js' k 0))
-MadeOpen w m (made Full x js') = Unit {0}
+MadeOpen w m (made (Some m') x js') = Copied (view w) (view x) × ((k : ℕ) → k < 2 * m' → Shut (view x) (get_or js' k 0))
+MadeOpen w m (made None x js') = Unit {0}
 
 module _ (w js : List ℕ) (m a b : ℕ) (t : Making w js m a b) (ea : Shut (view w) a) (eb : Shut (view w) b) (p : (k : ℕ) → k < 2 * m → (get_or js k 0 < points_of w) × Shut (view w) (get_or js k 0)) where
   make_open : MadeOpen w m (make_join w js m a b)
@@ -53,7 +52,7 @@ module _ (w js : List ℕ) (m a b : ℕ) (t : Making w js m a b) (ea : Shut (vie
   make_open = go (duplicate_op w a true) (doubles w a true (making_point w js m a b t)) (opens w a true (making_point w js m a b t) ea)
     where
       next : (k : ℕ) (x : List ℕ) → Grew w x k → Copied (view w) (view x) → Shut (view x) k → (c : Taken) → Doubles x c → Opens x c → MadeOpen w m (second_at js m k c)
-      next k x g o s (taken (room.At j) y) h u = (copied_on (view w) (view x) (view y) o u.0, λ z l. at z l (ℕ_discrete z (2 * m + 1)) (ℕ_discrete z (2 * m)))
+      next k x g o s (taken (Some j) y) h u = (copied_on (view w) (view x) (view y) o u.0, λ z l. at z l (ℕ_discrete z (2 * m + 1)) (ℕ_discrete z (2 * m)))
         where
           fits : 2 * m + 1 < length js
           fits = omega (arith, t.few, t.room, g.points, h.points, h.keeps.ready.resolved.few_points)
@@ -64,19 +63,19 @@ module _ (w js : List ℕ) (m a b : ℕ) (t : Making w js m a b) (ea : Shut (vie
           at z l (no d) (no f) =
               let q = p z (omega arith) in
               rw (get_or-set_other (set js (2 * m) k) (2 * m + 1) z j 0 d, get_or-set_other js (2 * m) z k 0 f) (u.0.opened.shut (get_or js z 0) (omega (arith, q.0, g.points)) (o.opened.shut (get_or js z 0) q.0 q.1))
-      next k x g o s (taken room.Full y) h u = tt
+      next k x g o s (taken None y) h u = tt
 
       go : (c : Taken) → Doubles w c → Opens w c → MadeOpen w m (first_at js m b c)
-      go (taken (room.At k) x) g o =
+      go (taken (Some k) x) g o =
           let pb : Point x b = record { ready = g.keeps.ready; low = omega (arith, g.keeps.more, t.two) } in
           next k x g o.0 o.1 (duplicate_op x b false) (doubles x b false pb) (opens x b false pb (o.0.opened.shut b t.two eb))
-      go (taken room.Full x) g o = tt
+      go (taken None x) g o = tt
 
 -- ---- a pair
 
 abbrev pub OutOpen : List ℕ → List ℕ → Out → Type 0
-OutOpen w rs (out (Joins m) x ls js) = Copied (view w) (view x) × Shuts x ls rs js m
-OutOpen w rs (out Full x ls js) = Unit {0}
+OutOpen w rs (out (Some m) x ls js) = Copied (view w) (view x) × Shuts x ls rs js m
+OutOpen w rs (out None x ls js) = Unit {0}
 
 -- a point of the same ring
 with_it : (w : List ℕ) (i p q : ℕ) → Lives (view w) i p → Lives (view w) i q → Shut (view w) p → Shut (view w) q
@@ -104,7 +103,7 @@ module _ (w ls rs fs js : List ℕ) (m i j : ℕ) (t : PairAt w ls rs fs js m i 
         with_it w r.at (get_or rs j 0) (second_one w ls fs i j) r.two r.one (with_it w q.at (get_or ls j 0) (get_or rs j 0) q.one q.two (s.lefts j t.low t.two))
 
     left_of : (c : Made) → MadeOpen w m c → OutOpen w rs (with_lefts (set (set ls i (first_one w ls fs i j)) j (second_one w ls fs i j)) c)
-    left_of (made (Joins m') x js') p = (p.0, record { lefts = λ z h d. at z h d (ℕ_discrete z j) (ℕ_discrete z i); joins = p.1 })
+    left_of (made (Some m') x js') p = (p.0, record { lefts = λ z h d. at z h d (ℕ_discrete z j) (ℕ_discrete z i); joins = p.1 })
       where
         at : (z : ℕ) → z < 256 → get_or rs z 0 ≢ NONE → Dec (z ≡ j) → Dec (z ≡ i) → Shut (view x) (get_or (set (set ls i (first_one w ls fs i j)) j (second_one w ls fs i j)) z 0)
         at z h d (yes e) f =
@@ -116,7 +115,7 @@ module _ (w ls rs fs js : List ℕ) (m i j : ℕ) (t : PairAt w ls rs fs js m i 
         at z h d (no e) (no f) =
             rw (get_or-set_other (set ls i (first_one w ls fs i j)) j z (second_one w ls fs i j) 0 e, get_or-set_other ls i z (first_one w ls fs i j) 0 f)
             (p.0.opened.shut (get_or ls z 0) (bound z h d) (s.lefts z h d))
-    left_of (made Full x js') p = tt
+    left_of (made None x js') p = tt
 
     named : (k : ℕ) → k < 2 * m → (get_or js k 0 < points_of w) × Shut (view w) (get_or js k 0)
     named k h = (t.pairing.named k h, s.joins k h)
@@ -130,27 +129,27 @@ module _ (w ls rs fs js : List ℕ) (m i j : ℕ) (t : PairAt w ls rs fs js m i 
   unfolding pair_of moved_pair join_pair
   pair_open = go (apart_of w ls rs fs i j) refl
     where
-      go : (z : Bool) → apart_of w ls rs fs i j ≡ z → OutOpen w rs (cond z (out (Joins m) w ls js) (moved_pair w ls fs js m i j))
+      go : (z : Bool) → apart_of w ls rs fs i j ≡ z → OutOpen w rs (cond z (out (Some m) w ls js) (moved_pair w ls fs js m i j))
       go true e = (copied_self (view w), s)
       go false e = side (pair_overlaps w ls rs fs js m i j t e) (eqb (get_or fs i 0) 1)
 
 -- ---- the loops
 
 open_on : (w x rs : List ℕ) (c : Out) → Copied (view w) (view x) → OutOpen x rs c → OutOpen w rs c
-open_on w x rs (out (Joins m) y ls js) o p = (copied_on (view w) (view x) (view y) o p.0, p.1)
-open_on w x rs (out Full y ls js) o p = tt
+open_on w x rs (out (Some m) y ls js) o p = (copied_on (view w) (view x) (view y) o p.0, p.1)
+open_on w x rs (out None y ls js) o p = tt
 
 after : (w rs fs : List ℕ) (g : List ℕ → List ℕ → List ℕ → ℕ → Out) (c : Out) → PairingOf rs fs c → OutOpen w rs c
     → ((x ls js : List ℕ) (k : ℕ) → Pairing x ls rs fs js k → Shuts x ls rs js k → OutOpen x rs (g x ls js k)) → OutOpen w rs (and_then g c)
-after w rs fs g (out (Joins k) x ls js) q u r = open_on w x rs (g x ls js k) u.0 (r x ls js k q u.1)
-after w rs fs g (out Full x ls js) q u r = tt
+after w rs fs g (out (Some k) x ls js) q u r = open_on w x rs (g x ls js k) u.0 (r x ls js k q u.1)
+after w rs fs g (out None x ls js) q u r = tt
 
 inner_open : (f : ℕ) (rs fs : List ℕ) (i j : ℕ) (w ls js : List ℕ) (m : ℕ) → Pairing w ls rs fs js m → get_or rs i 0 ≢ NONE → i < j → j + f ≡ 256 → Shuts w ls rs js m → OutOpen w rs (inner_from f rs fs i j w ls js m)
 unfolding inner_from
 inner_open zero rs fs i j w ls js m p v b e s = (copied_self (view w), s)
 inner_open (suc f) rs fs i j w ls js m p v b e s = go (eqb (get_or rs j 0) NONE) refl (λ x ls' js' k q u. inner_open f rs fs i (j + 1) x ls' js' k q v (omega arith) (omega arith) u)
   where
-    go : (z : Bool) → eqb (get_or rs j 0) NONE ≡ z → ((x ls' js' : List ℕ) (k : ℕ) → Pairing x ls' rs fs js' k → Shuts x ls' rs js' k → OutOpen x rs (inner_from f rs fs i (j + 1) x ls' js' k)) → OutOpen w rs (cond z (out (Joins m) w ls js) (and_then (inner_from f rs fs i (j + 1)) (pair_of rs fs js i j w ls m)))
+    go : (z : Bool) → eqb (get_or rs j 0) NONE ≡ z → ((x ls' js' : List ℕ) (k : ℕ) → Pairing x ls' rs fs js' k → Shuts x ls' rs js' k → OutOpen x rs (inner_from f rs fs i (j + 1) x ls' js' k)) → OutOpen w rs (cond z (out (Some m) w ls js) (and_then (inner_from f rs fs i (j + 1)) (pair_of rs fs js i j w ls m)))
     go true d r = (copied_self (view w), s)
     go false d r =
         let t : PairAt w ls rs fs js m i j = record { pairing = p; before = b; low = omega arith; one = v; two = eqb-false _ _ d } in
@@ -161,7 +160,7 @@ unfolding outer_from
 outer_open zero rs fs i w ls js m p e s = (copied_self (view w), s)
 outer_open (suc f) rs fs i w ls js m p e s = go (eqb (get_or rs i 0) NONE) refl (λ x ls' js' k q u. outer_open f rs fs (i + 1) x ls' js' k q (omega arith) u)
   where
-    go : (z : Bool) → eqb (get_or rs i 0) NONE ≡ z → ((x ls' js' : List ℕ) (k : ℕ) → Pairing x ls' rs fs js' k → Shuts x ls' rs js' k → OutOpen x rs (outer_from f rs fs (i + 1) x ls' js' k)) → OutOpen w rs (cond z (out (Joins m) w ls js) (and_then (outer_from f rs fs (i + 1)) (inner_from f rs fs i (i + 1) w ls js m)))
+    go : (z : Bool) → eqb (get_or rs i 0) NONE ≡ z → ((x ls' js' : List ℕ) (k : ℕ) → Pairing x ls' rs fs js' k → Shuts x ls' rs js' k → OutOpen x rs (outer_from f rs fs (i + 1) x ls' js' k)) → OutOpen w rs (cond z (out (Some m) w ls js) (and_then (outer_from f rs fs (i + 1)) (inner_from f rs fs i (i + 1) w ls js m)))
     go true d r = (copied_self (view w), s)
     go false d r =
         after w rs fs (outer_from f rs fs (i + 1)) (inner_from f rs fs i (i + 1) w ls js m) (inner_kept f rs fs i (i + 1) w ls js m p (eqb-false _ _ d) (omega arith) (omega arith))
@@ -215,8 +214,8 @@ shut_at w (a ∷ R) h (suc s) l d = shut_at w R h.1 s (omega arith) d
 
 -- convert_horz_segs_to_joins of segments and joins on closed rings
 abbrev pub ConvertedOpen : List ℕ → Made → Type 0
-ConvertedOpen w (made (Joins m) x js) = Copied (view w) (view x) × ((k : ℕ) → k < 2 * m → Shut (view x) (get_or js k 0))
-ConvertedOpen w (made Full x js) = Unit {0}
+ConvertedOpen w (made (Some m) x js) = Copied (view w) (view x) × ((k : ℕ) → k < 2 * m → Shut (view x) (get_or js k 0))
+ConvertedOpen w (made None x js) = Unit {0}
 
 pub convert_open : (w ps : List ℕ) (n : ℕ) (js : List ℕ) (m : ℕ) → Converting w ps n js m → ((k : ℕ) → k < n → Shut (view w) (get_or ps k 0)) → ((k : ℕ) → k < 2 * m → Shut (view w) (get_or js k 0)) → ConvertedOpen w (convert_horz_segs_to_joins w n ps js m)
 unfolding convert_horz_segs_to_joins pairs_of
@@ -235,5 +234,5 @@ convert_open w ps n js m t s e =
     fs = map (λ (q : HorzSegment). q.forward) (sorted_segments w n ps)
 
     go : (c : Out) → OutOpen w rs c → ConvertedOpen w (made_of c)
-    go (out (Joins k) x ls' js') p = (p.0, p.1.joins)
-    go (out Full x ls' js') p = tt
+    go (out (Some k) x ls' js') p = (p.0, p.1.joins)
+    go (out None x ls' js') p = tt

@@ -8,6 +8,7 @@ use native.Mathlib.Omega.{arith}
 use lib.Dec.{eqb, ltb}
 use lib.ListN.{length, get_or, set, replicate}
 use borrow.Author.Tests.{eq-eqb, ne_eqb, eqb-true}
+use Rattle.std.proofs.Common.{Some}
 use Rattle.job.specs.Limits as limit
 use Rattle.store.specs.Field.{NONE}
 use Rattle.store.specs.Named.{points_of}
@@ -20,7 +21,6 @@ use Rattle.segments.specs.Needs.{Span}
 use Rattle.segments.specs.Update.{blank, segment_through, Claim, claim, claim_of, on_claim, update_from, segments_of}
 use Rattle.segments.specs.Needs.{Listed}
 use Rattle.segments.proofs.Updates.{Listable}
-use Rattle.converting.specs.declared.pairs.Converted.TheVariants.{Joins}
 use Rattle.converting.specs.Make.{made, out, made_of, and_then, inner_from, outer_from, sorted_segments, pairs_of, convert_horz_segs_to_joins}
 use Rattle.converting.specs.Sentences.{IsValid, ValidFirst, valid_in}
 use Rattle.converting.proofs.Converting.{sorted_256, sorted_fit}
@@ -120,22 +120,22 @@ unfolding sorted
 sorted_valid l = omega (arith, reverse_valid (place_all [] l), all_valid [] l)
 
 -- nothing is joined where the second is not valid
-inner_still : (f : ℕ) (rs fs : List ℕ) (i j : ℕ) (w ls js : List ℕ) (m : ℕ) → get_or rs j 0 ≡ NONE → inner_from f rs fs i j w ls js m ≡ out (Joins m) w ls js
+inner_still : (f : ℕ) (rs fs : List ℕ) (i j : ℕ) (w ls js : List ℕ) (m : ℕ) → get_or rs j 0 ≡ NONE → inner_from f rs fs i j w ls js m ≡ out (Some m) w ls js
 unfolding inner_from
 inner_still zero rs fs i j w ls js m e = refl
 inner_still (suc f) rs fs i j w ls js m e = rw (eq-eqb (get_or rs j 0) NONE e)
 
-outer_still : (f : ℕ) (rs fs : List ℕ) (i : ℕ) (w ls js : List ℕ) (m : ℕ) → get_or rs i 0 ≡ NONE → outer_from f rs fs i w ls js m ≡ out (Joins m) w ls js
+outer_still : (f : ℕ) (rs fs : List ℕ) (i : ℕ) (w ls js : List ℕ) (m : ℕ) → get_or rs i 0 ≡ NONE → outer_from f rs fs i w ls js m ≡ out (Some m) w ls js
 unfolding outer_from
 outer_still zero rs fs i w ls js m e = refl
 outer_still (suc f) rs fs i w ls js m e = rw (eq-eqb (get_or rs i 0) NONE e)
 
-alone : (f : ℕ) (rs fs w ls js : List ℕ) (m : ℕ) → get_or rs 1 0 ≡ NONE → outer_from f rs fs 0 w ls js m ≡ out (Joins m) w ls js
+alone : (f : ℕ) (rs fs w ls js : List ℕ) (m : ℕ) → get_or rs 1 0 ≡ NONE → outer_from f rs fs 0 w ls js m ≡ out (Some m) w ls js
 unfolding outer_from
 alone zero rs fs w ls js m e = refl
 alone (suc f) rs fs w ls js m e = go (eqb (get_or rs 0 0) NONE)
   where
-    go : (t : Bool) → cond t (out (Joins m) w ls js) (and_then (outer_from f rs fs 1) (inner_from f rs fs 0 1 w ls js m)) ≡ out (Joins m) w ls js
+    go : (t : Bool) → cond t (out (Some m) w ls js) (and_then (outer_from f rs fs 1) (inner_from f rs fs 0 1 w ls js m)) ≡ out (Some m) w ls js
     go true = refl
     go false = ap (and_then (outer_from f rs fs 1)) (inner_still f rs fs 0 1 w ls js m e) ∙ outer_still f rs fs 1 w ls js m e
 
@@ -154,12 +154,12 @@ unfolding sorted_segments
 few w n ps h = omega (arith, sorted_valid (segments_of w n ps))
 
 -- "Fewer than two valid: no joins made"
-pub few_valid : (w : List ℕ) (n : ℕ) (ps js : List ℕ) (m : ℕ) → valid_in (segments_of w n ps) < 2 → convert_horz_segs_to_joins w n ps js m ≡ made (Joins m) w js
+pub few_valid : (w : List ℕ) (n : ℕ) (ps js : List ℕ) (m : ℕ) → valid_in (segments_of w n ps) < 2 → convert_horz_segs_to_joins w n ps js m ≡ made (Some m) w js
 unfolding convert_horz_segs_to_joins pairs_of
 few_valid w n ps js m h = go (first_two (sorted_segments w n ps) (omega (arith, sorted_256 w n ps)) (few w n ps h))
   where
     go : (get_or (map (λ (r : HorzSegment). r.right) (sorted_segments w n ps)) 0 0 ≡ NONE) ⊎ (get_or (map (λ (r : HorzSegment). r.right) (sorted_segments w n ps)) 1 0 ≡ NONE)
-        → made_of (outer_from limit.SEGMENTS (map (λ (r : HorzSegment). r.right) (sorted_segments w n ps)) (map (λ (r : HorzSegment). r.forward) (sorted_segments w n ps)) 0 w (map (λ (r : HorzSegment). r.left) (sorted_segments w n ps)) js m) ≡ made (Joins m) w js
+        → made_of (outer_from limit.SEGMENTS (map (λ (r : HorzSegment). r.right) (sorted_segments w n ps)) (map (λ (r : HorzSegment). r.forward) (sorted_segments w n ps)) 0 w (map (λ (r : HorzSegment). r.left) (sorted_segments w n ps)) js m) ≡ made (Some m) w js
     go (inl e) = ap made_of (outer_still limit.SEGMENTS _ _ 0 w _ js m e)
     go (inr e) = ap made_of (alone limit.SEGMENTS _ _ w _ js m e)
 
@@ -195,5 +195,5 @@ segments_valid : (w : List ℕ) (n : ℕ) (ps : List ℕ) → valid_in (segments
 unfolding segments_of
 segments_valid w n ps = omega (arith, updated_valid n 0 w ps (replicate limit.POINTS 0) (replicate limit.SEGMENTS blank), blank_valid limit.SEGMENTS)
 
-pub one_alone : (w : List ℕ) (n : ℕ) (ps js : List ℕ) (m : ℕ) → n < 2 → made (Joins m) w js ≡ convert_horz_segs_to_joins w n ps js m
+pub one_alone : (w : List ℕ) (n : ℕ) (ps js : List ℕ) (m : ℕ) → n < 2 → made (Some m) w js ≡ convert_horz_segs_to_joins w n ps js m
 one_alone w n ps js m h = sym (few_valid w n ps js m (omega (arith, segments_valid w n ps)))

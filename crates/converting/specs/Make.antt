@@ -1,11 +1,8 @@
 -- The second loop of convert_horz_segs_to_joins: pairs of segments, their left points moved together, and a join of two new points.
-use Rattle.std.specs.Prelude.{ℕ, zero, suc, ◌+◌, ◌*◌, Bool, true, false, cond, ◌||◌, not, List, map, eqb, ltb, get_or, set}
+use Rattle.std.specs.Prelude.{ℕ, zero, suc, ◌+◌, ◌*◌, Bool, true, false, cond, ◌||◌, not, List, map, eqb, ltb, get_or, set, Option, Some, None}
 use Rattle.job.specs.Limits as limit
-use Rattle.primitives.specs.declared.Room.TheVariants as room
 use Rattle.store.specs.Field.{NONE}
 use Rattle.primitives.specs.Primitive.{Taken, taken, duplicate_op}
-use Rattle.converting.specs.declared.pairs.Converted.{Converted}
-use Rattle.converting.specs.declared.pairs.Converted.TheVariants.{Joins, Full}
 use Rattle.segments.specs.Level.{x_of, y_of}
 use Rattle.segments.specs.Pair.{one_of, two_of}
 use Rattle.sorting.specs.declared.HorzSegment.{HorzSegment}
@@ -16,16 +13,16 @@ use Rattle.segments.specs.Update.{segments_of}
 
 -- the answer, the words, and the joins' points two by two
 pub data Made : Type 0 where
-  made : Converted → List ℕ → List ℕ → Made
+  made : Option ℕ → List ℕ → List ℕ → Made
 
 -- the second point was made: join number m is k and it
 abbrev pub second_at : List ℕ → ℕ → ℕ → Taken → Made
-second_at js m k (taken (room.At j) x) = made (Joins (m + 1)) x (set (set js (2 * m) k) (2 * m + 1) j)
-second_at js m k (taken room.Full x) = made Full x js
+second_at js m k (taken (Some j) x) = made (Some (m + 1)) x (set (set js (2 * m) k) (2 * m + 1) j)
+second_at js m k (taken None x) = made None x js
 
 abbrev pub first_at : List ℕ → ℕ → ℕ → Taken → Made
-first_at js m b (taken (room.At k) x) = second_at js m k (duplicate_op x b false)
-first_at js m b (taken room.Full x) = made Full x js
+first_at js m b (taken (Some k) x) = second_at js m k (duplicate_op x b false)
+first_at js m b (taken None x) = made None x js
 
 -- a copy of a after it, a copy of b before it, and their join
 unfoldable pub make_join : List ℕ → List ℕ → ℕ → ℕ → ℕ → Made
@@ -35,7 +32,7 @@ make_join w js m a b = first_at js m b (duplicate_op w a true)
 
 -- the answer, the words, the left points, the joins
 pub data Out : Type 0 where
-  out : Converted → List ℕ → List ℕ → List ℕ → Out
+  out : Option ℕ → List ℕ → List ℕ → List ℕ → Out
 
 abbrev pub with_lefts : List ℕ → Made → Out
 with_lefts ls (made r w js) = out r w ls js
@@ -63,24 +60,24 @@ unfoldable pub moved_pair : List ℕ → List ℕ → List ℕ → List ℕ → 
 moved_pair w ls fs js m i j = join_pair (eqb (get_or fs i 0) 1) (first_one w ls fs i j) (second_one w ls fs i j) w ls js m i j
 
 unfoldable pub pair_of : List ℕ → List ℕ → List ℕ → ℕ → ℕ → List ℕ → List ℕ → ℕ → Out
-pair_of rs fs js₀ i j w ls m = cond (apart_of w ls rs fs i j) (out (Joins m) w ls js₀) (moved_pair w ls fs js₀ m i j)
+pair_of rs fs js₀ i j w ls m = cond (apart_of w ls rs fs i j) (out (Some m) w ls js₀) (moved_pair w ls fs js₀ m i j)
 
 -- ---- the loops
 
 -- the rest, unless there was no room
 abbrev pub and_then : (List ℕ → List ℕ → List ℕ → ℕ → Out) → Out → Out
-and_then k (out (Joins m) w ls js) = k w ls js m
-and_then k (out Full w ls js) = out Full w ls js
+and_then k (out (Some m) w ls js) = k w ls js m
+and_then k (out None w ls js) = out None w ls js
 
 -- segment i with f segments from j on, up to the first that is not valid
 unfoldable pub inner_from : ℕ → List ℕ → List ℕ → ℕ → ℕ → List ℕ → List ℕ → List ℕ → ℕ → Out
-inner_from zero rs fs i j w ls js m = out (Joins m) w ls js
-inner_from (suc f) rs fs i j w ls js m = cond (eqb (get_or rs j 0) NONE) (out (Joins m) w ls js) (and_then (inner_from f rs fs i (j + 1)) (pair_of rs fs js i j w ls m))
+inner_from zero rs fs i j w ls js m = out (Some m) w ls js
+inner_from (suc f) rs fs i j w ls js m = cond (eqb (get_or rs j 0) NONE) (out (Some m) w ls js) (and_then (inner_from f rs fs i (j + 1)) (pair_of rs fs js i j w ls m))
 
 -- segments i, i + 1, .., f of them, each with those after it, up to the first that is not valid
 unfoldable pub outer_from : ℕ → List ℕ → List ℕ → ℕ → List ℕ → List ℕ → List ℕ → ℕ → Out
-outer_from zero rs fs i w ls js m = out (Joins m) w ls js
-outer_from (suc f) rs fs i w ls js m = cond (eqb (get_or rs i 0) NONE) (out (Joins m) w ls js) (and_then (outer_from f rs fs (i + 1)) (inner_from f rs fs i (i + 1) w ls js m))
+outer_from zero rs fs i w ls js m = out (Some m) w ls js
+outer_from (suc f) rs fs i w ls js m = cond (eqb (get_or rs i 0) NONE) (out (Some m) w ls js) (and_then (outer_from f rs fs (i + 1)) (inner_from f rs fs i (i + 1) w ls js m))
 
 -- ---- the whole
 

@@ -10,18 +10,11 @@ ghost use Rattle.converting.specs.Make.{made, second_at, make_join, out, apart_o
 ghost use Rattle.converting.specs.Needs.{Making, Pairing, Valid, Moving, Joining, PairAt};
 
 use job::Job;
-use primitives::{Room, duplicate_op};
+use primitives::duplicate_op;
 use segments::level;
 use segments::level::Two;
 use sorting::{load, save};
 use store::{Col, NONE, get};
-
-// How many joins there are now, or that there is no room for a point.
-#[derive(Clone, Copy)]
-pub enum Converted {
-    Joins(usize),
-    Full,
-}
 
 // A join's point.
 fn put_point(joins: &mut [u32], i: usize, k: usize)
@@ -31,32 +24,24 @@ fn put_point(joins: &mut [u32], i: usize, k: usize)
     joins[i] = k as u32;
 }
 
-// The second point of join m, and the join.
-fn second(w: &mut [u32], joins: &mut [u32], m: usize, k: usize, b: usize) -> Converted
+// The second point of join m, and the join; how many joins there are now, or none where there is no room for a point.
+fn second(w: &mut [u32], joins: &mut [u32], m: usize, k: usize, b: usize) -> Option<usize>
     requires { Point w.old b × (2 * m + 1 < length joins.old) × (k < limit.POINTS) }
     ensures { made result w.new joins.new ≡ second_at joins.old m k (duplicate_op w.old b false) }
 {
-    let d = duplicate_op(w, b, false);
-    match d {
-        Room::At(j) => {
-            put_point(joins, 2 * m, k);
-            put_point(joins, 2 * m + 1, j);
-            Converted::Joins(m + 1)
-        }
-        Room::Full => Converted::Full,
-    }
+    let j = duplicate_op(w, b, false)?;
+    put_point(joins, 2 * m, k);
+    put_point(joins, 2 * m + 1, j);
+    Some(m + 1)
 }
 
 // A copy of a after it, a copy of b before it, and their join.
-fn make_join(w: &mut [u32], joins: &mut [u32], m: usize, a: usize, b: usize) -> Converted
+fn make_join(w: &mut [u32], joins: &mut [u32], m: usize, a: usize, b: usize) -> Option<usize>
     requires { Making w.old joins.old m a b }
     ensures { made result w.new joins.new ≡ make_join w.old joins.old m a b }
 {
-    let d = duplicate_op(w, a, true);
-    match d {
-        Room::At(k) => second(w, joins, m, k, b),
-        Room::Full => Converted::Full,
-    }
+    let k = duplicate_op(w, a, true)?;
+    second(w, joins, m, k, b)
 }
 
 // The left point of row i is left of the right point of row j.
@@ -111,7 +96,7 @@ fn join_pair(
     m: usize,
     i: usize,
     j: usize,
-) -> Converted
+) -> Option<usize>
     requires { Joining w.old lefts.old forwards.now joins.old m i j }
     ensures { out result w.new lefts.new joins.new ≡ moved_pair w.old lefts.old forwards.now joins.old m i j }
 {
@@ -137,13 +122,12 @@ fn pair(
     m: usize,
     i: usize,
     j: usize,
-) -> Converted
+) -> Option<usize>
     requires { PairAt w.old lefts.old rights.now forwards.now joins.old m i j }
     ensures { out result w.new lefts.new joins.new ≡ pair_of rights.now forwards.now joins.old i j w.old lefts.old m }
 {
-    let t = apart(w, lefts, rights, forwards, i, j);
-    if t {
-        return Converted::Joins(m);
+    if apart(w, lefts, rights, forwards, i, j) {
+        return Some(m);
     }
     join_pair(w, lefts, forwards, joins, m, i, j)
 }
@@ -157,29 +141,18 @@ fn inner(
     joins: &mut [u32],
     before: usize,
     i: usize,
-) -> Converted
+) -> Option<usize>
     requires { Pairing w.old lefts.old rights.now forwards.now joins.old before × (i < limit.SEGMENTS) × (get_or rights.now i 0 ≢ field.NONE) }
     ensures { out result w.new lefts.new joins.new ≡ inner_from (limit.SEGMENTS - (i + 1)) rights.now forwards.now i (i + 1) w.old lefts.old joins.old before }
 {
     let mut m = before;
-    let mut j = i + 1;
-    while j < Job::SEGMENTS {
-        let r = load(rights, j);
-        if r == NONE {
-            return Converted::Joins(m);
+    for j in i + 1..Job::SEGMENTS {
+        if load(rights, j) == NONE {
+            return Some(m);
         }
-        let p = pair(w, lefts, rights, forwards, joins, m, i, j);
-        match p {
-            Converted::Joins(k) => {
-                m = k;
-                j += 1;
-            }
-            Converted::Full => {
-                return Converted::Full;
-            }
-        }
+        m = pair(w, lefts, rights, forwards, joins, m, i, j)?;
     }
-    Converted::Joins(m)
+    Some(m)
 }
 
 // Every segment with those after it, up to the first that is not valid.
@@ -190,27 +163,16 @@ pub(crate) fn outer(
     forwards: &[usize],
     joins: &mut [u32],
     before: usize,
-) -> Converted
+) -> Option<usize>
     requires { Pairing w.old lefts.old rights.now forwards.now joins.old before }
     ensures { out result w.new lefts.new joins.new ≡ outer_from limit.SEGMENTS rights.now forwards.now 0 w.old lefts.old joins.old before }
 {
     let mut m = before;
-    let mut i = 0;
-    while i < Job::SEGMENTS {
-        let r = load(rights, i);
-        if r == NONE {
-            return Converted::Joins(m);
+    for i in 0..Job::SEGMENTS {
+        if load(rights, i) == NONE {
+            return Some(m);
         }
-        let p = inner(w, lefts, rights, forwards, joins, m, i);
-        match p {
-            Converted::Joins(k) => {
-                m = k;
-                i += 1;
-            }
-            Converted::Full => {
-                return Converted::Full;
-            }
-        }
+        m = inner(w, lefts, rights, forwards, joins, m, i)?;
     }
-    Converted::Joins(m)
+    Some(m)
 }

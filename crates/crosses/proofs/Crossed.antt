@@ -1,10 +1,10 @@
 -- The cross products of two edges and the tests on them, as the code's words hold them.
 use mathlib.Core.Path.{◌≡◌, sym, ◌∙◌}
 use mathlib.Core.Logic.{◌≢◌}
-use mathlib.Core.Bool.{Bool, true, false, not}
+use mathlib.Core.Bool.{Bool, true, false}
 use Prim.Native.Nat.{◌^◌}
 use native.Mathlib.Omega.{arith}
-use borrow.Author.Tests.{eq-eqb, ne_eqb, not-true, not-false}
+use borrow.Author.Tests.{eq-eqb, ne_eqb}
 use lib.Dec.{eqb}
 use lib.IntN.{ℤ, pos, ◌-ℤ◌, ◌*ℤ◌}
 use lib.Signed.{lt_z}
@@ -13,21 +13,12 @@ use mir.Val.{SFits, of_z}
 use mir.Facts.{to_z-of_z}
 use Rattle.exact.specs.Num.{Within}
 use Rattle.exact.specs.Equal.{eq_z}
-use Rattle.exact.proofs.Words.{i32, i64, Held, held_here, held_is, held_64, held_sub, held_mul, held_eq, asked}
+use Rattle.exact.proofs.Words.{i32, i64, Held, held_here, held_is, held_64, held_sub, held_eq, asked}
 use Rattle.geometry.specs.declared.Point.{Point}
 use Rattle.geometry.specs.Plane.{divisor, along_first, along_second, strictly_within, segments_intersect}
 use Rattle.geometry.specs.Table.{InTable}
 use Rattle.geometry.proofs.Coordinates.{coordinate, product_of}
 use Rattle.crossing.proofs.Differences.{num_divisor, num_first, num_second}
-
--- ---- the answer of `product`
-pub wide_sub : {a b : ℤ} → Within (2 ^ 20) a → Within (2 ^ 20) b → Held (i64 (i32 a) -ℤ i64 (i32 b)) (a -ℤ b) (2 ^ 21)
-wide_sub h k = held_sub (held_64 (coordinate h) tt) (held_64 (coordinate k) tt)
-
-pub wide_mul :
-    {a b c d : ℤ} → Within (2 ^ 20) a → Within (2 ^ 20) b → Within (2 ^ 20) c → Within (2 ^ 20) d →
-    Held (i64 (i64 (i32 a) -ℤ i64 (i32 b)) *ℤ i64 (i64 (i32 c) -ℤ i64 (i32 d))) ((a -ℤ b) *ℤ (c -ℤ d)) (2 ^ 42)
-wide_mul h k l m = held_mul (held_64 (wide_sub h k) tt) (held_64 (wide_sub l m) tt)
 
 -- a coordinate, as `product` asks it
 pub handed : {z : ℤ} → Within (2 ^ 20) z → Within (2 ^ 20) (i32 z)
@@ -84,14 +75,14 @@ module _ {a b c d : Point} {v : ℤ} (A : InTable a) (B : InTable b) (C : InTabl
     first_is : strictly_within (along_first a b c d) (divisor a b c d) ≡ r
     first_is = rw (h, (held_64 first_held tt).is, (held_64 divisor_held tt).is)
 
-    pub apart_of : not r ≡ true → false ≡ segments_intersect a b c d
+    pub apart_of : r ≡ false → r ≡ segments_intersect a b c d
     unfolding segments_intersect
-    apart_of n = rw (sym parallel_is ∙ ne_eqb (of_z w64 v) 0 f, first_is ∙ not-true r n)
+    apart_of n = n ∙ rw (sym parallel_is ∙ ne_eqb (of_z w64 v) 0 f, first_is ∙ n)
 
-    module _ {u : ℤ} {s : Bool} (n : not r ≡ false) (i : u ≡ along_second a b c d) (j : s ≡ strictly_within (i64 u) (i64 v)) where
+    module _ {u : ℤ} {s : Bool} (n : r ≡ true) (i : u ≡ along_second a b c d) (j : s ≡ strictly_within (i64 u) (i64 v)) where
       second_held : Held u (along_second a b c d) (2 ^ 43)
       second_held = held_is i (held_here (num_second A B C D).within)
 
       pub crossed_of : s ≡ segments_intersect a b c d
       unfolding segments_intersect
-      crossed_of = rw (sym parallel_is ∙ ne_eqb (of_z w64 v) 0 f, first_is ∙ not-false r n, j, (held_64 second_held tt).is, (held_64 divisor_held tt).is)
+      crossed_of = rw (sym parallel_is ∙ ne_eqb (of_z w64 v) 0 f, first_is ∙ n, j, (held_64 second_held tt).is, (held_64 divisor_held tt).is)

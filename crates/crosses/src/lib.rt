@@ -1,23 +1,11 @@
-// Whether two edges cross, over whole numbers: what the walk of the split loop asks of every point. It is `segments_intersect`, without a float.
+// Whether two edges cross, over whole numbers: what the walk of the split loop asks of every point. It is `segments_intersect`, without a float: document 01 names floats for the test of a split turn (`crossing`), and whole numbers are faster in the walk.
 #![tactic(auto)]
 
-ghost use Rattle.std.specs.Prelude.{◌≡◌, ◌^◌, ◌-ℤ◌, ◌*ℤ◌};
-ghost use Rattle.exact.specs.Num.{Within};
+ghost use Rattle.std.specs.Prelude.{◌≡◌, ◌-ℤ◌, ◌*ℤ◌};
 ghost use Rattle.geometry.specs.Plane.{divisor, strictly_within, segments_intersect};
 ghost use Rattle.geometry.specs.Table.{InTable};
 
-use geometry::Point;
-
-// The product of two differences of coordinates.
-fn product(a: i32, b: i32, c: i32, d: i32) -> i64
-    requires fact_1 { Within (2 ^ 20) a }
-    requires fact_2 { Within (2 ^ 20) b }
-    requires fact_3 { Within (2 ^ 20) c }
-    requires fact_4 { Within (2 ^ 20) d }
-    ensures { result ≡ (a -ℤ b) *ℤ (c -ℤ d) }
-{
-    (a as i64 - b as i64) * (c as i64 - d as i64)
-}
+use geometry::{Point, product};
 
 // The cross product of the edges from a to b and from c to d.
 fn divisor(a: Point, b: Point, c: Point, d: Point) -> i64
@@ -66,9 +54,5 @@ pub fn edges_cross(a: Point, b: Point, c: Point, d: Point) -> bool
     if cp == 0 {
         return false;
     }
-    let first = is_between(along(a, c, c, d), cp);
-    if !first {
-        return false;
-    }
-    is_between(along(a, c, a, b), cp)
+    is_between(along(a, c, c, d), cp) && is_between(along(a, c, a, b), cp)
 }

@@ -1,6 +1,5 @@
 -- The floats of an edge pair hold whole numbers: its differences, its cross products, and the tests on them.
-use Rattle.std.proofs.Common.{◌≡◌, ℕ, ◌^◌, Bool, true, false, not, ℤ, pos, ◌-ℤ◌, sym, refl, ap, ◌∙◌, le_trans, leb→le}
-use borrow.Author.Tests.{not-true, not-false}
+use Rattle.std.proofs.Common.{◌≡◌, ℕ, ◌^◌, Bool, true, false, ℤ, pos, ◌-ℤ◌, sym, refl, ap, ◌∙◌, le_trans, leb→le}
 use lib.Ieee.{Float, binary64, sub, eq}
 use Rattle.exact.specs.Num.{Within, Num}
 use Rattle.exact.specs.Equal.{eq_z}
@@ -89,15 +88,15 @@ module _ {e : Edges} {cp : Float} (p : Paired e) (q : cp ≡ divisor_f e.pair) w
     first_is : strictly_within (along_first e.a e.b e.c e.d) (divisor e.a e.b e.c e.d) ≡ r
     first_is = rw (h, g, p.pair_is, cp_is, within_float (num_first p.a_in p.b_in p.c_in p.d_in) (num_divisor p.a_in p.b_in p.c_in p.d_in))
 
-    pub apart_of : not r ≡ true → false ≡ segments_intersect e.a e.b e.c e.d
+    pub apart_of : r ≡ false → r ≡ segments_intersect e.a e.b e.c e.d
     unfolding segments_intersect
-    apart_of n = rw (sym parallel_is ∙ f, first_is ∙ not-true r n)
+    apart_of n = rw (sym parallel_is ∙ f, first_is ∙ n, n)
 
     pub intersect_of :
-        {u : Float} {s : Bool} → not r ≡ false →
+        {u : Float} {s : Bool} → r ≡ true →
         u ≡ along_f e.a.x e.a.y e.c.x e.c.y e.pair.dx1 e.pair.dy1 → s ≡ strictly_within_f u cp → s ≡ segments_intersect e.a e.b e.c e.d
     unfolding segments_intersect
-    intersect_of n i j = rw (sym parallel_is ∙ f, first_is ∙ not-false r n, j, i, p.pair_is, cp_is, within_float (num_second p.a_in p.b_in p.c_in p.d_in) (num_divisor p.a_in p.b_in p.c_in p.d_in))
+    intersect_of n i j = rw (sym parallel_is ∙ f, first_is ∙ n, j, i, p.pair_is, cp_is, within_float (num_second p.a_in p.b_in p.c_in p.d_in) (num_divisor p.a_in p.b_in p.c_in p.d_in))
 
 -- ---- the answer of `edges_of`
 pub paired_of : {a b c d : Point} {e : Edges} → InTable a → InTable b → InTable c → InTable d → e ≡ edges_of a b c d → Paired e

@@ -20,6 +20,7 @@ pub struct EdgePair {
 }
 
 // Two edges by value, the first from a to b, the second from c to d, with their differences, made once.
+// `Paired` is asked for in clauses and is no ghost field here: the definition `edges_of` makes Edges of any four points, on the table or not.
 #[derive(Clone, Copy)]
 pub struct Edges {
     pub a: Point,
@@ -63,8 +64,13 @@ pub fn edges_of(a: Point, b: Point, c: Point, d: Point) -> Edges
     requires fact_4 { InTable d }
     ensures { result ≡ edges_of a b c d }
 {
-    let pair = edge_pair(a, b, c, d);
-    Edges { a, b, c, d, pair }
+    Edges {
+        a,
+        b,
+        c,
+        d,
+        pair: edge_pair(a, b, c, d),
+    }
 }
 
 // The cross product of the two edges.
@@ -104,11 +110,8 @@ pub fn segments_intersect(e: Edges) -> bool
     if cp == 0.0 {
         return false;
     }
-    let first = strictly_within(along(e.a, e.c, e.pair.dx2, e.pair.dy2), cp);
-    if !first {
-        return false;
-    }
-    strictly_within(along(e.a, e.c, e.pair.dx1, e.pair.dy1), cp)
+    strictly_within(along(e.a, e.c, e.pair.dx2, e.pair.dy2), cp)
+        && strictly_within(along(e.a, e.c, e.pair.dx1, e.pair.dy1), cp)
 }
 
 // num / det, rounded once; 0 is plus, also where num is -0.
@@ -135,8 +138,10 @@ fn fraction(num1: f64, num2: f64, det: f64) -> Crossing
     if first >= 1.0 {
         return Crossing::End;
     }
-    let second = quotient(num2, det);
-    Crossing::Inside { first, second }
+    Crossing::Inside {
+        first,
+        second: quotient(num2, det),
+    }
 }
 
 // Where the second edge's line meets the first. The Rust's `ip` is what the split makes of the answer; its `false` is `Parallel`.

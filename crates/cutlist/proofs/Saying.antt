@@ -6,8 +6,7 @@ use native.Mathlib.Omega.{arith}
 use lib.ListN.{length, replicate, length-replicate}
 use Rattle.rates.specs.declared.Rate.{Rate}
 use Rattle.rates.specs.declared.Rate.TheVariants.{NoRate, Cents, Bad}
-use Rattle.listing.specs.declared.Listed.{Listed}
-use Rattle.listing.specs.declared.Listed.TheVariants.{Bytes}
+use Rattle.std.specs.Prelude.{Option, Some}
 use Rattle.listing.specs.Room.{TEXT}
 use Rattle.listing.specs.Told.{told}
 use Rattle.listing.specs.Needs.{Whole}
@@ -15,10 +14,10 @@ use Rattle.job_listing.specs.Cutlist.{listed_job, list_job_of}
 use Rattle.job_listing.proofs.Fits.{listed_whole}
 use Rattle.cutlist.specs.Taking.{Untaken}
 
-pub whole_size : (a : Listed) (m n : ℕ) → Whole a n → a ≡ Bytes m → m ≤ n
-whole_size a m n h e = subst (λ (x : Listed). Whole x n) e h
+pub whole_size : (a : Option ℕ) (m n : ℕ) → Whole a n → a ≡ Some m → m ≤ n
+whole_size a m n h e = subst (λ (x : Option ℕ). Whole x n) e h
 
-pub room : (rate : Rate) (bytes w t w' t' out' : List ℕ) (a : Listed) → listed_job (told a out') w' t' ≡ list_job_of rate bytes w t (replicate TEXT 0) → Whole a (length out')
+pub room : (rate : Rate) (bytes w t w' t' out' : List ℕ) (a : Option ℕ) → listed_job (told a out') w' t' ≡ list_job_of rate bytes w t (replicate TEXT 0) → Whole a (length out')
 room rate bytes w t w' t' out' a e = listed_whole rate bytes w t w' t' (replicate TEXT 0) out' a (omega (arith, length-replicate {A = ℕ} TEXT 0)) e
 
 -- ---- what is read

@@ -8,7 +8,7 @@ ghost use Rattle.listing.specs.Needs.{Whole};
 ghost use Rattle.cutlist.specs.Taking.{Untaken};
 
 use job_listing::list_job;
-use listing::{Listed, TEXT};
+use listing::TEXT;
 use paths::TRAY;
 use prefix::DECIDES;
 use rates::{Rate, rate_of};
@@ -19,25 +19,13 @@ use std::process::ExitCode;
 use store::LENGTH;
 use streams::{fill, write_or_say};
 
-// The first m bytes.
-fn first(s: &[u8], m: usize) -> &[u8]
-    requires { m ≤ length s.now }
-{
-    &s[..m]
-}
-
-// Writes to standard output; says so where that does not take all of it.
-fn put<R: Print + Eprint>(rt: &R, bytes: &[u8]) -> io::Result<ExitCode> {
-    write_or_say(rt, "cutlist", bytes)
-}
-
 // Writes the text, for which there was room.
-fn say<R: Print + Eprint>(rt: &R, text: &[u8], a: Listed) -> io::Result<ExitCode>
+fn say<R: Print + Eprint>(rt: &R, text: &[u8], a: Option<usize>) -> io::Result<ExitCode>
     requires { Whole a (length text.now) }
 {
     match a {
-        Listed::Bytes(m) => put(rt, first(text, m)),
-        Listed::NoRoom => unreachable!(),
+        Some(m) => write_or_say(rt, "cutlist", &text[..m]),
+        None => unreachable!(),
     }
 }
 

@@ -5,16 +5,17 @@ use mathlib.Core.Logic.{◌⊎◌, inl, inr}
 use mathlib.Core.List.{List, []}
 use lib.Dec.{eqb}
 use lib.ListN.{length}
+use Rattle.std.proofs.Common.{Ok, Err}
 use Rattle.job.specs.declared.Job.{Job}
 use Rattle.job.specs.declared.refusal.Refusal.TheVariants as refusal
 use Rattle.lone.specs.Order.{AllDone}
 use Rattle.lone.specs.Plane.{plane, lone_ring}
 use Rattle.lone.specs.Writing.{closed_paths, open_paths}
 use Rattle.store.specs.Named.{settings_of}
+use Rattle.std.specs.Prelude.{Result}
+use Rattle.job.specs.declared.refusal.Refusal.{Refusal}
 use Rattle.paths.specs.declared.Written.{Written}
-use Rattle.paths.specs.declared.Written.TheVariants as written
 use Rattle.paths.specs.Wrote.{Wrote}
-use Rattle.opening.specs.declared.open.Opened.TheVariants.{Accepted, Refused}
 use Rattle.opening.specs.Open.{End, end, open_of}
 use Rattle.finishing.specs.Write.{write_of}
 use Rattle.finishing.specs.Run.{run_of}
@@ -57,14 +58,14 @@ module _ (w w' : List ℕ) (o : Start w) (o' : Start w') (f : SameForest w w') (
 forest_back : (w w' : List ℕ) → SameForest w w' → SameForest w' w
 forest_back w w' f = record { settings = sym f.settings; as_many_points = sym f.as_many_points; as_many_records = sym f.as_many_records; forest = sym f.forest }
 
-out_alike : (v v' : List ℕ) (r : Written) (t : List ℕ) → SameFinish (after_writing v r t) (after_writing v' r t)
-out_alike v v' (written.Paths c o) t = record { answer = refl; tray = refl }
-out_alike v v' (written.Refused x) t = record { answer = refl; tray = refl }
+out_alike : (v v' : List ℕ) (r : Result Written Refusal) (t : List ℕ) → SameFinish (after_writing v r t) (after_writing v' r t)
+out_alike v v' (Ok p) t = record { answer = refl; tray = refl }
+out_alike v v' (Err x) t = record { answer = refl; tray = refl }
 
 same_from : (f f' g g' : Finished) → f ≡ g → f' ≡ g' → SameFinish g g' → SameFinish f f'
 same_from f f' g g' e e' s = rw (e, e') s
 
-module _ (bytes bytes' lent w w' : List ℕ) (e : open_of bytes lent ≡ end Accepted w) (e' : open_of bytes' lent ≡ end Accepted w') (f : SameForest w w') (t : List ℕ) where
+module _ (bytes bytes' lent w w' : List ℕ) (e : open_of bytes lent ≡ end (Ok tt) w) (e' : open_of bytes' lent ≡ end (Ok tt) w') (f : SameForest w w') (t : List ℕ) where
   abbrev o : Start w
   o = left bytes lent w e
 
@@ -97,10 +98,10 @@ module _ (bytes bytes' lent w w' : List ℕ) (e : open_of bytes lent ≡ end Acc
 module _ (bytes bytes' lent t : List ℕ) where
   pub opened_finish : (z z' : End) → open_of bytes lent ≡ z → open_of bytes' lent ≡ z' → SameOpening z z' → SameFinish (finish_of bytes lent t) (finish_of bytes' lent t)
   unfolding finish_of
-  opened_finish (end Accepted w) (end Accepted w') e e' s = forest_finish bytes bytes' lent w w' e e' s t
-  opened_finish (end Accepted w) (end (Refused y) w') e e' s = absurd s
-  opened_finish (end (Refused x) w) (end Accepted w') e e' s = absurd s
-  opened_finish (end (Refused x) w) (end (Refused y) w') e e' s = rw (e, e', s) (record { answer = refl; tray = refl })
+  opened_finish (end (Ok _) w) (end (Ok _) w') e e' s = forest_finish bytes bytes' lent w w' e e' s t
+  opened_finish (end (Ok _) w) (end (Err y) w') e e' s = absurd s
+  opened_finish (end (Err x) w) (end (Ok _) w') e e' s = absurd s
+  opened_finish (end (Err x) w) (end (Err y) w') e e' s = rw (e, e', s) (record { answer = refl; tray = refl })
 
   -- of two jobs that are one renumbered
   pub finishing_alike : {ρ : ℕ → ℕ} (j j' : Job) (w w' ss ss' js js' : List ℕ) → accepted_as bytes lent j w ss js → accepted_as bytes' lent j' w' ss' js' → RenumberedJob ρ j j' w w' ss ss' js js'

@@ -9,6 +9,7 @@ use native.Mathlib.Decide.{ℕ_discrete, dec_lt}
 use lib.Dec.{eqb, ltb}
 use lib.ListN.{length, get_or}
 use borrow.Author.Tests.{eq-eqb, ne_eqb, eqb-true, eqb-false, lt-ltb, le-ltb, ltb-true}
+use Rattle.std.proofs.Common.{Result, Ok, Err}
 use Rattle.rings.specs.Count.{occ}
 use Rattle.rings.specs.Links.{All}
 use Rattle.rings.proofs.Counting.{all_in}
@@ -19,8 +20,8 @@ use Rattle.store.specs.Stores.{on_store}
 use Rattle.store.specs.Named.{next_of, prev_of, rec_of, first_of, points_of, records_of}
 use Rattle.store.specs.Sound.{pts, recs, ring_at}
 use Rattle.store.proofs.Storing.{view_writes}
-use Rattle.joins.specs.declared.Joined.{Joined}
-use Rattle.joins.specs.declared.Joined.TheVariants.{Done, Knot, Full}
+use Rattle.joins.specs.declared.JoinError.{JoinError}
+use Rattle.joins.specs.declared.JoinError.TheVariants.{Knot, Full}
 use Rattle.joins.specs.Resolve.{home_of}
 use Rattle.joins.specs.Join.{JoinEnd, end, relink_writes, made_writes, empty_writes, first_writes, relink_of, new_out_rec, name_all, fix_outrec_pts, move_first, split_ring, split_of, merge_of, by_records, join_of, follow, joins_from, process_horz_joins}
 use Rattle.joins.specs.Needs.{Points, Ringed, Unknotted, Joins}
@@ -36,7 +37,7 @@ use Rattle.drawing.proofs.Writing.{compared, never, RenumberedWrites, AmongWrite
 use Rattle.drawing.proofs.Likeness.{tells_apart, none, alike_words, StillCompared, alike_still}
 use Rattle.drawing.proofs.Rings.{occ_map, ring_alike, next_in, homes_alike}
 
-abbrev answer_of : JoinEnd → Joined
+abbrev answer_of : JoinEnd → Result (Unit {0}) JoinError
 answer_of (end r w) = r
 
 -- the same answer, and alike words
@@ -210,7 +211,7 @@ module _ {ρ : ℕ → ℕ} (w w' : List ℕ) (al : Renumbered ρ (view w) (view
   unfolding split_of
   split_alike i t t' = rw al.records (go (ltb (records_of w) limit.RECORDS) refl)
     where
-      go : (b : Bool) → ltb (records_of w) limit.RECORDS ≡ b → SameJoinEnd ρ (cond b (end Done (split_ring w a c i (records_of w))) (end Full w)) (cond b (end Done (split_ring w' (ρ a) (ρ c) i (records_of w))) (end Full w'))
+      go : (b : Bool) → ltb (records_of w) limit.RECORDS ≡ b → SameJoinEnd ρ (cond b (end (Ok tt) (split_ring w a c i (records_of w))) (end (Err Full) w)) (cond b (end (Ok tt) (split_ring w' (ρ a) (ρ c) i (records_of w))) (end (Err Full) w'))
       go true e = record { answer = refl; words = split_ring_alike w w' al a c i (records_of w) t t' refl (ltb-true _ _ e) }
       go false e = record { answer = refl; words = al }
 
@@ -218,7 +219,7 @@ module _ {ρ : ℕ → ℕ} (w w' : List ℕ) (al : Renumbered ρ (view w) (view
   unfolding by_records
   by_alike i j t t' = go (eqb i j) refl
     where
-      go : (b : Bool) → eqb i j ≡ b → SameJoinEnd ρ (cond b (split_of w a c i) (end Done (merge_of w a c i j))) (cond b (split_of w' (ρ a) (ρ c) i) (end Done (merge_of w' (ρ a) (ρ c) i j)))
+      go : (b : Bool) → eqb i j ≡ b → SameJoinEnd ρ (cond b (split_of w a c i) (end (Ok tt) (merge_of w a c i j))) (cond b (split_of w' (ρ a) (ρ c) i) (end (Ok tt) (merge_of w' (ρ a) (ρ c) i j)))
       go true e = split_alike i (pair_same w a c i j t (eqb-true i j e)) (pair_same w' (ρ a) (ρ c) i j t' (eqb-true i j e))
       go false e = record { answer = refl; words = merge_alike w w' al a c i j t t' }
 
@@ -231,7 +232,7 @@ module _ {ρ : ℕ → ℕ} (w w' : List ℕ) (al : Renumbered ρ (view w) (view
       rw (e, d, f, tells_apart al (next_of w a) c) (go e d f (eqb (next_of w a) c) refl)
     where
       go : next_of w' (ρ a) ≡ ρ (next_of w a) → home_of w' (ρ a) ≡ home_of w a → home_of w' (ρ c) ≡ home_of w c → (b : Bool) → eqb (next_of w a) c ≡ b
-          → SameJoinEnd ρ (cond b (end Knot w) (by_records w a c (home_of w a) (home_of w c))) (cond b (end Knot w') (by_records w' (ρ a) (ρ c) (home_of w a) (home_of w c)))
+          → SameJoinEnd ρ (cond b (end (Err Knot) w) (by_records w a c (home_of w a) (home_of w c))) (cond b (end (Err Knot) w') (by_records w' (ρ a) (ρ c) (home_of w a) (home_of w c)))
       go e d f true z = record { answer = refl; words = al }
       go e d f false z =
           by_alike (home_of w a) (home_of w c)
@@ -242,15 +243,15 @@ module _ {ρ : ℕ → ℕ} (w w' : List ℕ) (al : Renumbered ρ (view w) (view
 
 follow_alike : {ρ : ℕ → ℕ} (g g' : List ℕ → JoinEnd) (e e' : JoinEnd) → SameJoinEnd ρ e e'
     → (Renumbered ρ (view (turns.words e)) (view (turns.words e')) → SameJoinEnd ρ (g (turns.words e)) (g' (turns.words e'))) → SameJoinEnd ρ (follow g e) (follow g' e')
-follow_alike g g' (end Done w) (end Done w') s f = f s.words
-follow_alike g g' (end Done w) (end Knot w') s f = let z : ◌≡◌ {A = ℕ} 0 1 = cc in absurd (omega arith)
-follow_alike g g' (end Done w) (end Full w') s f = let z : ◌≡◌ {A = ℕ} 0 1 = cc in absurd (omega arith)
-follow_alike g g' (end Knot w) (end Done w') s f = let z : ◌≡◌ {A = ℕ} 0 1 = cc in absurd (omega arith)
-follow_alike g g' (end Knot w) (end Knot w') s f = s
-follow_alike g g' (end Knot w) (end Full w') s f = let z : ◌≡◌ {A = ℕ} 0 1 = cc in absurd (omega arith)
-follow_alike g g' (end Full w) (end Done w') s f = let z : ◌≡◌ {A = ℕ} 0 1 = cc in absurd (omega arith)
-follow_alike g g' (end Full w) (end Knot w') s f = let z : ◌≡◌ {A = ℕ} 0 1 = cc in absurd (omega arith)
-follow_alike g g' (end Full w) (end Full w') s f = s
+follow_alike g g' (end (Ok _) w) (end (Ok _) w') s f = f s.words
+follow_alike g g' (end (Ok _) w) (end (Err Knot) w') s f = let z : ◌≡◌ {A = ℕ} 0 1 = cc in absurd (omega arith)
+follow_alike g g' (end (Ok _) w) (end (Err Full) w') s f = let z : ◌≡◌ {A = ℕ} 0 1 = cc in absurd (omega arith)
+follow_alike g g' (end (Err Knot) w) (end (Ok _) w') s f = let z : ◌≡◌ {A = ℕ} 0 1 = cc in absurd (omega arith)
+follow_alike g g' (end (Err Knot) w) (end (Err Knot) w') s f = s
+follow_alike g g' (end (Err Knot) w) (end (Err Full) w') s f = let z : ◌≡◌ {A = ℕ} 0 1 = cc in absurd (omega arith)
+follow_alike g g' (end (Err Full) w) (end (Ok _) w') s f = let z : ◌≡◌ {A = ℕ} 0 1 = cc in absurd (omega arith)
+follow_alike g g' (end (Err Full) w) (end (Err Knot) w') s f = let z : ◌≡◌ {A = ℕ} 0 1 = cc in absurd (omega arith)
+follow_alike g g' (end (Err Full) w) (end (Err Full) w') s f = s
 
 joins_on : (w x : List ℕ) (n : ℕ) (js : List ℕ) → Joins w n js → turns.Still w x → Joins x n js
 joins_on w x n js t s = record { ready = s.ready; fits = t.fits; points = λ j l. rw s.points (t.points j l) }

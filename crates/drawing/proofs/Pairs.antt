@@ -10,8 +10,8 @@ use lib.Dec.{eqb, ltb}
 use lib.ListN.{length, get_or, set, length-set}
 use lib.Seq.{get_or-set_same, get_or-set_other}
 use borrow.Author.Tests.{eqb-false, ltb-true}
+use Rattle.std.proofs.Common.{Option, Some, None}
 use Rattle.job.specs.Limits as limit
-use Rattle.primitives.specs.declared.Room.TheVariants.{At, Full}
 use Rattle.store.specs.Field.{pt, X, Y, Z, NEXT, PREV, NONE}
 use Rattle.store.specs.Words.{view, on_words}
 use Rattle.store.specs.Named.{points_of}
@@ -19,8 +19,6 @@ use Rattle.primitives.specs.Primitive.{Taken, taken, after_writes, before_writes
 use Rattle.joins.specs.Needs.{Point}
 use Rattle.sorting.specs.declared.HorzSegment.{HorzSegment}
 use Rattle.segments.specs.Level.{x_of, y_of}
-use Rattle.converting.specs.declared.pairs.Converted.{Converted}
-use Rattle.converting.specs.declared.pairs.Converted.TheVariants as converted
 use Rattle.converting.specs.Make.{Made, made, second_at, first_at, make_join, Out, out, with_lefts, made_of, apart_of, join_pair, first_one, second_one, moved_pair, pair_of, and_then, inner_from, outer_from, sorted_segments, pairs_of, convert_horz_segs_to_joins}
 use Rattle.converting.specs.Needs.{Making, Pairing, Valid, Overlapping, PairAt, Converting}
 use Rattle.converting.proofs.Doubling.{Grew, Doubles, beside, doubles}
@@ -36,11 +34,11 @@ use Rattle.drawing.proofs.Rows.{map_set, sorted_alike}
 -- ---- two conversions
 
 -- how many joins there are
-abbrev made_count : Converted → ℕ
-made_count (converted.Joins m) = m
-made_count converted.Full = 0
+abbrev made_count : Option ℕ → ℕ
+made_count (Some m) = m
+made_count None = 0
 
-abbrev converted_in : Made → Converted
+abbrev converted_in : Made → Option ℕ
 converted_in (made r w js) = r
 
 abbrev words_in : Made → List ℕ
@@ -58,10 +56,10 @@ pub record SameMade (ρ : ℕ → ℕ) (e e' : Made) : Type 0 where
 -- ---- a copy of a point
 
 abbrev SameTaken : (ℕ → ℕ) → Taken → Taken → Type 0
-SameTaken ρ (taken (At k) x) (taken (At k') x') = (k' ≡ ρ k) × Renumbered ρ (view x) (view x')
-SameTaken ρ (taken (At k) x) (taken Full x') = ⊥
-SameTaken ρ (taken Full x) (taken (At k') x') = ⊥
-SameTaken ρ (taken Full x) (taken Full x') = Renumbered ρ (view x) (view x')
+SameTaken ρ (taken (Some k) x) (taken (Some k') x') = (k' ≡ ρ k) × Renumbered ρ (view x) (view x')
+SameTaken ρ (taken (Some k) x) (taken None x') = ⊥
+SameTaken ρ (taken None x) (taken (Some k') x') = ⊥
+SameTaken ρ (taken None x) (taken None x') = Renumbered ρ (view x) (view x')
 
 module _ {ρ : ℕ → ℕ} (w w' : List ℕ) (al : Renumbered ρ (view w) (view w')) (p : ℕ) (t : Point w p) (t' : Point w' (ρ p)) (room : points_of w < limit.POINTS) where
   -- the new point is the same number in both
@@ -106,13 +104,13 @@ module _ {ρ : ℕ → ℕ} (w w' : List ℕ) (al : Renumbered ρ (view w) (view
 double_alike : {ρ : ℕ → ℕ} (w w' : List ℕ) → Renumbered ρ (view w) (view w') → (p : ℕ) (after : Bool) → Point w p → Point w' (ρ p) → SameTaken ρ (duplicate_op w p after) (duplicate_op w' (ρ p) after)
 unfolding duplicate_op
 double_alike {ρ} w w' al p after t t' =
-    subst (λ (b : Bool). SameTaken ρ (cond (ltb (points_of w) limit.POINTS) (taken (At (points_of w)) (copy w p after)) (taken Full w)) (cond b (taken (At (points_of w')) (copy w' (ρ p) after)) (taken Full w')))
+    subst (λ (b : Bool). SameTaken ρ (cond (ltb (points_of w) limit.POINTS) (taken (Some (points_of w)) (copy w p after)) (taken None w)) (cond b (taken (Some (points_of w')) (copy w' (ρ p) after)) (taken None w')))
     (ap (λ (n : ℕ). ltb n limit.POINTS) (sym al.points)) (go (ltb (points_of w) limit.POINTS) after refl)
   where
     copy : List ℕ → ℕ → Bool → List ℕ
     copy v q b = cond b (on_words v (after_writes (view v) q)) (on_words v (before_writes (view v) q))
 
-    go : (b c : Bool) → ltb (points_of w) limit.POINTS ≡ b → SameTaken ρ (cond b (taken (At (points_of w)) (copy w p c)) (taken Full w)) (cond b (taken (At (points_of w')) (copy w' (ρ p) c)) (taken Full w'))
+    go : (b c : Bool) → ltb (points_of w) limit.POINTS ≡ b → SameTaken ρ (cond b (taken (Some (points_of w)) (copy w p c)) (taken None w)) (cond b (taken (Some (points_of w')) (copy w' (ρ p) c)) (taken None w'))
     go true true e = (new w w' al p t t' (ltb-true _ _ e), after_alike w w' al p t t' (ltb-true _ _ e))
     go true false e = (new w w' al p t t' (ltb-true _ _ e), before_alike w w' al p t t' (ltb-true _ _ e))
     go false c e = al
@@ -143,27 +141,27 @@ module _ {ρ : ℕ → ℕ} (w w' : List ℕ) (al : Renumbered ρ (view w) (view
       pa' : Point w' (ρ a)
       pa' = record { ready = t'.ready; low = t'.one }
 
-      full : (x x' : List ℕ) → Renumbered ρ (view x) (view x') → SameMade ρ (made converted.Full x js) (made converted.Full x' js')
+      full : (x x' : List ℕ) → Renumbered ρ (view x) (view x') → SameMade ρ (made None x js) (made None x' js')
       full x x' z = record { answer = refl; words = z; joins = λ k h. absurd (omega arith) }
 
       second : (k k' : ℕ) (x x' : List ℕ) → k' ≡ ρ k → Grew w x k → Grew w' x' k' → (c c' : Taken) → SameTaken ρ c c' → SameMade ρ (second_at js m k c) (second_at js' m k' c')
-      second k k' x x' e g g' (taken (At j) y) (taken (At j') y') z =
+      second k k' x x' e g g' (taken (Some j) y) (taken (Some j') y') z =
           record {
             answer = refl;
             words = z.1;
             joins = listed_two ρ m js js' k k' j j' l e z.0 (omega (arith, t.few, t.room, g.points, g.keeps.ready.resolved.few_points)) (omega (arith, t'.few, t'.room, g'.points, g'.keeps.ready.resolved.few_points));
           }
-      second k k' x x' e g g' (taken (At j) y) (taken Full y') z = absurd z
-      second k k' x x' e g g' (taken Full y) (taken (At j') y') z = absurd z
-      second k k' x x' e g g' (taken Full y) (taken Full y') z = full y y' z
+      second k k' x x' e g g' (taken (Some j) y) (taken None y') z = absurd z
+      second k k' x x' e g g' (taken None y) (taken (Some j') y') z = absurd z
+      second k k' x x' e g g' (taken None y) (taken None y') z = full y y' z
 
       go : (c c' : Taken) → SameTaken ρ c c' → Doubles w c → Doubles w' c' → SameMade ρ (first_at js m b c) (first_at js' m (ρ b) c')
-      go (taken (At k) x) (taken (At k') x') z g g' =
+      go (taken (Some k) x) (taken (Some k') x') z g g' =
           second k k' x x' z.0 g g' (duplicate_op x b false) (duplicate_op x' (ρ b) false)
           (double_alike x x' z.1 b false (record { ready = g.keeps.ready; low = omega (arith, g.keeps.more, t.two) }) (record { ready = g'.keeps.ready; low = omega (arith, g'.keeps.more, t'.two) }))
-      go (taken (At k) x) (taken Full x') z g g' = absurd z
-      go (taken Full x) (taken (At k') x') z g g' = absurd z
-      go (taken Full x) (taken Full x') z g g' = full x x' z
+      go (taken (Some k) x) (taken None x') z g g' = absurd z
+      go (taken None x) (taken (Some k') x') z g g' = absurd z
+      go (taken None x) (taken None x') z g g' = full x x' z
 
 -- ---- a pair
 
@@ -172,7 +170,7 @@ at_map ρ [] i h = absurd (omega arith)
 at_map ρ (x ∷ l) zero h = refl
 at_map ρ (x ∷ l) (suc i) h = at_map ρ l i (omega arith)
 
-record SameOut (ρ : ℕ → ℕ) (r r' : Converted) (w w' ls ls' js js' : List ℕ) : Type 0 where
+record SameOut (ρ : ℕ → ℕ) (r r' : Option ℕ) (w w' ls ls' js js' : List ℕ) : Type 0 where
   answer : r' ≡ r
   words : Renumbered ρ (view w) (view w')
   joins : RenumberedList ρ (2 * made_count r) js js'
@@ -250,7 +248,7 @@ module _ {ρ : ℕ → ℕ} (w w' : List ℕ) (al : Renumbered ρ (view w) (view
   unfolding pair_of
   pair_alike = rw apart_alike (go (apart_of w ls rs fs i j) refl)
     where
-      go : (z : Bool) → apart_of w ls rs fs i j ≡ z → SameOuts ρ (cond z (out (converted.Joins m) w ls js) (moved_pair w ls fs js m i j)) (cond z (out (converted.Joins m) w' (map ρ ls) js') (moved_pair w' (map ρ ls) fs js' m i j))
+      go : (z : Bool) → apart_of w ls rs fs i j ≡ z → SameOuts ρ (cond z (out (Some m) w ls js) (moved_pair w ls fs js m i j)) (cond z (out (Some m) w' (map ρ ls) js') (moved_pair w' (map ρ ls) fs js' m i j))
       go true e = record { answer = refl; words = al; joins = l; lefts = refl }
       go false e = moved_alike e
 
@@ -264,15 +262,15 @@ Onward ρ rs fs k k' =
 
 then_alike : {ρ : ℕ → ℕ} (rs fs : List ℕ) (k k' : List ℕ → List ℕ → List ℕ → ℕ → Out) (c c' : Out) → SameOuts ρ c c' → PairingOf rs fs c → PairingOf (map ρ rs) fs c' → Onward ρ rs fs k k'
     → SameOuts ρ (and_then k c) (and_then k' c')
-then_alike {ρ} rs fs k k' (out (converted.Joins m) x ls js) (out (converted.Joins m') x' ls' js') z p p' f =
+then_alike {ρ} rs fs k k' (out (Some m) x ls js) (out (Some m') x' ls' js') z p p' f =
     let a = z.answer in
     let e : m' ≡ m = cc in
     subst (λ (n : ℕ). SameOuts ρ (k x ls js m) (k' x' ls' js' n)) (sym e)
     (subst (λ (q : List ℕ). SameOuts ρ (k x ls js m) (k' x' q js' m)) (sym z.lefts)
     (f x x' ls js js' m z.words z.joins p (subst (λ (q : List ℕ). Pairing x' q (map ρ rs) fs js' m) z.lefts (subst (λ (n : ℕ). Pairing x' ls' (map ρ rs) fs js' n) e p'))))
-then_alike rs fs k k' (out (converted.Joins m) x ls js) (out converted.Full x' ls' js') z p p' f = let a = z.answer in let y : ◌≡◌ {A = ℕ} 0 1 = cc in absurd (omega arith)
-then_alike rs fs k k' (out converted.Full x ls js) (out (converted.Joins m') x' ls' js') z p p' f = let a = z.answer in let y : ◌≡◌ {A = ℕ} 0 1 = cc in absurd (omega arith)
-then_alike rs fs k k' (out converted.Full x ls js) (out converted.Full x' ls' js') z p p' f = z
+then_alike rs fs k k' (out (Some m) x ls js) (out None x' ls' js') z p p' f = let a = z.answer in let y : ◌≡◌ {A = ℕ} 0 1 = cc in absurd (omega arith)
+then_alike rs fs k k' (out None x ls js) (out (Some m') x' ls' js') z p p' f = let a = z.answer in let y : ◌≡◌ {A = ℕ} 0 1 = cc in absurd (omega arith)
+then_alike rs fs k k' (out None x ls js) (out None x' ls' js') z p p' f = z
 
 -- a right point is none in both or in neither
 none_test : {ρ : ℕ → ℕ} (w w' : List ℕ) → Renumbered ρ (view w) (view w') → points_of w ≤ limit.POINTS → (rs : List ℕ) (i : ℕ) → i < length rs → eqb (get_or (map ρ rs) i 0) NONE ≡ eqb (get_or rs i 0) NONE
@@ -287,8 +285,8 @@ inner_alike {ρ} (suc f) rs fs i j d d' b e x x' ls js js' m al l p p' =
     rw q (go q (eqb (get_or rs j 0) NONE) refl (inner_alike f rs fs i (j + 1) d d' (omega arith) (omega arith)))
   where
     go : eqb (get_or (map ρ rs) j 0) NONE ≡ eqb (get_or rs j 0) NONE → (z : Bool) → eqb (get_or rs j 0) NONE ≡ z → Onward ρ rs fs (inner_from f rs fs i (j + 1)) (inner_from f (map ρ rs) fs i (j + 1))
-        → SameOuts ρ (cond z (out (converted.Joins m) x ls js) (and_then (inner_from f rs fs i (j + 1)) (pair_of rs fs js i j x ls m)))
-        (cond z (out (converted.Joins m) x' (map ρ ls) js') (and_then (inner_from f (map ρ rs) fs i (j + 1)) (pair_of (map ρ rs) fs js' i j x' (map ρ ls) m)))
+        → SameOuts ρ (cond z (out (Some m) x ls js) (and_then (inner_from f rs fs i (j + 1)) (pair_of rs fs js i j x ls m)))
+        (cond z (out (Some m) x' (map ρ ls) js') (and_then (inner_from f (map ρ rs) fs i (j + 1)) (pair_of (map ρ rs) fs js' i j x' (map ρ ls) m)))
     go q true y r = record { answer = refl; words = al; joins = l; lefts = refl }
     go q false y r =
         let t : PairAt x ls rs fs js m i j = record { pairing = p; before = b; low = omega arith; one = d; two = eqb-false _ _ y } in
@@ -304,8 +302,8 @@ outer_alike {ρ} (suc f) rs fs i e x x' ls js js' m al l p p' =
     rw q (go q (eqb (get_or rs i 0) NONE) refl (outer_alike f rs fs (i + 1) (omega arith)))
   where
     go : eqb (get_or (map ρ rs) i 0) NONE ≡ eqb (get_or rs i 0) NONE → (z : Bool) → eqb (get_or rs i 0) NONE ≡ z → Onward ρ rs fs (outer_from f rs fs (i + 1)) (outer_from f (map ρ rs) fs (i + 1))
-        → SameOuts ρ (cond z (out (converted.Joins m) x ls js) (and_then (outer_from f rs fs (i + 1)) (inner_from f rs fs i (i + 1) x ls js m)))
-        (cond z (out (converted.Joins m) x' (map ρ ls) js') (and_then (outer_from f (map ρ rs) fs (i + 1)) (inner_from f (map ρ rs) fs i (i + 1) x' (map ρ ls) js' m)))
+        → SameOuts ρ (cond z (out (Some m) x ls js) (and_then (outer_from f rs fs (i + 1)) (inner_from f rs fs i (i + 1) x ls js m)))
+        (cond z (out (Some m) x' (map ρ ls) js') (and_then (outer_from f (map ρ rs) fs (i + 1)) (inner_from f (map ρ rs) fs i (i + 1) x' (map ρ ls) js' m)))
     go q true y r = record { answer = refl; words = al; joins = l; lefts = refl }
     go q false y r =
         let d = eqb-false (get_or rs i 0) NONE y in

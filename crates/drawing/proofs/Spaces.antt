@@ -7,6 +7,8 @@ use mathlib.Core.Option.{Option, some}
 use native.Mathlib.Omega.{arith}
 use lib.Dec.{eqb, leb, ltb}
 use lib.ListN.{length, get_or, set, drop, replicate, length-replicate, replicate-append-replicate}
+use Rattle.std.specs.Prelude.{Result}
+use Rattle.std.proofs.Common.{Ok, Err}
 use Rattle.rings.specs.Count.{table}
 use Rattle.rings.specs.Place.{place, or_zero}
 use Rattle.job.specs.Limits as limit
@@ -14,11 +16,11 @@ use Rattle.job.specs.Coordinate as coordinate
 use Rattle.job.specs.Field.{field_of}
 use Rattle.job.specs.Job.{fresh, past}
 use Rattle.job.specs.declared.Job.{Job}
+use Rattle.job.specs.declared.refusal.Refusal.{Refusal}
 use Rattle.job.specs.declared.refusal.Refusal.TheVariants.{Strange, OffTheTable, NoSuch, Loose, Muddled, OpenEdge}
 use Rattle.job.specs.declared.field.Field as job
 use Rattle.job.specs.declared.field.Field.TheVariants.{Settings, Point, Record, Segment, Join}
-use Rattle.job.specs.declared.field.Reading.{Reading}
-use Rattle.job.specs.declared.field.Reading.TheVariants as reading
+use Rattle.job.specs.declared.field.Field.{Field}
 use Rattle.job.proofs.Accepted.{accepted}
 use Rattle.store.specs.Field.{pt, rc, ct, X, Y, Z, NEXT, PREV, REC, OWNER, FIRST, SETTINGS, POINTS, RECORDS, BLOCK}
 use Rattle.store.specs.Words.{Store, Write, view, write, on_words}
@@ -26,10 +28,7 @@ use Rattle.store.specs.Stores.{Within, on_store}
 use Rattle.store.specs.Sound.{ring_at, is_open}
 use Rattle.store.proofs.Storing.{length_writes, view_writes}
 use Rattle.audit.specs.Tests.{is_in, any_below, names_nothing}
-use Rattle.audit.specs.declared.Verdict.{Verdict}
-use Rattle.audit.specs.declared.Verdict.TheVariants as verdict
 use Rattle.joins.specs.Resolve.{find_in}
-use Rattle.reading.specs.declared.fill.Outcome.TheVariants.{Ok, Refused}
 use Rattle.reading.specs.Fill.{ReadEnd, end, record_read, put_join, placed, taken, turn_of, follow, run, fill_of}
 use Rattle.reading.specs.Needs.{Room}
 use Rattle.reading.specs.Read.{counted, with_counts, read_of}
@@ -45,18 +44,18 @@ use Rattle.drawing.specs.Drawing.{Drawing, drawn_at, drawing_of, drawn_from, dra
 
 -- ---- rows 4 to 8 and the drawing, by the store
 
-abbrev rows_in : Store → List ℕ → ℕ → List ℕ → ℕ → Verdict
+abbrev rows_in : Store → List ℕ → ℕ → List ℕ → ℕ → Result (Unit {0}) Refusal
 rows_in s ss m js n =
     let p : ℕ = s (ct POINTS) 0 in
     let r : ℕ = s (ct RECORDS) 0 in
     let on_open : ℕ → Bool = λ (k : ℕ). any_below r (λ (i : ℕ). is_open s i && is_in k (ring_at s i)) in
-    cond (any_below p (λ (k : ℕ). coordinate.off_the_table (s (pt X) k) || coordinate.off_the_table (s (pt Y) k))) (verdict.Refused OffTheTable)
+    cond (any_below p (λ (k : ℕ). coordinate.off_the_table (s (pt X) k) || coordinate.off_the_table (s (pt Y) k))) (Err OffTheTable)
     (cond (any_below p (λ (k : ℕ). not (ltb (s (pt NEXT) k) p) || (not (ltb (s (pt PREV) k) p) || not (ltb (s (pt REC) k) r)))
-    || (any_below r (λ (i : ℕ). names_nothing r (s (rc OWNER) i) || names_nothing p (s (rc FIRST) i)) || (any_below m (λ (i : ℕ). leb p (get_or ss i 0)) || any_below (2 * n) (λ (i : ℕ). leb p (get_or js i 0))))) (verdict.Refused NoSuch)
-    (cond (any_below p (λ (k : ℕ). not (eqb (s (pt NEXT) (s (pt PREV) k)) k) || not (eqb (s (pt PREV) (s (pt NEXT) k)) k))) (verdict.Refused Loose)
+    || (any_below r (λ (i : ℕ). names_nothing r (s (rc OWNER) i) || names_nothing p (s (rc FIRST) i)) || (any_below m (λ (i : ℕ). leb p (get_or ss i 0)) || any_below (2 * n) (λ (i : ℕ). leb p (get_or js i 0))))) (Err NoSuch)
+    (cond (any_below p (λ (k : ℕ). not (eqb (s (pt NEXT) (s (pt PREV) k)) k) || not (eqb (s (pt PREV) (s (pt NEXT) k)) k))) (Err Loose)
     (cond (any_below r (λ (i : ℕ). not (ends_in limit.RECORDS (s (rc OWNER)) i))
-    || (any_below r (λ (i : ℕ). any_in (λ (k : ℕ). not (eqb (find_in limit.RECORDS (s (rc FIRST)) (s (rc OWNER)) (s (pt REC) k)) i)) (ring_at s i)) || any_below p (λ (k : ℕ). not (any_below r (λ (i : ℕ). is_in k (ring_at s i)))))) (verdict.Refused Muddled)
-    (cond (any_below m (λ (i : ℕ). on_open (get_or ss i 0)) || any_below (2 * n) (λ (i : ℕ). on_open (get_or js i 0))) (verdict.Refused OpenEdge) verdict.Passed))))
+    || (any_below r (λ (i : ℕ). any_in (λ (k : ℕ). not (eqb (find_in limit.RECORDS (s (rc FIRST)) (s (rc OWNER)) (s (pt REC) k)) i)) (ring_at s i)) || any_below p (λ (k : ℕ). not (any_below r (λ (i : ℕ). is_in k (ring_at s i)))))) (Err Muddled)
+    (cond (any_below m (λ (i : ℕ). on_open (get_or ss i 0)) || any_below (2 * n) (λ (i : ℕ). on_open (get_or js i 0))) (Err OpenEdge) (Ok tt)))))
 
 rows_are : (w ss : List ℕ) (m : ℕ) (js : List ℕ) (n : ℕ) → rows_of w ss m js n ≡ rows_in (view w) ss m js n
 unfolding rows_of
@@ -97,16 +96,16 @@ drawn T = drawn_from (judged (with_counts T))
 
 ended : (j : Job) (w w' ss js : List ℕ) → Same w w' → drawn (end (Ok j) w ss js) ≡ drawn (end (Ok j) w' ss js)
 ended j w w' ss js s =
-    ap (λ (v : Verdict). drawn_from (end (answer v j) (counted j w) ss js)) (rows_are (counted j w) ss j.segments js j.joins ∙ ap (λ (z : Store). rows_in z ss j.segments js j.joins) e ∙ sym (rows_are (counted j w') ss j.segments js j.joins))
+    ap (λ (v : Result (Unit {0}) Refusal). drawn_from (end (answer v j) (counted j w) ss js)) (rows_are (counted j w) ss j.segments js j.joins ∙ ap (λ (z : Store). rows_in z ss j.segments js j.joins) e ∙ sym (rows_are (counted j w') ss j.segments js j.joins))
     ∙ by (rows_of (counted j w') ss j.segments js j.joins)
   where
     e : view (counted j w) ≡ view (counted j w')
     e = (same_writes w w' s (write (ct SETTINGS) 0 j.bits ∷ write (ct POINTS) 0 j.points ∷ write (ct RECORDS) 0 j.records ∷ []) (omega arith, (omega arith, (omega arith, tt)))).store
 
-    by : (v : Verdict) → drawn_from (end (answer v j) (counted j w) ss js) ≡ drawn_from (end (answer v j) (counted j w') ss js)
-    by verdict.Passed =
+    by : (v : Result (Unit {0}) Refusal) → drawn_from (end (answer v j) (counted j w) ss js) ≡ drawn_from (end (answer v j) (counted j w') ss js)
+    by (Ok _) =
         ap some (drawing_is (counted j w) ss j.segments js j.joins ∙ ap (λ (z : Store). drawing_by z ss j.segments js j.joins) e ∙ sym (drawing_is (counted j w') ss j.segments js j.joins))
-    by (verdict.Refused x) = refl
+    by (Err x) = refl
 
 -- a field goes to the same place of either
 run_same : (k : ℕ) (bytes : List ℕ) (j : Job) (w w' ss js : List ℕ) → Same w w' → drawn (run k bytes j w ss js) ≡ drawn (run k bytes j w' ss js)
@@ -126,17 +125,17 @@ run_same (suc k) bytes j w w' ss js s = by (ltb j.at (length bytes)) (field_of j
     placed_same (Segment p) n h r = r (past (Segment p) n j) w w' (set ss j.segments p) js s
     placed_same (Join a b) n h r = r (past (Join a b) n j) w w' ss (put_join j.joins a b js) s
 
-    by : (b : Bool) (m : Reading) → field_of j (drop j.at bytes) ≡ m → ((i : Job) (u u' us ls : List ℕ) → Same u u' → drawn (run k bytes i u us ls) ≡ drawn (run k bytes i u' us ls))
+    by : (b : Bool) (m : Result (Field × ℕ) Refusal) → field_of j (drop j.at bytes) ≡ m → ((i : Job) (u u' us ls : List ℕ) → Same u u' → drawn (run k bytes i u us ls) ≡ drawn (run k bytes i u' us ls))
         → drawn (cond b (follow (run k bytes) (taken m j w ss js)) (end (Ok j) w ss js)) ≡ drawn (cond b (follow (run k bytes) (taken m j w' ss js)) (end (Ok j) w' ss js))
-    by true (reading.Read f n) e r = placed_same f n (has_room j (drop j.at bytes) f n (accepted j (drop j.at bytes) f n e)) r
-    by true (reading.Refused x) e r = refl
+    by true (Ok (f, n)) e r = placed_same f n (has_room j (drop j.at bytes) f n (accepted j (drop j.at bytes) f n e)) r
+    by true (Err x) e r = refl
     by false m e r = ended j w w' ss js s
 
 same_drawing : (bytes w w' ss js : List ℕ) → Same w w' → drawn_from (accept_of bytes w ss js) ≡ drawn_from (accept_of bytes w' ss js)
 unfolding accept_of read_of fill_of
 same_drawing bytes w w' ss js s = by (eqb (length bytes) 0)
   where
-    by : (b : Bool) → drawn (cond b (end (Refused Strange) w ss js) (run (suc (length bytes)) bytes fresh w ss js)) ≡ drawn (cond b (end (Refused Strange) w' ss js) (run (suc (length bytes)) bytes fresh w' ss js))
+    by : (b : Bool) → drawn (cond b (end (Err Strange) w ss js) (run (suc (length bytes)) bytes fresh w ss js)) ≡ drawn (cond b (end (Err Strange) w' ss js) (run (suc (length bytes)) bytes fresh w' ss js))
     by true = refl
     by false = run_same (suc (length bytes)) bytes fresh w w' ss js s
 

@@ -7,14 +7,13 @@ use mathlib.Core.Option.{some}
 use native.Mathlib.Omega.{arith}
 use lib.Dec.{ltb}
 use lib.ListN.{length, replicate}
+use Rattle.std.proofs.Common.{Ok, Err}
 use Rattle.job.specs.Limits as limit
 use Rattle.job.specs.declared.Job.{Job}
 use Rattle.job.specs.declared.refusal.Refusal.TheVariants as refusal
 use Rattle.store.specs.Field.{BLOCK, LENGTH}
-use Rattle.reading.specs.declared.fill.Outcome.TheVariants as outcome
 use Rattle.reading.specs.Fill as fill
 use Rattle.accepting.specs.Accept.{accept_of}
-use Rattle.opening.specs.declared.open.Opened.TheVariants.{Refused}
 use Rattle.opening.specs.Open.{JOIN_POINTS, end, cleared, open_of}
 use Rattle.opening.proofs.Clearing.{cleared_live}
 use Rattle.opening.proofs.Passing.{converting}
@@ -27,7 +26,7 @@ use Rattle.drawing.proofs.Drawings.{drawing_alike}
 use Rattle.drawing.proofs.Spaces.{any_cleared}
 
 -- row 10, tested first of all
-short_open : (bytes lent : List ℕ) → ltb (length lent) LENGTH ≡ true → open_of bytes lent ≡ end (Refused refusal.Full) (replicate (length lent) 0)
+short_open : (bytes lent : List ℕ) → ltb (length lent) LENGTH ≡ true → open_of bytes lent ≡ end (Err refusal.Full) (replicate (length lent) 0)
 unfolding open_of
 short_open bytes lent e = rw e
 
@@ -46,13 +45,13 @@ module _ (bytes bytes' lent t : List ℕ) where
     where
       go : (z z' : fill.ReadEnd) → accept_of bytes (cleared lent) (replicate limit.SEGMENTS 0) (replicate JOIN_POINTS 0) ≡ z → accept_of bytes' (cleared lent) (replicate limit.SEGMENTS 0) (replicate JOIN_POINTS 0) ≡ z'
           → drawn_from z ≡ some d → drawn_from z' ≡ some d → SameFinish (finish_of bytes lent t) (finish_of bytes' lent t)
-      go (fill.end (outcome.Ok j) w ss js) (fill.end (outcome.Ok j') w' ss' js') p p' f f' = read_finish l j j' w w' ss ss' js js' p p' (cc)
-      go (fill.end (outcome.Ok j) w ss js) (fill.end (outcome.Refused x) w' ss' js') p p' f f' = absurd (let z : ◌≡◌ {A = ℕ} 0 1 = cc in omega arith)
-      go (fill.end (outcome.Refused x) w ss js) z' p p' f f' = absurd (let z : ◌≡◌ {A = ℕ} 0 1 = cc in omega arith)
+      go (fill.end (Ok j) w ss js) (fill.end (Ok j') w' ss' js') p p' f f' = read_finish l j j' w w' ss ss' js js' p p' (cc)
+      go (fill.end (Ok j) w ss js) (fill.end (Err x) w' ss' js') p p' f f' = absurd (let z : ◌≡◌ {A = ℕ} 0 1 = cc in omega arith)
+      go (fill.end (Err x) w ss js) z' p p' f f' = absurd (let z : ◌≡◌ {A = ℕ} 0 1 = cc in omega arith)
 
   pub drawing_finish : (d : Drawing) → drawing_in bytes ≡ some d → drawing_in bytes' ≡ some d → SameFinish (finish_of bytes lent t) (finish_of bytes' lent t)
   drawing_finish d e e' = go (ltb (length lent) LENGTH) refl
     where
       go : (b : Bool) → ltb (length lent) LENGTH ≡ b → SameFinish (finish_of bytes lent t) (finish_of bytes' lent t)
-      go true h = opened_finish bytes bytes' lent t (end (Refused refusal.Full) (replicate (length lent) 0)) (end (Refused refusal.Full) (replicate (length lent) 0)) (short_open bytes lent h) (short_open bytes' lent h) refl
+      go true h = opened_finish bytes bytes' lent t (end (Err refusal.Full) (replicate (length lent) 0)) (end (Err refusal.Full) (replicate (length lent) 0)) (short_open bytes lent h) (short_open bytes' lent h) refl
       go false h = long_finish (cleared_live lent h) d e e'

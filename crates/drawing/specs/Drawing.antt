@@ -1,5 +1,5 @@
 -- The drawing of an accepted job: what two files have to agree in to hold one drawing. No point has a number here.
-use Rattle.std.specs.Prelude.{ℕ, ◌*◌, List, get_or, replicate}
+use Rattle.std.specs.Prelude.{ℕ, ◌*◌, List, get_or, replicate, Ok, Err}
 use Rattle.std.proofs.Math.Option.{Option, none, some}
 use Rattle.rings.specs.Count.{table}
 use Rattle.rings.specs.Place.{place, or_zero}
@@ -11,7 +11,6 @@ use Rattle.store.specs.Named.{settings_of, records_of}
 use Rattle.store.specs.Sound.{ring_at}
 use Rattle.store.specs.Value.{ring_points}
 use Rattle.joins.specs.Resolve.{home_of}
-use Rattle.reading.specs.declared.fill.Outcome.TheVariants.{Ok, Refused}
 use Rattle.reading.specs.Fill.{ReadEnd, end}
 use Rattle.accepting.specs.Accept.{accept_of}
 use Rattle.opening.specs.Open.{JOIN_POINTS}
@@ -53,7 +52,7 @@ drawing_of w ss m js n =
 
 abbrev pub drawn_from : ReadEnd → Option Drawing
 drawn_from (end (Ok j) w ss js) = some (drawing_of w ss j.segments js j.joins)
-drawn_from (end (Refused r) w ss js) = none
+drawn_from (end (Err r) w ss js) = none
 
 -- the drawing of a job by its bytes, none where one of rows 1 to 8 refuses it. (A longer work space gives the same: `any_space`.)
 unfoldable pub drawing_in : List ℕ → Option Drawing

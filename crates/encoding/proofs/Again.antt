@@ -7,7 +7,10 @@ use native.Mathlib.Omega.{arith}
 use native.Mathlib.Decide.{ℕ_discrete}
 use lib.IntN.{ℤ}
 use lib.ListN.{length, get_or, replicate, length-replicate}
+use Rattle.std.specs.Prelude.{Result}
+use Rattle.std.proofs.Common.{Ok}
 use Rattle.numbers.specs.Raised.{coordinate}
+use Rattle.job.specs.declared.refusal.Refusal.{Refusal}
 use Rattle.rings.specs.Count.{occ, table}
 use Rattle.rings.specs.Place.{place, or_zero}
 use Rattle.geometry.specs.declared.Point.{Point}
@@ -16,11 +19,8 @@ use Rattle.store.specs.Field.{BLOCK}
 use Rattle.store.specs.Words.{view}
 use Rattle.store.specs.Sound.{ring_at}
 use Rattle.store.specs.Value.{point_at}
-use Rattle.audit.specs.declared.Verdict.{Verdict}
-use Rattle.audit.specs.declared.Verdict.TheVariants.{Passed}
 use Rattle.joins.specs.Resolved.{Ready}
 use Rattle.joins.proofs.Homes.{lives_on}
-use Rattle.reading.specs.declared.fill.Outcome.TheVariants.{Ok}
 use Rattle.reading.specs.Fill.{end}
 use Rattle.reading.specs.Needs.{Space}
 use Rattle.reading.specs.Read.{read_of}
@@ -135,9 +135,9 @@ module _ (d : Drawing) (f : Encodable d) (n : ℕ) (long : BLOCK ≤ n) where
       evens (λ k. (get_or z.jons k 0 ≡ spot_number d (get_or d.joins k no_spot)) × SpotValid d (get_or d.joins k no_spot)) j.joins
       (λ i h. (z.written.numbers.joins.one i (omega (arith, z.written.joins)), f.joins (2 * i) (omega (arith, z.written.joins, f.pairs))))
       (λ i h. (z.written.numbers.joins.two i (omega (arith, z.written.joins)), f.joins (2 * i + 1) (omega (arith, z.written.joins, f.pairs)))) in
-      let p : rows_of w z.segs j.segments z.jons j.joins ≡ Passed = rows_pass d f w t z.segs j.segments z.jons j.joins a b in
+      let p : rows_of w z.segs j.segments z.jons j.joins ≡ Ok tt = rows_pass d f w t z.segs j.segments z.jons j.joins a b in
       let e : judged (read_of (sheet_bytes (sheet_of d)) (replicate n 0) (replicate limit.SEGMENTS 0) (replicate JOIN_POINTS 0)) ≡ end (Ok j) w z.segs z.jons =
-      ap judged z.is ∙ ap (λ (v : Verdict). end (answer v j) w z.segs z.jons) p in
+      ap judged z.is ∙ ap (λ (v : Result (Unit {0}) Refusal). end (answer v j) w z.segs z.jons) p in
       let o : Ready w = (accepted (sheet_bytes (sheet_of d)) (replicate n 0) (replicate limit.SEGMENTS 0) (replicate JOIN_POINTS 0) space j w z.segs z.jons e).ready in
       ap drawn_from e ∙ ap some (drawing_again d f w t o z.segs j.segments z.jons j.joins z.written.segments (omega (arith, z.written.joins, f.pairs)) a b)
 

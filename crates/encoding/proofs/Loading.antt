@@ -9,12 +9,12 @@ use lib.Dec.{eqb}
 use lib.ListN.{length, get_or, set, drop, length-set, length-drop, length-append}
 use lib.Seq.{get_or-set_same, get_or-set_other, drop-drop, drop_at}
 use borrow.Author.Tests.{lt-ltb}
+use Rattle.std.proofs.Common.{Ok}
 use Rattle.rings.specs.Count.{table}
 use Rattle.job.specs.Limits as limit
 use Rattle.job.specs.Job.{past}
 use Rattle.job.specs.declared.Job.{Job}
 use Rattle.job.specs.declared.field.Field.{Field}
-use Rattle.job.specs.declared.field.Reading.TheVariants.{Read}
 use Rattle.job.specs.Field.{field_of}
 use Rattle.store.specs.Field.{pt, rc, X, Y, Z, NEXT, PREV, REC, FLAGS, OWNER, FIRST, POINTS, RECORDS}
 use Rattle.store.specs.Words.{Store, view, write, on_words}
@@ -30,7 +30,7 @@ use Rattle.encoding.proofs.Fielding.{read_point, read_record, read_segment, read
 -- ---- one turn
 
 module _ (bytes : List ℕ) (j : Job) (w ss js : List ℕ) (f : Field) (n : ℕ) (rest : List ℕ) (here : drop j.at bytes ≡ bytes_of f ++ rest) (long : length (bytes_of f) ≡ n) (some : 0 < n) where
-  pub turn : (k : ℕ) → field_of j (bytes_of f ++ rest) ≡ Read f n → run (suc k) bytes j w ss js ≡ follow (run k bytes) (placed f n j w ss js)
+  pub turn : (k : ℕ) → field_of j (bytes_of f ++ rest) ≡ Ok (f, n) → run (suc k) bytes j w ss js ≡ follow (run k bytes) (placed f n j w ss js)
   unfolding run turn_of
   turn k e =
       let l : j.at < length bytes = omega (arith, length-drop j.at bytes, ap length here, length-append (bytes_of f) rest) in

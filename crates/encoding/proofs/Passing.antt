@@ -9,6 +9,7 @@ use native.Mathlib.Decide.{ℕ_discrete, dec_lt}
 use lib.Dec.{eqb, leb}
 use lib.ListN.{length, get_or}
 use borrow.Author.Tests.{eq-eqb, ne_eqb, lt-ltb, le-ltb, lt-leb}
+use Rattle.std.specs.Prelude.{Ok}
 use Rattle.rings.specs.Count.{occ}
 use Rattle.rings.specs.Walk.{walk}
 use Rattle.rings.specs.Whole.{Whole}
@@ -22,7 +23,6 @@ use Rattle.store.specs.Named.{settings_of, points_of, records_of, next_of, prev_
 use Rattle.store.specs.Sound.{ring_at, is_open}
 use Rattle.store.specs.Value.{word_of}
 use Rattle.audit.specs.Tests.{is_in, any_below, off_table, no_such, no_such_of, loose}
-use Rattle.audit.specs.declared.Verdict.TheVariants.{Passed}
 use Rattle.audit.proofs.Saying.{all_none, table_on, such_not, tied_not, owned_not}
 use Rattle.owners.specs.Owners.{ends_in, circles}
 use Rattle.joins.specs.Resolve.{find_in, home_of}
@@ -266,7 +266,7 @@ module _ (d : Drawing) (f : Encodable d) (w : List ℕ) (t : HoldsDrawing d w) w
   abbrev pub Spots : List ℕ → ℕ → List Spot → Type 0
   Spots l n qs = (i : ℕ) → i < n → (get_or l i 0 ≡ spot_number d (get_or qs i no_spot)) × SpotValid d (get_or qs i no_spot)
 
-  pub rows_pass : (ss : List ℕ) (m : ℕ) (js : List ℕ) (n : ℕ) → Spots ss m d.segments → Spots js (2 * n) d.joins → rows_of w ss m js n ≡ Passed
+  pub rows_pass : (ss : List ℕ) (m : ℕ) (js : List ℕ) (n : ℕ) → Spots ss m d.segments → Spots js (2 * n) d.joins → rows_of w ss m js n ≡ Ok tt
   unfolding rows_of
   rows_pass ss m js n a b =
       let c : unnamed w ss m ≡ false = named ss m (λ i h. rw (a i h).0 (spot_low d (get_or d.segments i no_spot) (a i h).1)) in

@@ -5,6 +5,7 @@ use mathlib.Core.List.{List, [], ◌∷◌, ◌++◌, append-nil}
 use native.Mathlib.Omega.{arith}
 use lib.ListN.{length, length-drop, length-append}
 use borrow.Author.Tests.{ne_eqb}
+use Rattle.std.proofs.Common.{Ok}
 use Rattle.rings.proofs.Counting.{length_table}
 use Rattle.rings.specs.Count.{table}
 use Rattle.job.specs.Job.{fresh, past}
@@ -16,7 +17,6 @@ use Rattle.store.specs.Words.{Store, view, write, on_words}
 use Rattle.store.specs.Stores.{on_store}
 use Rattle.store.specs.Named.{settings_of, points_of, records_of}
 use Rattle.store.proofs.Storing.{view_writes}
-use Rattle.reading.specs.declared.fill.Outcome.TheVariants.{Ok}
 use Rattle.reading.specs.Fill.{end, run, fill_of}
 use Rattle.reading.specs.Needs.{Space}
 use Rattle.reading.specs.Read.{counted, with_counts, read_of}

@@ -5,16 +5,16 @@ use mathlib.Core.List.{List, [], ◌∷◌, map}
 use mathlib.Core.Option.{Option, none, some}
 use native.Mathlib.Omega.{arith}
 use lib.ListN.{length, replicate, length-replicate}
+use Rattle.std.specs.Prelude.{Result}
+use Rattle.job.specs.declared.refusal.Refusal.{Refusal}
+use Rattle.std.proofs.Common.{Ok, Err}
 use Rattle.rings.specs.Circle.{omap}
 use Rattle.geometry.specs.declared.Point.{Point}
 use Rattle.job.specs.Limits as limit
 use Rattle.job.specs.declared.Job.{Job}
 use Rattle.store.specs.Field.{BLOCK}
-use Rattle.reading.specs.declared.fill.Outcome.TheVariants.{Ok, Refused}
 use Rattle.reading.specs.Fill.{ReadEnd, end, fill_of}
 use Rattle.reading.specs.Read.{counted, with_counts, read_of}
-use Rattle.audit.specs.declared.Verdict.{Verdict}
-use Rattle.audit.specs.declared.Verdict.TheVariants as verdict
 use Rattle.rows.specs.Rows.{rows_of}
 use Rattle.accepting.specs.Accept.{answer, judged, accept_of}
 use Rattle.accepting.specs.Accepted.{Accepted}
@@ -39,13 +39,13 @@ whole : (bytes w ss js : List ℕ) (j : Job) (v ts ks : List ℕ) → accept_of 
 unfolding accept_of read_of
 whole bytes w ss js j v ts ks e = go (fill_of bytes w ss js) refl e
   where
-    at : (i : Job) (u us ls : List ℕ) → fill_of bytes w ss js ≡ end (Ok i) u us ls → (x : Verdict) (u' : List ℕ) → end (answer x i) u' us ls ≡ end (Ok j) v ts ks → ReadWhole bytes j
-    at i u us ls f verdict.Passed u' d = let z : i ≡ j = cc (d) in rw (← z) (fill_whole bytes i u us ls w ss js f)
-    at i u us ls f (verdict.Refused x) u' d = absurd (let z : ◌≡◌ {A = ℕ} 0 1 = cc in omega arith)
+    at : (i : Job) (u us ls : List ℕ) → fill_of bytes w ss js ≡ end (Ok i) u us ls → (x : Result (Unit {0}) Refusal) (u' : List ℕ) → end (answer x i) u' us ls ≡ end (Ok j) v ts ks → ReadWhole bytes j
+    at i u us ls f (Ok _) u' d = let z : i ≡ j = cc (d) in rw (← z) (fill_whole bytes i u us ls w ss js f)
+    at i u us ls f (Err x) u' d = absurd (let z : ◌≡◌ {A = ℕ} 0 1 = cc in omega arith)
 
     go : (T : ReadEnd) → fill_of bytes w ss js ≡ T → judged (with_counts T) ≡ end (Ok j) v ts ks → ReadWhole bytes j
     go (end (Ok i) u us ls) f d = at i u us ls f (rows_of (counted i u) us i.segments ls i.joins) (counted i u) d
-    go (end (Refused x) u us ls) f d = absurd (let z : ◌≡◌ {A = ℕ} 0 1 = cc in omega arith)
+    go (end (Err x) u us ls) f d = absurd (let z : ◌≡◌ {A = ℕ} 0 1 = cc in omega arith)
 
 -- what is known of it and its drawing
 record Known (bytes : List ℕ) (d : Drawing) : Type 0 where
@@ -80,7 +80,7 @@ known bytes d e = go (accept_of bytes (replicate BLOCK 0) (replicate limit.SEGME
 
     go : (z : ReadEnd) → accept_of bytes (replicate BLOCK 0) (replicate limit.SEGMENTS 0) (replicate JOIN_POINTS 0) ≡ z → drawn_from z ≡ some d → Known bytes d
     go (end (Ok j) v ts ks) f g = let q : drawing_of v ts j.segments ks j.joins ≡ d = cc (g) in subst (Known bytes) q (read j v ts ks f)
-    go (end (Refused x) v ts ks) f g = absurd (let z : ◌≡◌ {A = ℕ} 0 1 = cc in omega arith)
+    go (end (Err x) v ts ks) f g = absurd (let z : ◌≡◌ {A = ℕ} 0 1 = cc in omega arith)
 
 -- ---- what is written of it
 

@@ -7,6 +7,7 @@ use Prim.Native.Nat.{ℕ, zero, suc, ◌+◌, ◌*◌, ◌≤◌, ◌<◌}
 use native.Mathlib.Omega.{arith}
 use native.Mathlib.Decide.{ℕ_discrete, dec_lt}
 use lib.ListN.{get_or}
+use Rattle.std.proofs.Common.{Ok, Err}
 use Rattle.rings.specs.Count.{occ}
 use Rattle.store.specs.Field.{rc, FIRST}
 use Rattle.store.specs.Words.{Store, view}
@@ -15,7 +16,7 @@ use Rattle.store.specs.Reason.{JOINED}
 use Rattle.store.specs.Sound.{ringless, ring_at}
 use Rattle.store.specs.Value.{point_at, ring_points}
 use Rattle.store.proofs.Soundness.{first_on}
-use Rattle.joins.specs.declared.Joined.TheVariants.{Done, Knot, Full}
+use Rattle.joins.specs.declared.JoinError.TheVariants.{Knot, Full}
 use Rattle.joins.specs.Resolve.{home_of}
 use Rattle.joins.specs.Join.{JoinEnd, end, join_of, follow, joins_from, process_horz_joins}
 use Rattle.joins.specs.Needs.{Joins}
@@ -115,7 +116,7 @@ module _ (n : ℕ) (js w : List ℕ) (t : Joins w n js) where
     had_none : j < records_of w → ringless (view w) j ≡ true → Bare x j (kept_of w j) (taker_of w j) → Story k x j
     taken : (m u : ℕ) → m < k → EmptiedAt js w m u j → Bare x j JOINED u → Story k x j
 
-  module _ (k : ℕ) (h : k < n) (x y : List ℕ) (e : process_horz_joins k js w ≡ end Done x) (f : join_of x (one k) (two k) ≡ end Done y) where
+  module _ (k : ℕ) (h : k < n) (x y : List ℕ) (e : process_horz_joins k js w ≡ end (Ok tt) x) (f : join_of x (one k) (two k) ≡ end (Ok tt) y) where
     ready : Still w x
     ready = subst (λ (z : JoinEnd). Still w (words z)) e (joins_kept k js w (record { ready = t.ready; fits = omega (arith, t.fits); points = λ i l. t.points i (omega arith) }))
 
@@ -159,8 +160,8 @@ module _ (n : ℕ) (js w : List ℕ) (t : Joins w n js) where
                 (subst (λ (m : ℕ). Bare y m JOINED (home_of x (one k))) (sym q) (emptied_on x y (one k) (two k) (home_of x (one k)) (home_of x (two k)) shape home_low p.0))
 
   -- what each join made keeps holds after all of them
-  through : (Q : ℕ → List ℕ → Type 0) → ((k : ℕ) → k < n → (x y : List ℕ) → process_horz_joins k js w ≡ end Done x → join_of x (one k) (two k) ≡ end Done y → Q k x → Q (suc k) y)
-      → (f i : ℕ) (x z : List ℕ) → i + f ≡ n → process_horz_joins i js w ≡ end Done x → Q i x → joins_from f i js x ≡ end Done z → Q n z
+  through : (Q : ℕ → List ℕ → Type 0) → ((k : ℕ) → k < n → (x y : List ℕ) → process_horz_joins k js w ≡ end (Ok tt) x → join_of x (one k) (two k) ≡ end (Ok tt) y → Q k x → Q (suc k) y)
+      → (f i : ℕ) (x z : List ℕ) → i + f ≡ n → process_horz_joins i js w ≡ end (Ok tt) x → Q i x → joins_from f i js x ≡ end (Ok tt) z → Q n z
   unfolding joins_from
   through Q on zero i x z e p s g =
       let q : x ≡ z = cc in
@@ -168,23 +169,23 @@ module _ (n : ℕ) (js w : List ℕ) (t : Joins w n js) where
       subst (Q n) q (subst (λ (k : ℕ). Q k x) m s)
   through Q on (suc f) i x z e p s g = go (join_of x (one i) (two i)) refl g (λ y q r h. through Q on f (i + 1) y z (omega arith) q r h)
     where
-      go : (r : JoinEnd) → join_of x (one i) (two i) ≡ r → follow (joins_from f (i + 1) js) r ≡ end Done z
-          → ((y : List ℕ) → process_horz_joins (i + 1) js w ≡ end Done y → Q (i + 1) y → joins_from f (i + 1) js y ≡ end Done z → Q n z) → Q n z
-      go (end Done y) q h rest =
+      go : (r : JoinEnd) → join_of x (one i) (two i) ≡ r → follow (joins_from f (i + 1) js) r ≡ end (Ok tt) z
+          → ((y : List ℕ) → process_horz_joins (i + 1) js w ≡ end (Ok tt) y → Q (i + 1) y → joins_from f (i + 1) js y ≡ end (Ok tt) z → Q n z) → Q n z
+      go (end (Ok tt) y) q h rest =
           let l : i < n = omega arith in
           let m : i + 1 ≡ suc i = omega arith in
           rest y (ap (λ (k : ℕ). process_horz_joins k js w) m ∙ (at_turn n js w t i l x p).next ∙ q) (subst (λ (k : ℕ). Q k y) (sym m) (on i l x y p q s)) h
-      go (end Knot y) q h rest = let v : ◌≡◌ {A = ℕ} 0 1 = cc in absurd (omega arith)
-      go (end Full y) q h rest = let v : ◌≡◌ {A = ℕ} 0 1 = cc in absurd (omega arith)
+      go (end (Err Knot) y) q h rest = let v : ◌≡◌ {A = ℕ} 0 1 = cc in absurd (omega arith)
+      go (end (Err Full) y) q h rest = let v : ◌≡◌ {A = ℕ} 0 1 = cc in absurd (omega arith)
 
   -- a record that had no ring keeps what it kept
-  pub bare_keeps : (j v u : ℕ) → Bare w j v u → (z : List ℕ) → process_horz_joins n js w ≡ end Done z → Bare z j v u
+  pub bare_keeps : (j v u : ℕ) → Bare w j v u → (z : List ℕ) → process_horz_joins n js w ≡ end (Ok tt) z → Bare z j v u
   unfolding joins_from
   bare_keeps j v u b z e =
       through (λ (k : ℕ) (x : List ℕ). Bare x j v u) (λ k l x y p q s. bare_on x y (one k) (two k) (home_of x (one k)) (home_of x (two k)) (shape k l x y p q) j v u s) n 0 w z (omega arith) refl b e
 
   -- THE THEOREM: after all of them
-  pub story : (z : List ℕ) → process_horz_joins n js w ≡ end Done z → (j : ℕ) → Story n z j
+  pub story : (z : List ℕ) → process_horz_joins n js w ≡ end (Ok tt) z → (j : ℕ) → Story n z j
   unfolding joins_from
   story z e = through (λ (k : ℕ) (x : List ℕ). (j : ℕ) → Story k x j) (λ k l x y p q s j. turn k l x y p q j (s j)) n 0 w z (omega arith) refl (λ j. first j (dec_lt j (records_of w)) (ringless (view w) j) refl) e
     where
@@ -195,7 +196,7 @@ module _ (n : ℕ) (js w : List ℕ) (t : Joins w n js) where
 
   -- and back: what a join emptied keeps the record that took it then
   module _ (m u j : ℕ) (d : EmptiedAt js w m u j) where
-    emptied_here : (l : m < n) (x y : List ℕ) → process_horz_joins m js w ≡ end Done x → join_of x (one m) (two m) ≡ end Done y → Bare y j JOINED u
+    emptied_here : (l : m < n) (x y : List ℕ) → process_horz_joins m js w ≡ end (Ok tt) x → join_of x (one m) (two m) ≡ end (Ok tt) y → Bare y j JOINED u
     emptied_here l x y p q =
         let b : d.before ≡ x = cc (p, d.turn) in
         let i : home_of x (one m) ≡ u = ap (λ (v : List ℕ). home_of v (one m)) (sym b) ∙ d.into in
@@ -204,13 +205,13 @@ module _ (n : ℕ) (js w : List ℕ) (t : Joins w n js) where
         (subst (λ (v : ℕ). Bare y v JOINED (home_of x (one m))) k
         (emptied_on x y (one m) (two m) (home_of x (one m)) (home_of x (two m)) (shape m l x y p q) (home_low m l x y p q) (λ e. d.two (sym i ∙ e ∙ k))))
 
-    since : (k : ℕ) → k < n → (x y : List ℕ) → process_horz_joins k js w ≡ end Done x → join_of x (one k) (two k) ≡ end Done y → (m < k → Bare x j JOINED u) → m < suc k → Bare y j JOINED u
+    since : (k : ℕ) → k < n → (x y : List ℕ) → process_horz_joins k js w ≡ end (Ok tt) x → join_of x (one k) (two k) ≡ end (Ok tt) y → (m < k → Bare x j JOINED u) → m < suc k → Bare y j JOINED u
     since k l x y p q s h = by (ℕ_discrete k m)
       where
         by : Dec (k ≡ m) → Bare y j JOINED u
-        by (yes c) = emptied_here (omega arith) x y (subst (λ (v : ℕ). process_horz_joins v js w ≡ end Done x) c p) (subst (λ (v : ℕ). join_of x (one v) (two v) ≡ end Done y) c q)
+        by (yes c) = emptied_here (omega arith) x y (subst (λ (v : ℕ). process_horz_joins v js w ≡ end (Ok tt) x) c p) (subst (λ (v : ℕ). join_of x (one v) (two v) ≡ end (Ok tt) y) c q)
         by (no c) = bare_on x y (one k) (two k) (home_of x (one k)) (home_of x (two k)) (shape k l x y p q) j JOINED u (s (omega arith))
 
-    pub taken_keeps : m < n → (z : List ℕ) → process_horz_joins n js w ≡ end Done z → Bare z j JOINED u
+    pub taken_keeps : m < n → (z : List ℕ) → process_horz_joins n js w ≡ end (Ok tt) z → Bare z j JOINED u
     unfolding joins_from
     taken_keeps l z e = through (λ (k : ℕ) (x : List ℕ). m < k → Bare x j JOINED u) since n 0 w z (omega arith) refl (λ h. absurd (omega arith)) e l

@@ -7,6 +7,7 @@ use native.Mathlib.Omega.{arith}
 use lib.Dec.{eqb}
 use lib.ListN.{length, get_or, replicate}
 use borrow.Author.Tests.{eq-eqb, eqb-true}
+use Rattle.std.proofs.Common.{Some, None, Ok, Err}
 use Rattle.job.specs.Limits as limit
 use Rattle.job.specs.declared.Job.{Job}
 use Rattle.store.specs.Field.{rc, FIRST, REASON, TAKER, NONE, BLOCK}
@@ -15,22 +16,19 @@ use Rattle.store.specs.Named.{records_of, first_of, taker_of}
 use Rattle.store.specs.Reason.{NO_RING, JOINED}
 use Rattle.store.specs.Sound.{recs, ringless}
 use Rattle.audit.specs.Tests.{any_below}
-use Rattle.reading.specs.declared.fill.Outcome.TheVariants as outcome
+use Rattle.joins.specs.declared.JoinError.TheVariants.{Knot, Full}
 use Rattle.reading.specs.Fill as fill
 use Rattle.reading.specs.Fill.{reason_read}
 use Rattle.rows.specs.Rows.{on_open}
 use Rattle.audit.proofs.Testing.{or_left, or_right}
 use Rattle.accepting.specs.Accept.{accept_of}
 use Rattle.accepting.specs.Accepted as accepting
-use Rattle.converting.specs.declared.pairs.Converted.TheVariants as converted
 use Rattle.converting.specs.Make.{Made, made, convert_horz_segs_to_joins}
 use Rattle.converting.proofs.Doubling.{Copied}
 use Rattle.converting.proofs.Open.{ConvertedOpen, convert_open}
-use Rattle.joins.specs.declared.Joined.TheVariants as joined
 use Rattle.joins.specs.Join as join
 use Rattle.joins.specs.Join.{process_horz_joins}
 use Rattle.joins.specs.Needs.{Joins}
-use Rattle.opening.specs.declared.open.Opened.TheVariants.{Accepted}
 use Rattle.opening.specs.Start.{start_rings}
 use Rattle.opening.specs.Open.{JOIN_POINTS, end, after_joins, after_segments, after_rows, cleared, open_of}
 use Rattle.opening.proofs.Passing.{passed, converting, may_join, made_ready}
@@ -46,24 +44,24 @@ module _ (bytes lent w : List ℕ) where
   abbrev reads : fill.ReadEnd
   reads = accept_of bytes (cleared lent) (replicate limit.SEGMENTS 0) (replicate JOIN_POINTS 0)
 
-  pub stages : open_of bytes lent ≡ end Accepted w → Stages bytes lent w
+  pub stages : open_of bytes lent ≡ end (Ok tt) w → Stages bytes lent w
   stages f = by_read reads refl (accepts w bytes lent f).1
     where
-      by_joins : (j : Job) (v ts ks : List ℕ) → reads ≡ fill.end (outcome.Ok j) v ts ks → (k : ℕ) (x js : List ℕ) → convert_horz_segs_to_joins v j.segments ts ks j.joins ≡ made (converted.Joins k) x js
-          → (T : join.JoinEnd) → process_horz_joins k js x ≡ T → after_joins T ≡ end Accepted w → Stages bytes lent w
-      by_joins j v ts ks a k x js c (join.end joined.Done y) e f =
+      by_joins : (j : Job) (v ts ks : List ℕ) → reads ≡ fill.end (Ok j) v ts ks → (k : ℕ) (x js : List ℕ) → convert_horz_segs_to_joins v j.segments ts ks j.joins ≡ made (Some k) x js
+          → (T : join.JoinEnd) → process_horz_joins k js x ≡ T → after_joins T ≡ end (Ok tt) w → Stages bytes lent w
+      by_joins j v ts ks a k x js c (join.end (Ok tt) y) e f =
           let z : start_rings y ≡ w = cc in
           record { job = j; read = v; segments = ts; own = ks; accepted = a; levelled = x; joins = js; many = k; converted = c; joined = y; done = e; started = z }
-      by_joins j v ts ks a k x js c (join.end joined.Knot y) e f = absurd (let z : ◌≡◌ {A = ℕ} 0 1 = cc in omega arith)
-      by_joins j v ts ks a k x js c (join.end joined.Full y) e f = absurd (let z : ◌≡◌ {A = ℕ} 0 1 = cc in omega arith)
+      by_joins j v ts ks a k x js c (join.end (Err Knot) y) e f = absurd (let z : ◌≡◌ {A = ℕ} 0 1 = cc in omega arith)
+      by_joins j v ts ks a k x js c (join.end (Err Full) y) e f = absurd (let z : ◌≡◌ {A = ℕ} 0 1 = cc in omega arith)
 
-      by_segments : (j : Job) (v ts ks : List ℕ) → reads ≡ fill.end (outcome.Ok j) v ts ks → (T : Made) → convert_horz_segs_to_joins v j.segments ts ks j.joins ≡ T → after_segments T ≡ end Accepted w → Stages bytes lent w
-      by_segments j v ts ks a (made (converted.Joins k) x js) c f = by_joins j v ts ks a k x js c (process_horz_joins k js x) refl f
-      by_segments j v ts ks a (made converted.Full x js) c f = absurd (let z : ◌≡◌ {A = ℕ} 0 1 = cc in omega arith)
+      by_segments : (j : Job) (v ts ks : List ℕ) → reads ≡ fill.end (Ok j) v ts ks → (T : Made) → convert_horz_segs_to_joins v j.segments ts ks j.joins ≡ T → after_segments T ≡ end (Ok tt) w → Stages bytes lent w
+      by_segments j v ts ks a (made (Some k) x js) c f = by_joins j v ts ks a k x js c (process_horz_joins k js x) refl f
+      by_segments j v ts ks a (made None x js) c f = absurd (let z : ◌≡◌ {A = ℕ} 0 1 = cc in omega arith)
 
-      by_read : (T : fill.ReadEnd) → reads ≡ T → after_rows T ≡ end Accepted w → Stages bytes lent w
-      by_read (fill.end (outcome.Ok j) v ts ks) e f = by_segments j v ts ks e (convert_horz_segs_to_joins v j.segments ts ks j.joins) refl f
-      by_read (fill.end (outcome.Refused x) v ts ks) e f = absurd (let z : ◌≡◌ {A = ℕ} 0 1 = cc in omega arith)
+      by_read : (T : fill.ReadEnd) → reads ≡ T → after_rows T ≡ end (Ok tt) w → Stages bytes lent w
+      by_read (fill.end (Ok j) v ts ks) e f = by_segments j v ts ks e (convert_horz_segs_to_joins v j.segments ts ks j.joins) refl f
+      by_read (fill.end (Err x) v ts ks) e f = absurd (let z : ◌≡◌ {A = ℕ} 0 1 = cc in omega arith)
 
 -- ---- a record without a ring
 
@@ -83,14 +81,14 @@ module _ (bytes lent w : List ℕ) (long : BLOCK ≤ length (cleared lent)) (t :
 
   joins_of : Joins t.levelled t.many t.joins
   joins_of =
-      may_join t.read t.segments t.job.segments t.own t.job.joins (converted.Joins t.many) t.many t.levelled t.joins
+      may_join t.read t.segments t.job.segments t.own t.job.joins (Some t.many) t.many t.levelled t.joins
       (converting bytes (cleared lent) t.read t.segments t.own t.job long t.accepted) (sym t.converted) refl
 
   -- rings at their start keep them too
   begun : Begun (view t.joined) (view w) (recs (view t.joined))
   begun =
       subst (λ (x : List ℕ). Begun (view t.joined) (view x) (recs (view t.joined))) t.started
-      (begun_all t.joined (made_ready t.many t.joins t.levelled t.joined joined.Done joins_of (sym t.done)))
+      (begun_all t.joined (made_ready t.many t.joins t.levelled t.joined (Ok tt) joins_of (sym t.done)))
 
   -- what such a record keeps, as opening leaves it
   pub record LeftBare (j v u : ℕ) : Type 0 where

@@ -8,6 +8,7 @@ use native.Mathlib.Omega.{arith}
 use native.Mathlib.Decide.{ℕ_discrete}
 use lib.ListN.{length}
 use borrow.Author.Tests.{ne_eqb, lt-ltb}
+use Rattle.std.specs.Prelude.{Ok}
 use Rattle.rings.specs.Progress.{Discard}
 use Rattle.geometry.specs.declared.Point.{Point}
 use Rattle.store.specs.Field.{rc, REASON, TAKER}
@@ -15,12 +16,10 @@ use Rattle.store.specs.Words.{Store, view}
 use Rattle.store.specs.Reason.{NO_RING, JOINED, discard_of}
 use Rattle.store.specs.Sound.{recs, ringless, is_open}
 use Rattle.store.specs.Value.{reverse_solution}
-use Rattle.audit.specs.declared.Verdict.TheVariants.{Passed}
 use Rattle.handed.specs.Handed.{handed_of}
 use Rattle.steps.specs.Live.{any_live}
 use Rattle.paths.specs.Path.{path_at, path_if, listed, small_by, path_end, paths_below}
 use Rattle.telling.specs.declared.Reason.TheVariants.{NoRing, Joined, ShortPath, SmallPath, Written}
-use Rattle.telling.specs.declared.Told.TheVariants.{Because}
 use Rattle.telling.specs.Telling.{discard_reason, kept_reason, path_reason, reason_at, reason_of}
 
 -- ---- without a ring
@@ -91,6 +90,6 @@ own_list s j p e = go (is_open s j)
 
 -- ---- the call
 
-pub call_tells : (w : List ℕ) (j : ℕ) → handed_of w ≡ Passed → j < recs (view w) → any_live (view w) ≡ false → reason_of w j ≡ Because (reason_at (view w) j)
+pub call_tells : (w : List ℕ) (j : ℕ) → handed_of w ≡ (Ok tt) → j < recs (view w) → any_live (view w) ≡ false → reason_of w j ≡ Ok (reason_at (view w) j)
 unfolding reason_of
 call_tells w j p h d = rw (p, lt-ltb j (recs (view w)) h, d)

@@ -9,6 +9,7 @@ use native.Mathlib.Decide.{dec_lt}
 use lib.Dec.{eqb}
 use lib.ListN.{length, get_elem?, length-map}
 use borrow.Author.Tests.{eqb-true}
+use Rattle.std.proofs.Common.{Ok}
 use Rattle.rings.specs.Progress.{Discard, Ring, at_start, gone}
 use Rattle.geometry.specs.declared.Point.{Point}
 use Rattle.lone.specs.Forest.{State, initial, closed_ring, Fed, left_closed, enter, at, offcuts_of, rank, steps_state, steps_entry}
@@ -28,7 +29,6 @@ use Rattle.paths.specs.Path.{path_at, small_by}
 use Rattle.telling.specs.declared.Reason.{Reason}
 use Rattle.telling.specs.declared.Reason.TheVariants.{NoRing, Joined}
 use Rattle.telling.specs.Telling.{discard_reason, reason_at}
-use Rattle.opening.specs.declared.open.Opened.TheVariants.{Accepted}
 use Rattle.opening.specs.Open.{end, open_of}
 use Rattle.opening.specs.After.{OpenAsGiven}
 use Rattle.opening.proofs.Accepted.{accepts, open_as_given}
@@ -122,7 +122,7 @@ module _ (w : List ℕ) (o : Start w) (is : List ℕ) (j : ℕ) where
 
 -- ---- of an accepted job
 
-module _ (bytes lent w : List ℕ) (f : open_of bytes lent ≡ end Accepted w) (is : List ℕ) (j : ℕ) where
+module _ (bytes lent w : List ℕ) (f : open_of bytes lent ≡ end (Ok tt) w) (is : List ℕ) (j : ℕ) where
   abbrev s : Store
   s = view (run_of w is)
 

@@ -14,7 +14,7 @@ use Rattle.steps.specs.Live.{any_live}
 use Rattle.paths.specs.Path.{path_at, small_by, paths_below}
 use Rattle.telling.specs.declared.Reason.{Reason}
 use Rattle.telling.specs.declared.Reason.TheVariants.{NoRing, Joined, SmallRing, RingFell, SmallArea, ShortPath, SmallPath, Written}
-use Rattle.telling.specs.declared.Told.TheVariants.{Because}
+use Rattle.std.specs.Prelude.{Ok}
 use Rattle.telling.specs.Telling.{discard_reason, reason_at, reason_of}
 use Rattle.finishing.specs.Run.{run_of, granted}
 use Rattle.order.specs.Demand3.{M, G, fed, lones}
@@ -66,7 +66,7 @@ module _ (bytes lent w : List ℕ) (t : Stages bytes lent w) (is : List ℕ) (j 
 
   -- asked, the call tells what happened; and nothing else happened
   pub record ToldRight : Type 0 where
-    pub call : reason_of (run_of w is) j ≡ Because (reason_at s j)
+    pub call : reason_of (run_of w is) j ≡ Ok (reason_at s j)
     pub told : Ended (reason_at s j)
     pub only : (r : Reason) → Ended r → r ≡ reason_at s j
     pub opened : is_open s j ≡ true → OfOpen (reason_at s j)

@@ -1,6 +1,5 @@
 -- The join that emptied a record, and the record that took it in that join.
-use Rattle.std.specs.Prelude.{◌≡◌, ◌≢◌, List, ℕ, ◌+◌, ◌*◌, get_or}
-use Rattle.joins.specs.declared.Joined.TheVariants.{Done}
+use Rattle.std.specs.Prelude.{◌≡◌, ◌≢◌, List, ℕ, ◌+◌, ◌*◌, get_or, Ok}
 use Rattle.joins.specs.Resolve.{home_of}
 use Rattle.joins.specs.Join.{end, join_of, process_horz_joins}
 
@@ -8,8 +7,8 @@ use Rattle.joins.specs.Join.{end, join_of, process_horz_joins}
 pub record EmptiedAt (js w : List ℕ) (k u j : ℕ) : Type 0 where
   pub before : List ℕ
   pub after : List ℕ
-  pub turn : process_horz_joins k js w ≡ end Done before
-  pub made : join_of before (get_or js (2 * k) 0) (get_or js (2 * k + 1) 0) ≡ end Done after
+  pub turn : process_horz_joins k js w ≡ end (Ok tt) before
+  pub made : join_of before (get_or js (2 * k) 0) (get_or js (2 * k + 1) 0) ≡ end (Ok tt) after
   pub into : home_of before (get_or js (2 * k) 0) ≡ u
   pub from : home_of before (get_or js (2 * k + 1) 0) ≡ j
   pub two : u ≢ j

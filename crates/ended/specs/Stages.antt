@@ -1,13 +1,10 @@
 -- The stages of opening an accepted job, by the words that each leaves.
-use Rattle.std.specs.Prelude.{◌≡◌, List, ℕ, replicate}
+use Rattle.std.specs.Prelude.{◌≡◌, List, ℕ, replicate, Some, Ok}
 use Rattle.job.specs.Limits as limit
 use Rattle.job.specs.declared.Job.{Job}
-use Rattle.reading.specs.declared.fill.Outcome.TheVariants.{Ok}
 use Rattle.reading.specs.Fill as fill
 use Rattle.accepting.specs.Accept.{accept_of}
-use Rattle.converting.specs.declared.pairs.Converted.TheVariants.{Joins}
 use Rattle.converting.specs.Make.{made, convert_horz_segs_to_joins}
-use Rattle.joins.specs.declared.Joined.TheVariants.{Done}
 use Rattle.joins.specs.Join.{end, process_horz_joins}
 use Rattle.opening.specs.Start.{start_rings}
 use Rattle.opening.specs.Open.{JOIN_POINTS, cleared}
@@ -24,8 +21,8 @@ pub record Stages (bytes lent w : List ℕ) : Type 0 where
   pub levelled : List ℕ
   pub joins : List ℕ
   pub many : ℕ
-  pub converted : convert_horz_segs_to_joins read job.segments segments own job.joins ≡ made (Joins many) levelled joins
+  pub converted : convert_horz_segs_to_joins read job.segments segments own job.joins ≡ made (Some many) levelled joins
   -- `process_horz_joins`
   pub joined : List ℕ
-  pub done : process_horz_joins many joins levelled ≡ end Done joined
+  pub done : process_horz_joins many joins levelled ≡ end (Ok tt) joined
   pub started : start_rings joined ≡ w

@@ -1,11 +1,13 @@
 -- A step, and writing out, by the live block alone: what they answer and write there hangs on nothing else, and a step leaves every word behind the block, so names and copies of kept states too.
-use Prim.Native.Nat.{ℕ, ◌+◌, ◌≤◌, ◌<◌}
+use Prim.Native.Nat.{ℕ, ◌≤◌, ◌<◌}
 use mathlib.Core.Path.{◌≡◌, refl, ap, ◌∙◌, sym, subst}
 use mathlib.Core.List.{List, ◌++◌}
-use mathlib.Core.Bool.{cond, true}
+use mathlib.Core.Bool.{cond}
 use native.Mathlib.Omega.{arith}
 use lib.ListN.{length, get_or, take, drop, take-append-drop}
 use lib.Seq.{length-take-le, take_at, drop_at, get_or-take, get_or-drop}
+use Rattle.std.specs.Prelude.{Result, Ok, Err}
+use Rattle.job.specs.declared.refusal.Refusal.{Refusal}
 use Rattle.job.specs.declared.refusal.Refusal.TheVariants.{OutOfTurn}
 use Rattle.lone.specs.Lone.{Geo}
 use Rattle.lone.specs.Forest.{Answer, ok, full, out_of_turn}
@@ -18,8 +20,6 @@ use Rattle.store.specs.Good.{Sound}
 use Rattle.store.specs.Boxes.{side_at, ring_box, Boxed, boxed_at}
 use Rattle.store.specs.States.{is_name, name_at, Apart, block_of}
 use Rattle.store.specs.Value.{preserve_collinear}
-use Rattle.audit.specs.declared.Verdict.{Verdict}
-use Rattle.audit.specs.declared.Verdict.TheVariants as verdict
 use Rattle.handed.specs.Handed.{handed_of, Usable}
 use Rattle.handed.proofs.Handing.{usable_handed, handed_usable}
 use Rattle.acts.specs.Apply.{Coding}
@@ -33,11 +33,10 @@ use Rattle.acts.proofs.Stepping.{length_step, step_w_sound}
 use Rattle.turns.specs.Form.{raised, geometry_of}
 use Rattle.turns.proofs.Ready.{laws}
 use Rattle.steps.specs.Live.{any_live}
-use Rattle.paths.specs.declared.Written.TheVariants as written
 use Rattle.paths.specs.Wrote.{wrote, build_paths64}
 use Rattle.audit.specs.Left.{Left, left}
 use Rattle.boxed_steps.specs.Leaves.{step_leaves}
-use Rattle.finishing.specs.Step.{stepped_as, step_by, step_of}
+use Rattle.finishing.specs.Step.{stepped_as, step_of}
 use Rattle.finishing.specs.Write.{write_of}
 use Rattle.finishing.proofs.Entering.{handed_step, handed_write}
 
@@ -159,7 +158,7 @@ module _ (w : List ℕ) (f : Usable w) (i : ℕ) where
   fit_long = omega (arith, f.long)
 
   pub step_is : step_of w i ≡ left (stepped_as (answered w fit_long f.sound i)) (step_leaves (answered w fit_long f.sound i) w i)
-  step_is = handed_step w i verdict.Passed (usable_handed w f)
+  step_is = handed_step w i (Ok tt) (usable_handed w f)
 
   pub words_are : (step_of w i).words ≡ step_leaves (answered w fit_long f.sound i) w i
   words_are = ap (λ (x : Left). x.words) step_is
@@ -193,9 +192,9 @@ module _ (w : List ℕ) (f : Usable w) (i : ℕ) where
 pub call_behind : (w : List ℕ) (i : ℕ) → drop BLOCK (step_of w i).words ≡ drop BLOCK w
 call_behind w i = go (handed_of w) refl
   where
-    go : (v : Verdict) → handed_of w ≡ v → drop BLOCK (step_of w i).words ≡ drop BLOCK w
-    go (verdict.Refused r) e = ap (λ (x : Left). drop BLOCK x.words) (handed_step w i (verdict.Refused r) e)
-    go verdict.Passed e = fit_behind w (handed_usable w e) i
+    go : (v : Result (Unit {0}) Refusal) → handed_of w ≡ v → drop BLOCK (step_of w i).words ≡ drop BLOCK w
+    go (Err r) e = ap (λ (x : Left). drop BLOCK x.words) (handed_step w i (Err r) e)
+    go (Ok _) e = fit_behind w (handed_usable w e) i
 
 -- two work spaces with one live block
 module _ (w v : List ℕ) (f : Usable w) (g : Usable v) (e : block_of w ≡ block_of v) where
@@ -217,6 +216,6 @@ module _ (w v : List ℕ) (f : Usable w) (g : Usable v) (e : block_of w ≡ bloc
 
   pub same_write : (t : List ℕ) → write_of w t ≡ write_of v t
   same_write t =
-      handed_write w t verdict.Passed (usable_handed w f)
-      ∙ ap (λ (s : Store). cond (any_live s) (wrote (written.Refused OutOfTurn) t) (build_paths64 s t)) shown
-      ∙ sym (handed_write v t verdict.Passed (usable_handed v g))
+      handed_write w t (Ok tt) (usable_handed w f)
+      ∙ ap (λ (s : Store). cond (any_live s) (wrote (Err OutOfTurn) t) (build_paths64 s t)) shown
+      ∙ sym (handed_write v t (Ok tt) (usable_handed v g))

@@ -11,54 +11,50 @@ ghost use Rattle.finishing.specs.InOneCall.{finished, refused, after_writing, af
 use bounds::box_records;
 use job::refusal::Refusal;
 use opening::clear::clear;
-use opening::open::{Opened, open_unboxed};
+use opening::open::open_unboxed;
 use paths::{Written, build_paths64};
-use steps::RingsEnd;
 use steps::finish::finish_records;
 
 // A refusal leaves zeros only.
-fn refuse(x: Refusal, work: &mut [u32], tray: &mut [u8]) -> Written
+fn refuse(x: Refusal, work: &mut [u32], tray: &mut [u8]) -> Result<Written, Refusal>
     ensures { finished result work.new tray.new ≡ refused x (length work.old) (length tray.old) }
 {
     clear(work);
     paths::clear(tray);
-    Written::Refused(x)
+    Err(x)
 }
 
 // The paths of rings that are done.
-fn write_finished(work: &mut [u32], tray: &mut [u8]) -> Written
+fn write_finished(work: &mut [u32], tray: &mut [u8]) -> Result<Written, Refusal>
     requires { SoundWords work.old }
     ensures { finished result work.new tray.new ≡ after_writing work.old (build_paths64 (view work.old) tray.old).answer (build_paths64 (view work.old) tray.old).tray }
 {
-    let r = build_paths64(work, tray);
-    match r {
-        Written::Paths { closed, open } => Written::Paths { closed, open },
-        Written::Refused(x) => refuse(x, work, tray),
+    match build_paths64(work, tray) {
+        Ok(p) => Ok(p),
+        Err(x) => refuse(x, work, tray),
     }
 }
 
 // Every ring stepped until it is done, in rising record order; then the boxes, which are not there before, and the paths.
-fn finish_opened(work: &mut [u32], tray: &mut [u8]) -> Written
+fn finish_opened(work: &mut [u32], tray: &mut [u8]) -> Result<Written, Refusal>
     requires { Start (all_boxed work.old) }
     ensures { finished result work.new tray.new ≡ after_steps (finish_rings (all_boxed work.old)) tray.old }
 {
-    let e = finish_records(work);
-    match e {
-        RingsEnd::Done => {
+    match finish_records(work) {
+        Ok(()) => {
             box_records(work);
             write_finished(work, tray)
         }
-        RingsEnd::Full => refuse(Refusal::Full, work, tray),
+        Err(e) => refuse(e.into(), work, tray),
     }
 }
 
 // Finishes a job in one call: the answer, every word and every byte left. Boxes that opening would write are written over at the end, so it writes none.
-pub fn finish(bytes: &[u8], work: &mut [u32], tray: &mut [u8]) -> Written
+pub fn finish(bytes: &[u8], work: &mut [u32], tray: &mut [u8]) -> Result<Written, Refusal>
     ensures { finished result work.new tray.new ≡ finish_of bytes.now work.old tray.old }
 {
-    let o = open_unboxed(bytes, work);
-    match o {
-        Opened::Accepted => finish_opened(work, tray),
-        Opened::Refused(x) => refuse(x, work, tray),
+    match open_unboxed(bytes, work) {
+        Ok(()) => finish_opened(work, tray),
+        Err(x) => refuse(x, work, tray),
     }
 }

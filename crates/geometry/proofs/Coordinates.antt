@@ -1,17 +1,15 @@
 -- Sums, differences and products of coordinates, as the code's words hold them; the test of closeness.
-use mathlib.Core.Path.{◌≡◌, refl, sym, ◌∙◌}
-use mathlib.Core.Bool.{Bool, true, false, not, ◌&&◌, ◌||◌}
-use Prim.Native.Nat.{suc, ◌^◌, ◌<◌, ◌≤◌}
-use native.Mathlib.Omega.{arith}
-use borrow.Author.Tests.{ltb-true, ltb-false, lt-ltb, le-ltb}
-use lib.Dec.{ltb, eqb}
-use lib.IntN.{ℤ, pos, negsuc, nat_abs, ◌+ℤ◌, ◌-ℤ◌, ◌*ℤ◌}
+use mathlib.Core.Path.{◌≡◌}
+use mathlib.Core.Bool.{Bool, not, ◌&&◌, ◌||◌}
+use Prim.Native.Nat.{◌^◌}
+use lib.Dec.{eqb}
+use lib.IntN.{ℤ, pos, ◌+ℤ◌, ◌-ℤ◌, ◌*ℤ◌}
 use lib.Signed.{lt_z}
 use mir.Syntax.{w32}
 use mir.Val.{SFits, of_z}
 use mir.Facts.{to_z-of_z}
 use Rattle.exact.specs.Num.{Within}
-use Rattle.exact.proofs.Words.{bits_eq_z, i32, i64, Held, held_here, held_is, held_32, held_64, held_add, held_sub, held_mul, sub_wide}
+use Rattle.exact.proofs.Words.{bits_eq_z, i32, i64, Held, held_here, held_is, held_32, held_64, held_add, held_sub, held_mul}
 use Rattle.geometry.specs.declared.Point.{Point}
 use Rattle.geometry.specs.Plane.{same_point, is_collinear, dot_product_three_points, edge_area, close_by, pts_really_close, removable}
 use Rattle.geometry.specs.Table.{InTable}
@@ -20,13 +18,23 @@ use Rattle.geometry.specs.Table.{InTable}
 pub coordinate : {z : ℤ} → Within (2 ^ 20) z → Held (i32 z) z (2 ^ 20)
 coordinate h = held_32 (held_here h) tt
 
-module _ {a b r : ℤ} (h : Within (2 ^ 20) a) (k : Within (2 ^ 20) b) where
-  -- the answers of `diff` and `sum`
-  pub diff_of : r ≡ i32 a -ℤ i32 b → Held r (a -ℤ b) (2 ^ 21)
-  diff_of e = held_is e (held_sub (coordinate h) (coordinate k))
+-- the sum, the difference and the product that `product` and `edge_area` make
+module _ {a b : ℤ} (h : Within (2 ^ 20) a) (k : Within (2 ^ 20) b) where
+  wide_add : Held (i64 (i32 a) +ℤ i64 (i32 b)) (a +ℤ b) (2 ^ 21)
+  wide_add = held_add (held_64 (coordinate h) tt) (held_64 (coordinate k) tt)
 
-  pub sum_of : r ≡ i32 a +ℤ i32 b → Held r (a +ℤ b) (2 ^ 21)
-  sum_of e = held_is e (held_add (coordinate h) (coordinate k))
+  wide_sub : Held (i64 (i32 a) -ℤ i64 (i32 b)) (a -ℤ b) (2 ^ 21)
+  wide_sub = held_sub (held_64 (coordinate h) tt) (held_64 (coordinate k) tt)
+
+pub wide_mul :
+    {a b c d : ℤ} → Within (2 ^ 20) a → Within (2 ^ 20) b → Within (2 ^ 20) c → Within (2 ^ 20) d
+    → Held (i64 (i64 (i32 a) -ℤ i64 (i32 b)) *ℤ i64 (i64 (i32 c) -ℤ i64 (i32 d))) ((a -ℤ b) *ℤ (c -ℤ d)) (2 ^ 42)
+wide_mul h k l m = held_mul (held_64 (wide_sub h k) tt) (held_64 (wide_sub l m) tt)
+
+pub wide_edge :
+    {p q : Point} → InTable p → InTable q
+    → Held (i64 (i64 (i32 p.y) +ℤ i64 (i32 q.y)) *ℤ i64 (i64 (i32 p.x) -ℤ i64 (i32 q.x))) (edge_area p q) (2 ^ 42)
+wide_edge h k = held_mul (held_64 (wide_add h.y k.y) tt) (held_64 (wide_sub h.x k.x) tt)
 
 -- the answer of `product`
 pub product_of :
@@ -52,19 +60,6 @@ unfolding same_point
 same_of p q h k l m = rw (bits_eq_z w32 p.x q.x h k, bits_eq_z w32 p.y q.y l m)
 
 -- ---- closeness
-under_two : (z : ℤ) → (lt_z (negsuc 1) z && lt_z z (pos 2)) ≡ ltb (nat_abs z) 2
-under_two (pos n) = refl
-under_two (negsuc n) = go (ltb n 1) (ltb-true n 1) (ltb-false n 1)
-  where
-    go : (t : Bool) → (t ≡ true → n < 1) → (t ≡ false → 1 ≤ n) → (t && true) ≡ ltb (suc n) 2
-    go true y k = let h : n < 1 = y refl in sym (lt-ltb (suc n) 2 (omega arith))
-    go false y k = let h : 1 ≤ n = k refl in sym (le-ltb (suc n) 2 (omega arith))
-
-pub close_of : {a b d : ℤ} → SFits w32 a → SFits w32 b → d ≡ i32 a -ℤ i32 b → (lt_z (negsuc 1) (i64 d) && lt_z (i64 d) (pos 2)) ≡ close_by a b
-close_of {a} {b} {d} h k e =
-    let f : d ≡ a -ℤ b = e ∙ rw (to_z-of_z h, to_z-of_z k) in
-    rw (f, to_z-of_z (sub_wide h k)) (under_two (a -ℤ b))
-
 -- the answers of `close` on both coordinates
 pub both_close :
     (p q : Point) {r s : Bool} →

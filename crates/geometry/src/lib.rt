@@ -23,45 +23,22 @@ pub struct Rect {
     pub bottom: i32,
 }
 
-// Equality of points: the only one. z does not count.
+// Equality of points: the only one. z does not count. It keeps a name: an impl of `==` that skips a field is longer, and no plainer.
 pub fn same_point(p: Point, q: Point) -> bool
     ensures { result ≡ same_point p q }
 {
     (p.x == q.x) & (p.y == q.y)
 }
 
-// a - b, for which 64 bits suffice.
-fn diff(a: i32, b: i32) -> i64
-    ensures { result ≡ a -ℤ b }
-{
-    a as i64 - b as i64
-}
-
-// a + b, for which 64 bits suffice.
-fn sum(a: i32, b: i32) -> i64
-    ensures { result ≡ a +ℤ b }
-{
-    a as i64 + b as i64
-}
-
-// The product of two sums or differences of coordinates.
-fn times(p: i64, q: i64) -> i64
-    requires fact_1 { Within (2 ^ 21) p }
-    requires fact_2 { Within (2 ^ 21) q }
-    ensures { result ≡ p *ℤ q }
-{
-    p * q
-}
-
 // The product of two differences of coordinates.
-fn product(a: i32, b: i32, c: i32, d: i32) -> i64
+pub fn product(a: i32, b: i32, c: i32, d: i32) -> i64
     requires fact_1 { Within (2 ^ 20) a }
     requires fact_2 { Within (2 ^ 20) b }
     requires fact_3 { Within (2 ^ 20) c }
     requires fact_4 { Within (2 ^ 20) d }
     ensures { result ≡ (a -ℤ b) *ℤ (c -ℤ d) }
 {
-    times(diff(a, b), diff(c, d))
+    (a as i64 - b as i64) * (c as i64 - d as i64)
 }
 
 // Whether the three points lie on one line.
@@ -95,9 +72,10 @@ pub fn cross_product_sign(pt1: Point, pt2: Point, pt3: Point) -> i32
     requires fact_3 { InTable pt3 }
     ensures { result ≡ cross_product_sign pt1 pt2 pt3 }
 {
-    let ab = product(pt2.x, pt1.x, pt3.y, pt2.y);
-    let cd = product(pt2.y, pt1.y, pt3.x, pt2.x);
-    sign_of(ab, cd)
+    sign_of(
+        product(pt2.x, pt1.x, pt3.y, pt2.y),
+        product(pt2.y, pt1.y, pt3.x, pt2.x),
+    )
 }
 
 // The edge to pt2 times the edge from it.
@@ -116,7 +94,7 @@ pub fn edge_area(prev: Point, pt: Point) -> i64
     requires fact_2 { InTable pt }
     ensures { result ≡ edge_area prev pt }
 {
-    times(sum(prev.y, pt.y), diff(prev.x, pt.x))
+    (prev.y as i64 + pt.y as i64) * (prev.x as i64 - pt.x as i64)
 }
 
 // The doubled area of three points.
@@ -133,8 +111,7 @@ pub fn area_triangle(pt1: Point, pt2: Point, pt3: Point) -> i64
 fn close(a: i32, b: i32) -> bool
     ensures { result ≡ close_by a b }
 {
-    let d = diff(a, b);
-    (-2 < d) & (d < 2)
+    a.abs_diff(b) < 2
 }
 
 // Whether two points differ by under 2 in both x and y.

@@ -27,14 +27,11 @@ fn past_line(s: &[u8], at: usize) -> usize {
 }
 
 fn signed(v: u64, minus: bool) -> i64 {
-    if v < 1000000000000000000 {
-        let z = v as i64;
-        if minus {
-            return 0 - z;
-        }
-        return z;
+    if v >= 1000000000000000000 {
+        return 0;
     }
-    0
+    let z = v as i64;
+    if minus { -z } else { z }
 }
 
 fn number(s: &[u8], at: usize) -> i64 {
@@ -53,10 +50,7 @@ const LEAST: i64 = -MOST;
 fn coordinate(z: i64) -> i32
     ensures { Within (2 ^ 20) result }
 {
-    if z > MOST {
-        return 0;
-    }
-    if z < LEAST {
+    if z < LEAST || MOST < z {
         return 0;
     }
     z as i32
@@ -64,11 +58,8 @@ fn coordinate(z: i64) -> i32
 
 // The word of a depth whose size and sign are given.
 fn depth(v: u64, minus: bool) -> u32 {
-    let w = v % 4294967296;
-    if minus {
-        return ((4294967296 - w) % 4294967296) as u32;
-    }
-    w as u32
+    let w = (v % 4294967296) as u32;
+    if minus { w.wrapping_neg() } else { w }
 }
 
 // The word of the depth at a place.
@@ -107,27 +98,10 @@ fn answer(s: &[u8], at: usize) -> i64 {
     number(s, past_word(s, at))
 }
 
-fn bit(b: bool) -> i64 {
-    if b {
-        return 1;
-    }
-    0
-}
-
-fn sign(z: i64) -> i64 {
-    if z > 0 {
-        return 1;
-    }
-    if z < 0 {
-        return -1;
-    }
-    0
-}
-
 // A case of two points: pts_really_close.
 fn two_agree(s: &[u8], at: usize) -> bool {
     let b = past_point(s, at);
-    bit(geometry::pts_really_close(point(s, at), point(s, b))) == answer(s, past_point(s, b))
+    i64::from(geometry::pts_really_close(point(s, at), point(s, b))) == answer(s, past_point(s, b))
 }
 
 // What a function of three points answers, by a letter of its name.
@@ -135,13 +109,13 @@ fn of_three(letter: u8, a: Point, b: Point, c: Point) -> i64
     requires { (InTable a) × ((InTable b) × (InTable c)) }
 {
     if letter == b'c' {
-        return bit(geometry::is_collinear(a, b, c));
+        return i64::from(geometry::is_collinear(a, b, c));
     }
     if letter == b'v' {
-        return bit(geometry::is_very_small_triangle(a, b, c));
+        return i64::from(geometry::is_very_small_triangle(a, b, c));
     }
     if letter == b'd' {
-        return sign(geometry::dot_product_three_points(a, b, c));
+        return geometry::dot_product_three_points(a, b, c).signum();
     }
     geometry::area_triangle(a, b, c)
 }
@@ -159,17 +133,15 @@ fn removable_agrees(s: &[u8], at: usize) -> bool {
     let b = past_point(s, a);
     let c = past_point(s, b);
     let preserve = byte(s, at) == b'1';
-    bit(geometry::removable(preserve, point(s, a), point(s, b), point(s, c)))
+    i64::from(geometry::removable(preserve, point(s, a), point(s, b), point(s, c)))
         == answer(s, past_point(s, c))
 }
 
 // The fraction M / 2^E at a place, which is a float.
 fn fraction(s: &[u8], at: usize) -> f64 {
     let mut v = std::num::nearest_i64_to_f64(number(s, at));
-    let mut left = digits(s, past_word(s, at));
-    while left > 0 {
+    for _ in 0..digits(s, past_word(s, at)) {
         v = v * 0.5;
-        left -= 1;
     }
     v
 }
@@ -191,19 +163,12 @@ fn crossing_agrees(s: &[u8], at: usize, e: Edges) -> bool
 {
     let word = byte(s, at);
     let p = past_word(s, at);
-    let f = crossing::get_segment_intersect_pt(e);
-    match f {
-        Crossing::Parallel => {
-            return word == b'p';
-        }
-        Crossing::Start => {
-            return (word == b's') & whole(e.a, point(s, p));
-        }
-        Crossing::End => {
-            return (word == b'e') & whole(e.b, point(s, p));
-        }
+    match crossing::get_segment_intersect_pt(e) {
+        Crossing::Parallel => word == b'p',
+        Crossing::Start => (word == b's') & whole(e.a, point(s, p)),
+        Crossing::End => (word == b'e') & whole(e.b, point(s, p)),
         Crossing::Inside { first, second } => {
-            return (word == b'i') & inside_agrees(s, p, e, first, second);
+            (word == b'i') & inside_agrees(s, p, e, first, second)
         }
     }
 }
@@ -213,7 +178,7 @@ fn of_four(s: &[u8], name: u8, at: usize, e: Edges) -> bool
     requires { Paired e }
 {
     if name == b's' {
-        return bit(crossing::segments_intersect(e)) == number(s, at);
+        return i64::from(crossing::segments_intersect(e)) == number(s, at);
     }
     crossing_agrees(s, at, e)
 }
@@ -253,13 +218,6 @@ fn agrees(s: &[u8], at: usize) -> bool {
     three_agree(s, name, first)
 }
 
-fn one_more(n: u64) -> u64 {
-    if n < 65536 {
-        return n + 1;
-    }
-    n
-}
-
 // The counts of cases and of those that differ.
 #[derive(Clone, Copy)]
 struct Counts {
@@ -269,19 +227,20 @@ struct Counts {
 
 fn run(s: &[u8]) -> Counts {
     let mut at: usize = 0;
-    let mut cases: u64 = 0;
     let mut differ: u64 = 0;
-    while cases < 10000 {
+    for cases in 0..10000 {
         if byte(s, at) == 0 {
             return Counts { cases, differ };
         }
         if !agrees(s, at) {
-            differ = one_more(differ);
+            differ += 1;
         }
         at = past_line(s, at);
-        cases += 1;
     }
-    Counts { cases, differ }
+    Counts {
+        cases: 10000,
+        differ,
+    }
 }
 
 fn main(rt: HostRuntime) -> io::Result<()> {

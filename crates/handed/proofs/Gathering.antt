@@ -1,6 +1,6 @@
 -- The rounds, one turn at a time: a round gathers the box of its ring, and whether it met a point, while it marks the points; a record; and all records together.
 use Prim.Native.Nat.{ℕ, ◌+◌, ◌-◌, ◌*◌, ◌%◌, ◌≤◌, ◌<◌}
-use mathlib.Core.Path.{◌≡◌, refl, ap, ◌∙◌, sym}
+use mathlib.Core.Path.{◌≡◌, refl, ap, ◌∙◌, sym, subst}
 use mathlib.Core.Bool.{Bool, true, false, not, ◌&&◌, ◌||◌}
 use mathlib.Core.Logic.{◌≢◌}
 use mathlib.Core.List.{List}
@@ -9,7 +9,7 @@ use native.Mathlib.Omega.{arith}
 use lib.Dec.{eqb, ltb}
 use lib.ListN.{length, get_or, set}
 use lib.Seq.{get_or-set_same, get_or-set_other}
-use borrow.Author.Tests.{eq-eqb, ne_eqb, lt-ltb, eqb-true, ltb-false, not-false}
+use borrow.Author.Tests.{eq-eqb, ne_eqb, lt-ltb, ltb-false}
 use Rattle.job.specs.Limits as limit
 use Rattle.store.specs.declared.boxed.Sides.{Sides}
 use Rattle.store.specs.Field.{pt, X, Y, NONE}
@@ -55,17 +55,24 @@ first_box w k b c x y f e ex ey ec =
     ∙ widen_none (view w) k (2 * limit.COORDINATE) (ltb-false (2 * limit.COORDINATE) (view w (pt X) k) t.0) (ltb-false (2 * limit.COORDINATE) (view w (pt Y) k) t.1)
 
 module _ {w ms : List ℕ} {a k p left : ℕ} {e : Bool} {b : Sides} where
-  pub gathers_on : Gathers w ms a k p left e b → (ms₀ : List ℕ) (m x y q : ℕ) (d : Bool) (c : Sides) (bad : Bool) → length ms ≡ length ms₀ → points_of w ≤ length ms₀ → m ≡ points_of w → 0 < left → p < m → get_or ms p 0 ≡ 0
+  one_on : Gathers w ms a k p left e b → (ms₀ : List ℕ) (m x y q : ℕ) (d : Bool) (c : Sides) (bad : Bool) → length ms ≡ length ms₀ → points_of w ≤ length ms₀ → m ≡ points_of w → 0 < left → p < m → get_or ms p 0 ≡ 0
       → d ≡ (e || eqb p k) → bad ≡ faulty w p → bad ≡ false → x ≡ view w (pt X) p → y ≡ view w (pt Y) p → c ≡ widen_by b x y → q ≡ next_of w p → Gathers w (set ms p 1) a k q (left - 1) d c
-  gathers_on (begun l g n f i) ms₀ m x y q d c bad es r em z h u ed ef hf ex ey ec eq =
+  one_on (begun l g n f i) ms₀ m x y q d c bad es r em z h u ed ef hf ex ey ec eq =
       let j : c ≡ point_sides (view w) a = first_box w p b c x y (sym ef ∙ hf) i ex ey ec ∙ ap (point_sides (view w)) g in
       let o : d ≡ eqb a k = ed ∙ ap (λ (t : Bool). t || eqb p k) f ∙ ap (λ (v : ℕ). eqb v k) g in
       going (rw (← g) (marked_here ms p (omega arith))) (rw l (met_first w a k d q o (eq ∙ ap (next_of w) g))) (rw l (begins w a q c j (eq ∙ ap (next_of w) g)))
-  gathers_on (going n f i) ms₀ m x y q d c bad es r em z h u ed ef hf ex ey ec eq =
+  one_on (going n f i) ms₀ m x y q d c bad es r em z h u ed ef hf ex ey ec eq =
       going (rw (get_or-set_other ms p a 1 0 (λ g. away (sym g))) n) (met_on w a k e p left d q z away ed eq f) (on w a p b left c q z away (widen_is (view w) b c p x y ex ey ec) eq i)
     where
       away : p ≢ a
       away g = clash n (rw (← g, eq-eqb (get_or ms p 0) 0 u))
+
+  -- t turns left after this one
+  pub gathers_on : Gathers w ms a k p left e b → (ms₀ : List ℕ) (t m x y q : ℕ) (d : Bool) (c : Sides) (bad : Bool) → left ≡ t + 1 → length ms ≡ length ms₀ → points_of w ≤ length ms₀ → m ≡ points_of w → p < m → get_or ms p 0 ≡ 0
+      → d ≡ (e || eqb p k) → bad ≡ faulty w p → bad ≡ false → x ≡ view w (pt X) p → y ≡ view w (pt Y) p → c ≡ widen_by b x y → q ≡ next_of w p → Gathers w (set ms p 1) a k q t d c
+  gathers_on g ms₀ t m x y q d c bad el es r em h u ed ef hf ex ey ec eq =
+      let v : left - 1 ≡ t = omega arith in
+      subst (λ (n : ℕ). Gathers w (set ms p 1) a k q n d c) v (one_on g ms₀ m x y q d c bad es r em (omega arith) h u ed ef hf ex ey ec eq)
 
   -- at its end: whether k is on the ring, and the ring's box
   gathers_over : Gathers w ms a k p left e b → left ≤ 0 → (e ≡ is_in k (ring_of w a)) × (box_from (view w) a ≡ some (rect_of b))
@@ -77,31 +84,15 @@ module _ {w ms : List ℕ} {a k p left : ℕ} {e : Bool} {b : Sides} where
   gathers_back (going n f i) u h = (met_back w a k e p left h f, back w a p b left h i)
 
   module _ {ms₀ : List ℕ} (t : Tried w ms₀ ms) (g : Gathers w ms a k p left e b) (x : mark_from left (next_of w) (points_of w) ms p ≡ mark_from limit.POINTS (next_of w) (points_of w) ms₀ a) where
-    pub round_back : (m : ℕ) → m ≡ points_of w → p < m → get_or ms p 0 ≢ 0 → Unless (not (eqb p a)) (RoundPassed w ms₀ a k ms e b)
-    round_back m em l u =
-        record {
-          none = λ h.
-              let q = gathers_back g u (eqb-true p a (not-false (eqb p a) h)) in
-              record {
-                marks = mark_met (next_of w) (points_of w) p ms (mark_from limit.POINTS (next_of w) (points_of w) ms₀ a) left m em l u x;
-                tried = t;
-                met = q.0;
-                box = q.1;
-              };
-        }
+    pub round_back : (m : ℕ) → m ≡ points_of w → p < m → get_or ms p 0 ≢ 0 → p ≡ a → RoundPassed w ms₀ a k ms e b
+    round_back m em l u h =
+        let q = gathers_back g u h in
+        record { marks = mark_met (next_of w) (points_of w) p ms (mark_from limit.POINTS (next_of w) (points_of w) ms₀ a) left m em l u x; tried = t; met = q.0; box = q.1 }
 
-    pub round_over : left ≤ 0 → Unless false (RoundPassed w ms₀ a k ms e b)
+    pub round_over : left ≤ 0 → RoundPassed w ms₀ a k ms e b
     round_over z =
-        record {
-          none = λ h.
-              let q = gathers_over g z in
-              record {
-                marks = mark_over (next_of w) (points_of w) p ms (mark_from limit.POINTS (next_of w) (points_of w) ms₀ a) left z x;
-                tried = t;
-                met = q.0;
-                box = q.1;
-              };
-        }
+        let q = gathers_over g z in
+        record { marks = mark_over (next_of w) (points_of w) p ms (mark_from limit.POINTS (next_of w) (points_of w) ms₀ a) left z x; tried = t; met = q.0; box = q.1 }
 
 -- ---- one record's ring
 
@@ -112,10 +103,9 @@ placed_open w i g on e h = rw (eq-eqb (flags_of w i % 2) 1 (ap (λ (x : ℕ). x 
 pub placed_else : (w : List ℕ) (i g d : ℕ) (on : Bool) → g ≡ flags_of w i → g % 2 ≢ 1 → d ≡ progress_of w i → (ltb 4 d || (ltb d 4 && not on)) ≡ misplaced_if w i on
 placed_else w i g d on e h ed = rw (ne_eqb (flags_of w i % 2) 1 (λ z. h (ap (λ (x : ℕ). x % 2) e ∙ z)), ← ed)
 
-pub ring_same : (w ms ms' : List ℕ) (i a k : ℕ) (b c : Sides) (bad met lost same : Bool) → a ≡ first_of w i → a ≢ NONE → k ≡ present_of w i → Unless bad (RoundPassed w ms a k ms' met c) → bad ≡ false → lost ≡ misplaced_if w i met → lost ≡ false
+pub ring_same : {w ms ms' : List ℕ} {a k : ℕ} {met : Bool} {c : Sides} → RoundPassed w ms a k ms' met c → (i : ℕ) (b : Sides) (lost same : Bool) → a ≡ first_of w i → a ≢ NONE → k ≡ present_of w i → lost ≡ misplaced_if w i met → lost ≡ false
     → b ≡ sides_at w i → same ≡ same_sides c b → Unless (not same) (RingPassed w ms i ms')
-ring_same w ms ms' i a k b c bad met lost same e d ek g h el hl eb es =
-    let r : RoundPassed w ms a k ms' met c = g.none h in
+ring_same {w} {ms} {ms'} {a} {k} {met} {c} r i b lost same e d ek el hl eb es =
     record {
       none = λ z. record {
         marks = r.marks ∙ ap (mark_from limit.POINTS (next_of w) (points_of w) ms) e;

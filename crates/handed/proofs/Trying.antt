@@ -9,11 +9,11 @@ use lib.Dec.{eqb, ltb}
 use lib.ListN.{set}
 use lib.Seq.{get_or-set_other}
 use borrow.Author.Tests.{eqb-true, ltb-true, not-true, not-false}
+use Rattle.std.specs.Prelude.{Ok}
 use Rattle.rings.specs.Count.{occ}
 use Rattle.rings.proofs.Counting.{occ_head}
 use Rattle.rings.proofs.Members.{prev_on, next_prev}
 use Rattle.store.specs.Named.{points_of, records_of, next_of, prev_of, rec_of}
-use Rattle.audit.specs.declared.Verdict.TheVariants.{Passed}
 use Rattle.audit.specs.Tests.{reached_by, off_table, no_such, loose, no_such_of, lost_taker, misplaced, untold, tests_of}
 use Rattle.handed.specs.Handed.{any_misboxed}
 use Rattle.audit.specs.Marks.{Counted, Clear, is_marked, faulty}
@@ -87,7 +87,7 @@ module _ (w ms ms' : List ℕ) (h : Counted w) (c : Clear w ms) (a : RecordsPass
       let z = or_parts (misplaced w i) (untold w i) y.1 in
       (x.0, y.0, z.0, z.1)
 
-  nothing : tests_of w ≡ Passed
+  nothing : tests_of w ≡ Ok tt
   nothing =
       passed w (record {
         points = h.points;

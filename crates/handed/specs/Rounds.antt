@@ -1,8 +1,7 @@
 -- The tests as the code goes through them at once: what a round along a ring finds, a record, and all of them.
-use Rattle.std.specs.Prelude.{ℕ, ◌≡◌, Bool, true, false, not, ◌&&◌, ◌||◌, List, ltb}
+use Rattle.std.specs.Prelude.{ℕ, ◌≡◌, Bool, true, false, not, ◌&&◌, ◌||◌, List, ltb, Ok}
 use Rattle.std.proofs.Math.Option.{some}
 use Rattle.job.specs.Limits as limit
-use Rattle.audit.specs.declared.Verdict.TheVariants.{Passed}
 use Rattle.store.specs.declared.boxed.Sides.{Sides}
 use Rattle.store.specs.Words.{view}
 use Rattle.store.specs.Sound.{is_open}
@@ -61,5 +60,5 @@ pub record RecordsPassed (w ms : List ℕ) (i : ℕ) (ms' : List ℕ) : Type 0 w
 
 -- what a look at everything at once finds: if nothing fails, the work space passes and each ring's box stands beside it
 pub record Looked (w : List ℕ) (r : Bool) : Type 0 where
-  pub passes : r ≡ true → tests_of w ≡ Passed
+  pub passes : r ≡ true → tests_of w ≡ Ok tt
   pub boxed : r ≡ true → any_misboxed w ≡ false

@@ -1,13 +1,11 @@
 // The boxes beside the rings, one after the other; and the last tests.
-ghost use Rattle.std.specs.Prelude.{◌≡◌, ◌≤◌, length};
+ghost use Rattle.std.specs.Prelude.{◌≡◌, ◌≤◌, length, Ok};
 ghost use Rattle.job.specs.Limits as limit;
 ghost use Rattle.store.specs.Field.{BLOCK, KEPT};
 ghost use Rattle.store.specs.Named.{records_of};
-ghost use Rattle.audit.specs.declared.Verdict.TheVariants.{Passed};
 ghost use Rattle.handed.specs.Handed.{any_misboxed, boxes_tested, names_tested};
 
 use crate::names::names_tested;
-use audit::Verdict;
 use bounds::misboxed;
 use job::refusal::Refusal;
 use store::{Col, get};
@@ -17,26 +15,16 @@ fn any_misboxed(w: &[u32]) -> bool
     requires { (BLOCK ≤ length w.now) × (records_of w.now ≤ limit.RECORDS) }
     ensures { result ≡ any_misboxed w.now }
 {
-    let n = get(w, Col::Records, 0);
-    let mut i: usize = 0;
-    while i < n {
-        let found = misboxed(w, i);
-        if found {
-            return true;
-        }
-        i += 1;
-    }
-    false
+    (0..get(w, Col::Records, 0)).any(|i| misboxed(w, i))
 }
 
 // The last tests, where all before them passed: boxes, then names.
-pub fn last_tested(w: &[u32]) -> Verdict
+pub fn last_tested(w: &[u32]) -> Result<(), Refusal>
     requires { (KEPT ≤ length w.now) × (records_of w.now ≤ limit.RECORDS) }
-    ensures { result ≡ names_tested w.now (boxes_tested w.now Passed) }
+    ensures { result ≡ names_tested w.now (boxes_tested w.now (Ok tt)) }
 {
-    let other = any_misboxed(w);
-    if other {
-        return Verdict::Refused(Refusal::Muddled);
+    if any_misboxed(w) {
+        return Err(Refusal::Muddled);
     }
     names_tested(w)
 }

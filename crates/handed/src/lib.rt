@@ -14,7 +14,7 @@ ghost use Rattle.handed.specs.Rounds.{Looked};
 use crate::boxes::last_tested;
 use crate::names::names_tested;
 use crate::rounds::any_bad_record;
-use audit::{Verdict, crowded, in_order};
+use audit::{crowded, in_order};
 use job::Job;
 use job::refusal::Refusal;
 use store::{Col, LENGTH, get};
@@ -50,35 +50,26 @@ fn is_good(w: &[u32]) -> bool
 // ---- what a call asks first
 
 // The tests of a work space that is long enough: its counts; its live block and its boxes at once, and in their order only where something fails; then its names.
-pub fn tested(w: &[u32]) -> Verdict
+pub fn tested(w: &[u32]) -> Result<(), Refusal>
     requires { LENGTH ≤ length w.now }
     ensures { result ≡ tested_of w.now }
 {
-    let many = crowded(w);
-    if many {
-        return Verdict::Refused(Refusal::Crowded);
+    if crowded(w) {
+        return Err(Refusal::Crowded);
     }
-    let good = is_good(w);
-    if good {
+    if is_good(w) {
         return names_tested(w);
     }
-    let verdict = in_order(w);
-    match verdict {
-        Verdict::Passed => {
-            return last_tested(w);
-        }
-        Verdict::Refused(r) => {
-            return Verdict::Refused(r);
-        }
-    }
+    in_order(w)?;
+    last_tested(w)
 }
 
 // What every call on an opened work space asks first: its length, then its tests.
-pub fn handed(w: &[u32]) -> Verdict
+pub fn handed(w: &[u32]) -> Result<(), Refusal>
     ensures { result ≡ handed_of w.now }
 {
     if w.len() < LENGTH {
-        return Verdict::Refused(Refusal::Full);
+        return Err(Refusal::Full);
     }
     tested(w)
 }

@@ -1,10 +1,8 @@
 // The names of kept states.
-ghost use Rattle.std.specs.Prelude.{◌≡◌, ◌≤◌, length};
+ghost use Rattle.std.specs.Prelude.{◌≡◌, ◌≤◌, length, Ok};
 ghost use Rattle.store.specs.Field.{KEPT};
-ghost use Rattle.audit.specs.declared.Verdict.TheVariants.{Passed};
 ghost use Rattle.handed.specs.Handed.{kept_twice, names_tested};
 
-use audit::Verdict;
 use job::refusal::Refusal;
 use store::names::same_name;
 
@@ -23,13 +21,12 @@ fn kept_twice(w: &[u32]) -> bool
 }
 
 // The last test, where all before it passed.
-pub fn names_tested(w: &[u32]) -> Verdict
+pub fn names_tested(w: &[u32]) -> Result<(), Refusal>
     requires { KEPT ≤ length w.now }
-    ensures { result ≡ names_tested w.now Passed }
+    ensures { result ≡ names_tested w.now (Ok tt) }
 {
-    let twice = kept_twice(w);
-    if twice {
-        return Verdict::Refused(Refusal::Muddled);
+    if kept_twice(w) {
+        return Err(Refusal::Muddled);
     }
-    Verdict::Passed
+    Ok(())
 }

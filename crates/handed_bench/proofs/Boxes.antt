@@ -5,6 +5,7 @@ use mathlib.Core.List.{List, [], ◌∷◌, map}
 use mathlib.Core.Option.{none, some}
 use lib.IntN.{ℤ, pos, negsuc}
 use lib.ListN.{replicate, set}
+use Rattle.std.specs.Prelude.{Ok, Err}
 use Rattle.job.specs.declared.refusal.Refusal.TheVariants.{Loose, Muddled, Full, SmallTray}
 use Rattle.rings.specs.Walk.{run}
 use Rattle.geometry.specs.declared.Rect.{Rect}
@@ -14,10 +15,8 @@ use Rattle.store.specs.Words.{write, cell, put, view, on_words}
 use Rattle.store.specs.Reason.{NO_RING}
 use Rattle.store.specs.Value.{word_of}
 use Rattle.store.specs.Boxes.{sides_at, sides_of, set_sides, ring_box, misboxed, boxed_at, boxed_to, all_boxed}
-use Rattle.audit.specs.declared.Verdict.TheVariants.{Passed, Refused}
 use Rattle.audit.specs.Tests.{any_below, reach, reached_by, tests_of}
 use Rattle.handed.specs.Handed.{any_misboxed, kept_twice, tested_of, handed_of}
-use Rattle.windows.specs.declared.Found.TheVariants as answer
 use Rattle.windows.specs.Window.{box_meets}
 use Rattle.windows.specs.RecordsIn.{is_in, all_in, found, records_in}
 
@@ -58,47 +57,47 @@ no_record = refl
 
 -- ---- what every call asks first: the length, links (6) before boxes, boxes (7), names (7)
 
-one_word_short : handed_of (replicate 94803 0) ≡ Refused Full
+one_word_short : handed_of (replicate 94803 0) ≡ Err Full
 unfolding computing
 one_word_short = refl
 
-nothing_drawn : handed_of (replicate LENGTH 0) ≡ Passed
+nothing_drawn : handed_of (replicate LENGTH 0) ≡ Ok tt
 unfolding computing
 nothing_drawn = refl
 
-boxed : handed_of (all_boxed drawn) ≡ Passed
+boxed : handed_of (all_boxed drawn) ≡ Ok tt
 unfolding computing
 boxed = refl
 
-not_boxed : handed_of drawn ≡ Refused Muddled
+not_boxed : handed_of drawn ≡ Err Muddled
 unfolding computing
 not_boxed = refl
 
-links_before_boxes : handed_of (on_words drawn (write (pt PREV) 1 2 ∷ [])) ≡ Refused Loose
+links_before_boxes : handed_of (on_words drawn (write (pt PREV) 1 2 ∷ [])) ≡ Err Loose
 unfolding computing
 links_before_boxes = refl
 
-one_name_twice : handed_of (set (set (all_boxed drawn) (2 + NAMES) 5) (3 + NAMES) 5) ≡ Refused Muddled
+one_name_twice : handed_of (set (set (all_boxed drawn) (2 + NAMES) 5) (3 + NAMES) 5) ≡ Err Muddled
 unfolding computing
 one_name_twice = refl
 
 -- a word that is no name is free
-free_places : handed_of (set (set (all_boxed drawn) NAMES 257) (3 + NAMES) 257) ≡ Passed
+free_places : handed_of (set (set (all_boxed drawn) NAMES 257) (3 + NAMES) 257) ≡ Ok tt
 unfolding computing
 free_places = refl
 
 -- ---- the records in a window
 
 -- it touches the ring's corner; the record without a ring has zero words in it, and is not listed
-corner : records_in (all_boxed drawn) (rect (negsuc 1048575) (negsuc 1048575) (pos 1) (pos 2)) (7 ∷ 7 ∷ []) ≡ found (answer.Records 1) (1 ∷ 0 ∷ [])
+corner : records_in (all_boxed drawn) (rect (negsuc 1048575) (negsuc 1048575) (pos 1) (pos 2)) (7 ∷ 7 ∷ []) ≡ found (Ok 1) (1 ∷ 0 ∷ [])
 unfolding computing
 corner = refl
 
-no_place : records_in (all_boxed drawn) (rect (pos 7) (pos 9) (pos 8) (pos 10)) [] ≡ found (answer.Refused SmallTray) []
+no_place : records_in (all_boxed drawn) (rect (pos 7) (pos 9) (pos 8) (pos 10)) [] ≡ found (Err SmallTray) []
 unfolding computing
 no_place = refl
 
 -- the tests come first, and a refusal leaves the list
-refused : records_in drawn (rect (pos 0) (pos 0) (pos 9) (pos 9)) (7 ∷ []) ≡ found (answer.Refused Muddled) (7 ∷ [])
+refused : records_in drawn (rect (pos 0) (pos 0) (pos 9) (pos 9)) (7 ∷ []) ≡ found (Err Muddled) (7 ∷ [])
 unfolding computing
 refused = refl

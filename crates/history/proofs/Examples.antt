@@ -4,9 +4,9 @@ use mathlib.Core.Path.{◌≡◌, refl}
 use mathlib.Core.List.{List, [], ◌∷◌}
 use mathlib.Core.Option.{Option, none, some}
 use native.Mathlib.Omega.{arith}
+use Rattle.std.specs.Prelude.{Ok, Err}
 use Rattle.job.specs.declared.refusal.Refusal.{Refusal}
 use Rattle.job.specs.declared.refusal.Refusal.TheVariants.{UnknownName, NoPlace}
-use Rattle.audit.specs.declared.Reply.TheVariants.{Done, Refused}
 use Rattle.laying.specs.Lay.{lay_of}
 use Rattle.states.specs.Places.{first_from}
 use Rattle.order.specs.Calls.{Name, Call, step_on, write_to, ask_of, keep_as, back_to, drop_name, lay_with}
@@ -79,11 +79,11 @@ module _ (s : List ℕ) where
   unfolding histories_by first_from
   freed_place = refl
 
-  unknown : known_answer (after dropped) 0 ≡ Refused UnknownName
+  unknown : known_answer (after dropped) 0 ≡ Err UnknownName
   unfolding histories_by first_from
   unknown = refl
 
-  known : known_answer (after dropped) 1 ≡ Done
+  known : known_answer (after dropped) 1 ≡ Ok tt
   unfolding histories_by first_from
   known = refl
 
@@ -95,18 +95,18 @@ module _ (s : List ℕ) where
   abbrev full : List Call
   full = keep_as n0 ∷ keep_as n1 ∷ keep_as n2 ∷ keep_as n3 ∷ []
 
-  no_fifth : keep_answer (after full) 255 ≡ Refused NoPlace
+  no_fifth : keep_answer (after full) 255 ≡ Err NoPlace
   unfolding histories_by first_from
   no_fifth = refl
 
-  but_again : keep_answer (after full) 3 ≡ Done
+  but_again : keep_answer (after full) 3 ≡ Ok tt
   unfolding histories_by first_from
   but_again = refl
 
   -- ---- laying together: "with laying together in opening's place"
 
   -- accepted, on a start: p are the pooled words
-  module _ (v : List ℕ) (e : (lay_of s v).answer ≡ Done) where
+  module _ (v : List ℕ) (e : (lay_of s v).answer ≡ Ok tt) where
     abbrev p : List ℕ
     p = (lay_of s v).words
 
@@ -135,6 +135,6 @@ module _ (s : List ℕ) where
     to_the_pair = rw e
 
   -- refused: nothing changes
-  lays_nothing : (v : List ℕ) (r : Refusal) → (lay_of s v).answer ≡ Refused r → (after (keep_as n0 ∷ lay_with v ∷ step_on 5 ∷ [])).live ≡ record { start = s; steps = 5 ∷ [] }
+  lays_nothing : (v : List ℕ) (r : Refusal) → (lay_of s v).answer ≡ Err r → (after (keep_as n0 ∷ lay_with v ∷ step_on 5 ∷ [])).live ≡ record { start = s; steps = 5 ∷ [] }
   unfolding histories_by first_from
   lays_nothing v r e = rw e

@@ -9,6 +9,8 @@ use native.Mathlib.Omega.{arith}
 use lib.Dec.{eqb, ltb}
 use lib.ListN.{length, drop}
 use borrow.Author.Tests.{eqb-true, eqb-false, ltb-true}
+use Rattle.std.specs.Prelude.{Result, Ok, Err}
+use Rattle.job.specs.declared.refusal.Refusal.{Refusal}
 use Rattle.job.specs.declared.refusal.Refusal.TheVariants.{OutOfTurn, UnknownName, NoPlace}
 use Rattle.store.specs.Field.{BLOCK, STATES, LENGTH}
 use Rattle.store.specs.Words.{Store, view}
@@ -17,19 +19,14 @@ use Rattle.store.specs.Sound.{recs}
 use Rattle.store.specs.Boxes.{Boxed}
 use Rattle.store.specs.Good.{Sound}
 use Rattle.store.specs.States.{is_name, name_at, Apart, block_of, kept_block}
-use Rattle.audit.specs.declared.Verdict.{Verdict}
-use Rattle.audit.specs.declared.Verdict.TheVariants as verdict
 use Rattle.handed.specs.Handed.{handed_of, Usable}
 use Rattle.handed.proofs.Handing.{handed_usable, usable_handed}
 use Rattle.steps.specs.Live.{any_live}
 use Rattle.finishing.specs.Step.{step_of}
 use Rattle.finishing.proofs.Starting.{start_usable}
 use Rattle.finishing.proofs.Blocks.{same_view, same_boxed, same_apart, behind_names, call_usable, call_behind, same_answer, same_live, same_write}
-use Rattle.telling.specs.declared.Told.TheVariants as told
 use Rattle.telling.specs.Telling.{reason_at, reason_by, reason_of}
 use Rattle.order.proofs.Following.{run_both}
-use Rattle.audit.specs.declared.Reply.{Reply}
-use Rattle.audit.specs.declared.Reply.TheVariants.{Done, Refused}
 use Rattle.states.specs.Places.{keep_place}
 use Rattle.audit.specs.Left.{Left, left}
 use Rattle.states.specs.Calls.{stored, restored, freed, keep_at, back_at, drop_at, keep_by, back_by, drop_by, keep_of, go_back_of, drop_of}
@@ -77,23 +74,23 @@ boxed_there w u f k e i l =
 -- ---- what the calls come to
 
 module _ (b : Histories) (w : List ℕ) (H : Stands b w) where
-  passes : handed_of w ≡ verdict.Passed
+  passes : handed_of w ≡ Ok tt
   passes = usable_handed w H.usable
 
   module _ (n : Name) where
     keep_is : keep_of w n.number ≡ keep_at w (keep_in b n.number) n.number
     unfolding keep_of
-    keep_is = ap (λ (v : Verdict). keep_by v w n.number) passes ∙ ap (λ (p : ℕ). keep_at w p n.number) (keep_agrees b w H.places n.number n.low)
+    keep_is = ap (λ (v : Result (Unit {0}) Refusal). keep_by v w n.number) passes ∙ ap (λ (p : ℕ). keep_at w p n.number) (keep_agrees b w H.places n.number n.low)
 
     back_is : go_back_of w n.number ≡ back_at w (place_in b n.number)
     unfolding go_back_of
-    back_is = ap (λ (v : Verdict). back_by v w n.number) passes ∙ ap (back_at w) (place_agrees b w H.places n.number n.low)
+    back_is = ap (λ (v : Result (Unit {0}) Refusal). back_by v w n.number) passes ∙ ap (back_at w) (place_agrees b w H.places n.number n.low)
 
     drop_is : drop_of w n.number ≡ drop_at w (place_in b n.number)
     unfolding drop_of
-    drop_is = ap (λ (v : Verdict). drop_by v w n.number) passes ∙ ap (drop_at w) (place_agrees b w H.places n.number n.low)
+    drop_is = ap (λ (v : Result (Unit {0}) Refusal). drop_by v w n.number) passes ∙ ap (drop_at w) (place_agrees b w H.places n.number n.low)
 
-  by_place : (c : Bool) (u : List ℕ) (a : Reply) → (cond c (left Done u) (left a w)).answer ≡ cond c Done a
+  by_place : (c : Bool) (u : List ℕ) (a : Result (Unit {0}) Refusal) → (cond c (left (Ok tt) u) (left a w)).answer ≡ cond c (Ok tt) a
   by_place true u a = refl
   by_place false u a = refl
 
@@ -103,21 +100,21 @@ module _ (b : Histories) (w : List ℕ) (H : Stands b w) where
   same_reason : (i : ℕ) → reason_of w i ≡ reason_of (state_of b.live) i
   unfolding reason_of
   same_reason i =
-      ap (λ (v : Verdict). reason_by v w i) passes
-      ∙ ap (λ (s : Store). cond (not (ltb i (recs s)) || any_live s) (told.Refused OutOfTurn) (told.Because (reason_at s i))) same_store
-      ∙ sym (ap (λ (v : Verdict). reason_by v (state_of b.live) i) (usable_handed (state_of b.live) (state_usable b.live H.came)))
+      ap (λ (v : Result (Unit {0}) Refusal). reason_by v w i) passes
+      ∙ ap (λ (s : Store). cond (not (ltb i (recs s)) || any_live s) (Err OutOfTurn) (Ok (reason_at s i))) same_store
+      ∙ sym (ap (λ (v : Result (Unit {0}) Refusal). reason_by v (state_of b.live) i) (usable_handed (state_of b.live) (state_usable b.live H.came)))
 
   same_lays : (v : List ℕ) → (lay_of w v).answer ≡ (lay_of (state_of b.live) v).answer
   same_lays v = same_laying w (state_of b.live) v H.usable (state_usable b.live H.came) H.live same_store
 
   keep_answer_lem : (n : Name) → (keep_of w n.number).answer ≡ keep_answer b n.number
-  keep_answer_lem n = ap (λ (x : Left). x.answer) (keep_is n) ∙ by_place (ltb (keep_in b n.number) STATES) (stored w (keep_in b n.number) n.number) (Refused NoPlace)
+  keep_answer_lem n = ap (λ (x : Left). x.answer) (keep_is n) ∙ by_place (ltb (keep_in b n.number) STATES) (stored w (keep_in b n.number) n.number) (Err NoPlace)
 
   back_answer : (n : Name) → (go_back_of w n.number).answer ≡ known_answer b n.number
-  back_answer n = ap (λ (x : Left). x.answer) (back_is n) ∙ by_place (ltb (place_in b n.number) STATES) (restored w (place_in b n.number)) (Refused UnknownName)
+  back_answer n = ap (λ (x : Left). x.answer) (back_is n) ∙ by_place (ltb (place_in b n.number) STATES) (restored w (place_in b n.number)) (Err UnknownName)
 
   drop_answer : (n : Name) → (drop_of w n.number).answer ≡ known_answer b n.number
-  drop_answer n = ap (λ (x : Left). x.answer) (drop_is n) ∙ by_place (ltb (place_in b n.number) STATES) (freed w (place_in b n.number)) (Refused UnknownName)
+  drop_answer n = ap (λ (x : Left). x.answer) (drop_is n) ∙ by_place (ltb (place_in b n.number) STATES) (freed w (place_in b n.number)) (Err UnknownName)
 
   pub has_histories : HasHistories b w
   has_histories =
@@ -194,7 +191,7 @@ module _ (b : Histories) (w : List ℕ) (H : Stands b w) where
   unfolding histories_by
   keeps n = subst (λ (x : Left). Stands (cond (ltb (keep_in b n.number) STATES) (with_place b (keep_in b n.number) (some (record { name = n.number; history = b.live }))) b) x.words) (sym (keep_is n)) (go (ltb (keep_in b n.number) STATES) refl)
     where
-      go : (c : Bool) → ltb (keep_in b n.number) STATES ≡ c → Stands (cond c (with_place b (keep_in b n.number) (some (record { name = n.number; history = b.live }))) b) (cond c (left Done (stored w (keep_in b n.number) n.number)) (left (Refused NoPlace) w)).words
+      go : (c : Bool) → ltb (keep_in b n.number) STATES ≡ c → Stands (cond c (with_place b (keep_in b n.number) (some (record { name = n.number; history = b.live }))) b) (cond c (left (Ok tt) (stored w (keep_in b n.number) n.number)) (left (Err NoPlace) w)).words
       go true e = kept n (keep_in b n.number) (ltb-true (keep_in b n.number) STATES e) refl
       go false e = H
 
@@ -225,7 +222,7 @@ module _ (b : Histories) (w : List ℕ) (H : Stands b w) where
   unfolding histories_by
   backs n = subst (λ (x : Left). Stands (cond (ltb (place_in b n.number) STATES) (with_live b (b.places (place_in b n.number))) b) x.words) (sym (back_is n)) (go (ltb (place_in b n.number) STATES) refl)
     where
-      go : (c : Bool) → ltb (place_in b n.number) STATES ≡ c → Stands (cond c (with_live b (b.places (place_in b n.number))) b) (cond c (left Done (restored w (place_in b n.number))) (left (Refused UnknownName) w)).words
+      go : (c : Bool) → ltb (place_in b n.number) STATES ≡ c → Stands (cond c (with_live b (b.places (place_in b n.number))) b) (cond c (left (Ok tt) (restored w (place_in b n.number))) (left (Err UnknownName) w)).words
       go true e =
           let l : place_in b n.number < STATES = ltb-true (place_in b n.number) STATES e in
           went (place_in b n.number) l n.number (first_hits (λ p. has_name n.number (b.places p)) STATES 0 (omega arith))
@@ -255,7 +252,7 @@ module _ (b : Histories) (w : List ℕ) (H : Stands b w) where
   unfolding histories_by
   drops n = subst (λ (x : Left). Stands (cond (ltb (place_in b n.number) STATES) (with_place b (place_in b n.number) none) b) x.words) (sym (drop_is n)) (go (ltb (place_in b n.number) STATES) refl)
     where
-      go : (c : Bool) → ltb (place_in b n.number) STATES ≡ c → Stands (cond c (with_place b (place_in b n.number) none) b) (cond c (left Done (freed w (place_in b n.number))) (left (Refused UnknownName) w)).words
+      go : (c : Bool) → ltb (place_in b n.number) STATES ≡ c → Stands (cond c (with_place b (place_in b n.number) none) b) (cond c (left (Ok tt) (freed w (place_in b n.number))) (left (Err UnknownName) w)).words
       go true e = dropped (place_in b n.number) (ltb-true (place_in b n.number) STATES e)
       go false e = H
 
@@ -265,9 +262,9 @@ module _ (b : Histories) (w : List ℕ) (H : Stands b w) where
   unfolding histories_by
   lays v = go (lay_of (state_of b.live) v).answer refl
     where
-      go : (r : Reply) → (lay_of (state_of b.live) v).answer ≡ r → Stands (with_laid b r (lay_of (state_of b.live) v).words) (lay_of w v).words
-      go (Refused x) e = subst (Stands b) (sym (refused_leaves w v x (same_lays v ∙ e))) H
-      go Done e =
+      go : (r : Result (Unit {0}) Refusal) → (lay_of (state_of b.live) v).answer ≡ r → Stands (with_laid b r (lay_of (state_of b.live) v).words) (lay_of w v).words
+      go (Err x) e = subst (Stands b) (sym (refused_leaves w v x (same_lays v ∙ e))) H
+      go (Ok _) e =
           let s : OfTwo (state_of b.live) v (lay_of (state_of b.live) v).words = (two_drawings (state_of b.live) v).together e in
           let t : OfTwo w v (lay_of w v).words = (two_drawings w v).together (same_lays v ∙ e) in
           record {

@@ -13,11 +13,11 @@ use Rattle.store.specs.States.{is_name, block_of}
 use Rattle.handed.specs.Handed.{handed_of}
 use Rattle.handed.proofs.Handing.{handed_usable}
 use Rattle.steps.specs.Live.{any_live}
+use Rattle.std.specs.Prelude.{Result, Ok}
+use Rattle.job.specs.declared.refusal.Refusal.{Refusal}
+use Rattle.paths.specs.Wrote.{ok_paths}
 use Rattle.paths.specs.declared.Written.{Written}
-use Rattle.paths.specs.declared.Written.TheVariants.{Paths}
-use Rattle.telling.specs.declared.Told.TheVariants.{Because}
 use Rattle.telling.specs.Telling.{reason_at, reason_of}
-use Rattle.opening.specs.declared.open.Opened.TheVariants.{Accepted}
 use Rattle.opening.specs.Open.{end, open_of}
 use Rattle.opening.proofs.Behind.{open_free, open_rest}
 use Rattle.finishing.specs.InOneCall.{finished, finish_of}
@@ -69,7 +69,7 @@ start_both h cs is = ap (λ (b : Histories). b.live.start) (after_both cs (map s
 
 -- ---- of a history of an accepted job, from what opening left
 
-module _ (bytes lent w : List ℕ) (f : open_of bytes lent ≡ end Accepted w) (is : List ℕ) (u : List ℕ) (a : AfterCalls (record { start = w; steps = is }) u) where
+module _ (bytes lent w : List ℕ) (f : open_of bytes lent ≡ end (Ok tt) w) (is : List ℕ) (u : List ℕ) (a : AfterCalls (record { start = w; steps = is }) u) where
   abbrev h : History
   h = record { start = w; steps = is }
 
@@ -94,7 +94,7 @@ module _ (bytes lent w : List ℕ) (f : open_of bytes lent ≡ end Accepted w) (
       let z : store_after h u cs ≡ view (run_of w (led h cs)) = shows_from w cs p in
       let r : ToldRight bytes lent w t (led h cs) j = tells bytes lent w f (led h cs) j (subst (λ (s : Store). j < recs s) z l) (subst (λ (s : Store). any_live s ≡ false) z d) in
       record {
-        call = (a.after_every_list cs).reasons j ∙ ap (λ (s : List ℕ). reason_of (run_of s (led h cs)) j) p ∙ r.call ∙ ap (λ (s : Store). Because (reason_at s j)) (sym z);
+        call = (a.after_every_list cs).reasons j ∙ ap (λ (s : List ℕ). reason_of (run_of s (led h cs)) j) p ∙ r.call ∙ ap (λ (s : Store). Ok (reason_at s j)) (sym z);
         told = subst (λ (s : Store). Ended bytes lent w t (led h cs) j (reason_at s j)) (sym z) r.told;
         only = λ x y. r.only x y ∙ ap (λ (s : Store). reason_at s j) (sym z);
         opened = λ x. subst (λ (s : Store). OfOpen (reason_at s j)) (sym z) (r.opened (subst (λ (s : Store). is_open s j ≡ true) z x));
@@ -140,7 +140,7 @@ module _ (bytes lent w : List ℕ) (f : open_of bytes lent ≡ end Accepted w) (
 
 -- ---- "A newly opened job has no name kept, whatever the work space held before"
 
-module _ (bytes lent w : List ℕ) (f : open_of bytes lent ≡ end Accepted w) where
+module _ (bytes lent w : List ℕ) (f : open_of bytes lent ≡ end (Ok tt) w) where
   begins : AfterCalls (begun w) w
   begins =
       let o : Start w = opening_left bytes lent w f in
@@ -151,12 +151,12 @@ module _ (bytes lent w : List ℕ) (f : open_of bytes lent ≡ end Accepted w) w
 
 -- ---- and finishing in one call
 
-module _ (bytes lent t : List ℕ) (c o : ℕ) (e : (finish_of bytes lent t).answer ≡ Paths c o) where
+module _ (bytes lent t : List ℕ) (c o : ℕ) (e : (finish_of bytes lent t).answer ≡ ok_paths c o) where
   abbrev u : List ℕ
   u = (finish_of bytes lent t).words
 
-  given : finished (Paths c o) u (finish_of bytes lent t).tray ≡ finish_of bytes lent t
-  given = ap (λ (r : Written). finished r u (finish_of bytes lent t).tray) (sym e)
+  given : finished (ok_paths c o) u (finish_of bytes lent t).tray ≡ finish_of bytes lent t
+  given = ap (λ (r : Result Written Refusal). finished r u (finish_of bytes lent t).tray) (sym e)
 
   pub finished_then : FinishedThen bytes lent u
   finished_then =

@@ -6,10 +6,10 @@ use mathlib.Core.List.{List, [], ◌∷◌}
 use mathlib.Core.Option.{Option, none, some}
 use native.Mathlib.Omega.{arith}
 use lib.Dec.{eqb, ltb}
+use Rattle.std.specs.Prelude.{Result, Ok, Err}
+use Rattle.job.specs.declared.refusal.Refusal.{Refusal}
 use Rattle.store.specs.Field.{STATES}
 use Rattle.store.specs.States.{is_name, name_at, block_of}
-use Rattle.audit.specs.declared.Reply.{Reply}
-use Rattle.audit.specs.declared.Reply.TheVariants.{Done, Refused}
 use Rattle.handed.specs.Handed.{Usable}
 use Rattle.laying.specs.Lay.{lay_of}
 use Rattle.finishing.specs.Start.{Start}
@@ -68,7 +68,7 @@ module _ (P : List ℕ → Type 0) (b : Histories) (o : Begins P b) where
   Lays (keep_as n) = Unit {0}
   Lays (back_to n) = Unit {0}
   Lays (drop_name n) = Unit {0}
-  Lays (lay_with v) = (lay_of (state_of b.live) v).answer ≡ Done → P (lay_of (state_of b.live) v).words
+  Lays (lay_with v) = (lay_of (state_of b.live) v).answer ≡ Ok tt → P (lay_of (state_of b.live) v).words
 
   begins_by : (c : Call) → Lays c → Begins P (histories_by b c)
   unfolding histories_by
@@ -80,9 +80,9 @@ module _ (P : List ℕ → Type 0) (b : Histories) (o : Begins P b) where
   begins_by (drop_name n) l = either (ltb (place_in b n.number) STATES) (with_place b (place_in b n.number) none) (placed (place_in b n.number) none nobody)
   begins_by (lay_with v) l = go (lay_of (state_of b.live) v).answer refl
     where
-      go : (r : Reply) → (lay_of (state_of b.live) v).answer ≡ r → Begins P (with_laid b r (lay_of (state_of b.live) v).words)
-      go (Refused x) e = o
-      go Done e = record { live = l e; kept = o.kept }
+      go : (r : Result (Unit {0}) Refusal) → (lay_of (state_of b.live) v).answer ≡ r → Begins P (with_laid b r (lay_of (state_of b.live) v).words)
+      go (Err x) e = o
+      go (Ok _) e = record { live = l e; kept = o.kept }
 
 -- at one start, where no laying together was accepted
 not_laid : (s : List ℕ) (b : Histories) (o : Begins (λ x. x ≡ s) b) (w : List ℕ) → Stands b w → (c : Call) → NotLaid w c → Lays (λ x. x ≡ s) b o c

@@ -1,12 +1,10 @@
 -- What holds after any list of calls: demand 3 over them, and the kept states.
-use Rattle.std.specs.Prelude.{ℕ, ◌<◌, ◌≡◌, ◌↔◌, ◌≢◌, false, List, [], ◌∷◌}
+use Rattle.std.specs.Prelude.{ℕ, ◌<◌, ◌≡◌, ◌↔◌, ◌≢◌, false, List, [], ◌∷◌, Ok, Err}
 use Rattle.std.proofs.Math.Option.{Option, none, some}
 use Rattle.job.specs.declared.refusal.Refusal.TheVariants.{UnknownName, NoPlace}
 use Rattle.store.specs.Field.{STATES}
 use Rattle.store.specs.Words.{view}
 use Rattle.store.specs.States.{BYTES, word_of_name, is_name, name_at, block_of, kept_block}
-use Rattle.audit.specs.declared.Verdict.TheVariants.{Passed}
-use Rattle.audit.specs.declared.Reply.TheVariants.{Done, Refused}
 use Rattle.handed.specs.Handed.{handed_of}
 use Rattle.laying.specs.Lay.{lay_of}
 use Rattle.finishing.specs.Start.{Start}
@@ -45,7 +43,7 @@ pub record HasHistories (b : Histories) (w : List ℕ) : Type 0 where
   -- and so is each kept one
   pub places : (p : ℕ) → p < STATES → HoldsAt w p (b.places p)
   -- it passes the tests
-  pub passes : handed_of w ≡ Passed
+  pub passes : handed_of w ≡ Ok tt
   -- steps, writing out and reasons are answered as after the steps of the live history, from its start
   pub steps : (i : ℕ) → (step_of w i).answer ≡ (step_of (state_of b.live) i).answer
   pub writings : (t : List ℕ) → write_of w t ≡ write_of (state_of b.live) t
@@ -56,10 +54,10 @@ pub record HasHistories (b : Histories) (w : List ℕ) : Type 0 where
   pub going_back : (n : Name) → (go_back_of w n.number).answer ≡ known_answer b n.number
   pub dropping : (n : Name) → (drop_of w n.number).answer ≡ known_answer b n.number
   -- "15 .. keeping a fifth name": exactly where the name is not kept and no place is free
-  pub fifteen : (n : Name) → ((keep_of w n.number).answer ≡ Refused NoPlace) ↔ (Unkept b n.number × NoneFree b)
+  pub fifteen : (n : Name) → ((keep_of w n.number).answer ≡ Err NoPlace) ↔ (Unkept b n.number × NoneFree b)
   -- "14 .. going back to, or dropping, a name not kept": exactly there
-  pub fourteen_back : (n : Name) → ((go_back_of w n.number).answer ≡ Refused UnknownName) ↔ Unkept b n.number
-  pub fourteen_drop : (n : Name) → ((drop_of w n.number).answer ≡ Refused UnknownName) ↔ Unkept b n.number
+  pub fourteen_back : (n : Name) → ((go_back_of w n.number).answer ≡ Err UnknownName) ↔ Unkept b n.number
+  pub fourteen_drop : (n : Name) → ((drop_of w n.number).answer ≡ Err UnknownName) ↔ Unkept b n.number
 
 -- ---- where histories begin
 
@@ -76,7 +74,7 @@ NotLaid w (ask_of i) = Unit {0}
 NotLaid w (keep_as n) = Unit {0}
 NotLaid w (back_to n) = Unit {0}
 NotLaid w (drop_name n) = Unit {0}
-NotLaid w (lay_with v) = (lay_of w v).answer ≢ Done
+NotLaid w (lay_with v) = (lay_of w v).answer ≢ Ok tt
 
 abbrev pub NoneLaid : List ℕ → List Call → Type 0
 NoneLaid w [] = Unit {0}

@@ -1,12 +1,11 @@
 -- Histories: document 02, "Going back discards later steps: demand 3's list is then the steps that led to the kept state followed by those since the last return, and keeping, dropping or refused returns may stand
 -- between them. The other kept states are unaffected"; and "Demand 3 holds from there too, with laying together in opening's place": where a drawing was laid beside this one, the live history begins anew.
 -- Which steps led to the live state and to each kept one, and from which start, without a word of the work space.
-use Rattle.std.specs.Prelude.{ℕ, ◌<◌, ◌≡◌, Bool, true, false, cond, List, [], ◌∷◌, ◌++◌, eqb, ltb}
+use Rattle.std.specs.Prelude.{ℕ, ◌<◌, ◌≡◌, Bool, true, false, cond, List, [], ◌∷◌, ◌++◌, eqb, ltb, Result, Ok, Err}
 use Rattle.std.proofs.Math.Option.{Option, none, some}
+use Rattle.job.specs.declared.refusal.Refusal.{Refusal}
 use Rattle.job.specs.declared.refusal.Refusal.TheVariants.{UnknownName, NoPlace}
 use Rattle.store.specs.Field.{STATES}
-use Rattle.audit.specs.declared.Reply.{Reply}
-use Rattle.audit.specs.declared.Reply.TheVariants.{Done, Refused}
 use Rattle.finishing.specs.Run.{run_of}
 use Rattle.laying.specs.Lay.{lay_of}
 use Rattle.states.specs.Places.{lowest}
@@ -68,9 +67,9 @@ with_live b none = b
 with_live b (some k) = record { live = k.history; places = b.places }
 
 -- what laying together answers, and the pooled words p: a start, without a step; the kept states are as they were
-abbrev pub with_laid : Histories → Reply → List ℕ → Histories
-with_laid b Done p = record { live = begun p; places = b.places }
-with_laid b (Refused r) p = b
+abbrev pub with_laid : Histories → Result (Unit {0}) Refusal → List ℕ → Histories
+with_laid b (Ok _) p = record { live = begun p; places = b.places }
+with_laid b (Err r) p = b
 
 unfoldable pub histories_by : Histories → Call → Histories
 histories_by b (step_on i) = record { live = and_step b.live i; places = b.places }
@@ -99,11 +98,11 @@ start_after h cs = (histories_after (keeping_none h) cs).live.start
 
 -- ---- what the three calls answer: 15, no place keeps the name and none is free; 14, no place keeps it
 
-abbrev pub keep_answer : Histories → ℕ → Reply
-keep_answer b n = cond (ltb (keep_in b n) STATES) Done (Refused NoPlace)
+abbrev pub keep_answer : Histories → ℕ → Result (Unit {0}) Refusal
+keep_answer b n = cond (ltb (keep_in b n) STATES) (Ok tt) (Err NoPlace)
 
-abbrev pub known_answer : Histories → ℕ → Reply
-known_answer b n = cond (ltb (place_in b n) STATES) Done (Refused UnknownName)
+abbrev pub known_answer : Histories → ℕ → Result (Unit {0}) Refusal
+known_answer b n = cond (ltb (place_in b n) STATES) (Ok tt) (Err UnknownName)
 
 -- no place keeps the name; and none is free
 abbrev pub Unkept : Histories → ℕ → Type 0

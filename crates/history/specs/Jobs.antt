@@ -1,17 +1,14 @@
 -- Of a job, after any list of calls, laying together among them: what requests 5 and 6 and demand 3 say of lists of steps. And finishing in one call, with calls after it.
-use Rattle.std.specs.Prelude.{ℕ, ◌≤◌, ◌<◌, ◌≡◌, ◌⊎◌, true, false, List, [], ◌∷◌, ◌++◌, map}
+use Rattle.std.specs.Prelude.{ℕ, ◌≤◌, ◌<◌, ◌≡◌, ◌⊎◌, true, false, List, [], ◌∷◌, ◌++◌, map, Err, Ok}
 use Rattle.job.specs.declared.refusal.Refusal.TheVariants.{Full}
 use Rattle.rings.specs.Progress.{Ring, triangle}
 use Rattle.geometry.specs.declared.Point.{Point}
 use Rattle.lone.specs.Forest.{left_closed}
 use Rattle.store.specs.Words.{Store, view}
 use Rattle.store.specs.Sound.{pts, recs, is_open, due_at, Closed}
-use Rattle.audit.specs.declared.Reply.TheVariants.{Refused}
 use Rattle.steps.specs.Live.{any_live}
 use Rattle.telling.specs.declared.Reason.{Reason}
-use Rattle.telling.specs.declared.Told.TheVariants.{Because}
 use Rattle.telling.specs.Telling.{reason_at, reason_of}
-use Rattle.opening.specs.declared.open.Opened.TheVariants.{Accepted}
 use Rattle.opening.specs.Open.{end, open_of}
 use Rattle.finishing.specs.Step.{step_of}
 use Rattle.order.specs.Calls.{Call, step_on, words_after}
@@ -41,14 +38,14 @@ module _ (h : History) (u : List ℕ) where
 
   -- asked for record j of a finished work space, the call tells the rule that in fact ended the ring, in the steps that led here; and nothing else happened
   pub record ToldAfter (bytes lent : List ℕ) (t : Stages bytes lent h.start) (cs : List Call) (j : ℕ) : Type 0 where
-    pub call : reason_of (words_after u cs) j ≡ Because (reason_at (store_after cs) j)
+    pub call : reason_of (words_after u cs) j ≡ Ok (reason_at (store_after cs) j)
     pub told : Ended bytes lent h.start t (led h cs) j (reason_at (store_after cs) j)
     pub only : (r : Reason) → Ended bytes lent h.start t (led h cs) j r → r ≡ reason_at (store_after cs) j
     pub opened : is_open (store_after cs) j ≡ true → OfOpen (reason_at (store_after cs) j)
 
   -- of the lists whose steps lead from the start s: "no such list has a step refused as full and each can be carried on until all are done": by further steps
   pub record CallsFit (s : List ℕ) : Type 0 where
-    pub never_full : (cs : List Call) → start_after h cs ≡ s → (i : ℕ) → ¬ ((step_of (words_after u cs) i).answer ≡ Refused Full)
+    pub never_full : (cs : List Call) → start_after h cs ≡ s → (i : ℕ) → ¬ ((step_of (words_after u cs) i).answer ≡ Err Full)
     pub goes_on : (cs : List Call) → start_after h cs ≡ s → (is : List ℕ) × (any_live (store_after (cs ++ map step_on is)) ≡ false)
 
   -- "or none can be carried on so far"
@@ -68,7 +65,7 @@ module _ (h : History) (u : List ℕ) where
 
 -- of the job's bytes in a lent work space: opening accepts it, the steps of the history h led from there to u, and calls may follow
 pub record JobThen (bytes lent : List ℕ) (h : History) (u : List ℕ) : Type 0 where
-  pub opened : open_of bytes lent ≡ end Accepted h.start
+  pub opened : open_of bytes lent ≡ end (Ok tt) h.start
   pub stages : Stages bytes lent h.start
   pub words : u ≡ state_of h
   pub further : JobAfterCalls h u bytes lent stages

@@ -1,5 +1,5 @@
 -- Document 01's section "The job": what stands at the front of a part of the job, a field or the refusal that it earns.
-use Rattle.std.specs.Prelude.{ℕ, ◌+◌, Bool, false, cond, not, ◌&&◌, ◌||◌, List, leb, ltb, eqb, length, get_or, drop}
+use Rattle.std.specs.Prelude.{ℕ, ◌+◌, Bool, false, cond, not, ◌&&◌, ◌||◌, List, leb, ltb, eqb, length, get_or, drop, Result, Ok, Err}
 use Rattle.numbers.specs.Bytes.{le}
 use Rattle.job.specs.declared.Job.{Job}
 use Rattle.job.specs.declared.refusal.Refusal.TheVariants.{Torn, Strange, Crowded}
@@ -7,8 +7,7 @@ use Rattle.job.specs.declared.field.Kind.{Kind}
 use Rattle.job.specs.declared.field.Kind.TheVariants as kind
 use Rattle.job.specs.declared.field.Field.{Field}
 use Rattle.job.specs.declared.field.Field.TheVariants.{Settings, Point, Record, Segment, Join}
-use Rattle.job.specs.declared.field.Reading.{Reading}
-use Rattle.job.specs.declared.field.Reading.TheVariants.{Read, Refused}
+use Rattle.job.specs.declared.refusal.Refusal.{Refusal}
 use Rattle.job.specs.Limits.{POINTS, RECORDS, SEGMENTS, JOINS}
 use Rattle.job.specs.Coordinate.{word_at, depth_at}
 
@@ -105,16 +104,16 @@ crowded kind.Segment j = leb SEGMENTS j.segments
 crowded kind.Join j = leb JOINS j.joins
 
 -- after the tag: "1 for length and value, 2 for bits, 3"; else the field and its whole length
-unfoldable pub body_of : Kind → Job → List ℕ → Reading
+unfoldable pub body_of : Kind → Job → List ℕ → Result (Field × ℕ) Refusal
 body_of k j s =
-    cond (torn_value k s) (Refused Torn)
-    (cond (strange_bits (field_in k (value_of s))) (Refused Strange)
-    (cond (crowded k j) (Refused Crowded)
-    (Read (field_in k (value_of s)) (HEADER + size_of k))))
+    cond (torn_value k s) (Err Torn)
+    (cond (strange_bits (field_in k (value_of s))) (Err Strange)
+    (cond (crowded k j) (Err Crowded)
+    (Ok (field_in k (value_of s), HEADER + size_of k))))
 
 -- "per field: 1 for the header, 2 for the tag", then the rest
-unfoldable pub field_of : Job → List ℕ → Reading
+unfoldable pub field_of : Job → List ℕ → Result (Field × ℕ) Refusal
 field_of j s =
-    cond (torn_header s) (Refused Torn)
-    (cond (strange_tag j.last (tag_of s)) (Refused Strange)
+    cond (torn_header s) (Err Torn)
+    (cond (strange_tag j.last (tag_of s)) (Err Strange)
     (body_of (kind_of (tag_of s)) j s))

@@ -25,7 +25,7 @@ pub const FIRST_AT: usize = 3;
 
 pub const SECOND_AT: usize = 2;
 
-#[derive(Clone, Copy)]
+#[derive(Clone, Copy, PartialEq, Eq, Debug)]
 pub enum Kind {
     Settings,
     Point,
@@ -35,7 +35,7 @@ pub enum Kind {
 }
 
 // A field's numbers; x and y as words raised by the limit, z as a word in two's complement.
-#[derive(Clone, Copy)]
+#[derive(Clone, Copy, PartialEq, Eq, Debug)]
 pub enum Field {
     Settings {
         bits: u32,
@@ -62,13 +62,7 @@ pub enum Field {
     },
 }
 
-// What reading finds: a field and its whole length, or a refusal.
-#[derive(Clone, Copy)]
-pub enum Reading {
-    Read { field: Field, length: usize },
-    Refused(Refusal),
-}
-
+// The kind that a tag names, 1 to 5. A TryFrom would be no plainer: `strange_tag` refuses every other tag before this is asked.
 fn kind_of(tag: u8) -> Kind
     ensures { result ≡ kind_of tag }
 {
@@ -135,7 +129,7 @@ fn read_value(k: Kind, v: &[u8]) -> Field
 fn strange_tag(last: u8, tag: u8) -> bool
     ensures { result ≡ strange_tag last tag }
 {
-    ((tag == 0) | (5 < tag)) | (tag < last) | ((last == 0) & (tag != 1)) | ((0 < last) & (tag == 1))
+    tag == 0 || 5 < tag || tag < last || (last == 0 && tag != 1) || (0 < last && tag == 1)
 }
 
 fn torn_value(k: Kind, part: &[u8]) -> bool
@@ -143,8 +137,7 @@ fn torn_value(k: Kind, part: &[u8]) -> bool
     ensures { result ≡ torn_value k part.now }
 {
     let size = size_of(k);
-    let says = numbers::read_u16(part, 1) as usize;
-    (says != size) | (part.len() < HEADER + size)
+    numbers::read_u16(part, 1) as usize != size || part.len() < HEADER + size
 }
 
 fn strange_bits(f: Field) -> bool
@@ -152,24 +145,8 @@ fn strange_bits(f: Field) -> bool
 {
     match f {
         Field::Settings { bits } => 3 < bits,
-        Field::Point {
-            x: _,
-            y: _,
-            next: _,
-            prev: _,
-            record: _,
-            z: _,
-        } => false,
-        Field::Record {
-            flags,
-            owner: _,
-            first: _,
-        } => 3 < flags,
-        Field::Segment { point: _ } => false,
-        Field::Join {
-            first: _,
-            second: _,
-        } => false,
+        Field::Record { flags, .. } => 3 < flags,
+        Field::Point { .. } | Field::Segment { .. } | Field::Join { .. } => false,
     }
 }
 
@@ -185,37 +162,33 @@ fn crowded(k: Kind, job: Job) -> bool
     }
 }
 
-fn read_body(k: Kind, job: Job, part: &[u8]) -> Reading
+fn read_body(k: Kind, job: Job, part: &[u8]) -> Result<(Field, usize), Refusal>
     requires { HEADER ≤ length part.now }
     ensures { result ≡ body_of k job part.now }
 {
     if torn_value(k, part) {
-        return Reading::Refused(Refusal::Torn);
+        return Err(Refusal::Torn);
     }
     let field = read_value(k, numbers::from(part, HEADER));
     if strange_bits(field) {
-        return Reading::Refused(Refusal::Strange);
+        return Err(Refusal::Strange);
     }
     if crowded(k, job) {
-        return Reading::Refused(Refusal::Crowded);
+        return Err(Refusal::Crowded);
     }
-    Reading::Read {
-        field,
-        length: HEADER + size_of(k),
-    }
+    Ok((field, HEADER + size_of(k)))
 }
 
-// The field at the front of a part of the job, or the refusal that it earns.
-pub fn read_field(part: &[u8], job: Job) -> Reading
+// The field at the front of a part of the job and its whole length, or the refusal that it earns.
+pub fn read_field(part: &[u8], job: Job) -> Result<(Field, usize), Refusal>
     ensures { result ≡ field_of job part.now }
 {
     if part.len() < HEADER {
-        return Reading::Refused(Refusal::Torn);
+        return Err(Refusal::Torn);
     }
     let tag = part[0];
     if strange_tag(job.last, tag) {
-        Reading::Refused(Refusal::Strange)
-    } else {
-        read_body(kind_of(tag), job, part)
+        return Err(Refusal::Strange);
     }
+    read_body(kind_of(tag), job, part)
 }

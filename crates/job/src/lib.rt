@@ -61,43 +61,25 @@ impl Job {
             Field::Settings { bits } => {
                 j.last = 1;
                 j.bits = bits;
-                return j;
             }
-            Field::Point {
-                x: _,
-                y: _,
-                next: _,
-                prev: _,
-                record: _,
-                z: _,
-            } => {
+            Field::Point { .. } => {
                 j.last = 2;
-                j.points = self.points + 1;
-                return j;
+                j.points += 1;
             }
-            Field::Record {
-                flags: _,
-                owner: _,
-                first: _,
-            } => {
+            Field::Record { .. } => {
                 j.last = 3;
-                j.records = self.records + 1;
-                return j;
+                j.records += 1;
             }
-            Field::Segment { point: _ } => {
+            Field::Segment { .. } => {
                 j.last = 4;
-                j.segments = self.segments + 1;
-                return j;
+                j.segments += 1;
             }
-            Field::Join {
-                first: _,
-                second: _,
-            } => {
+            Field::Join { .. } => {
                 j.last = 5;
-                j.joins = self.joins + 1;
-                return j;
+                j.joins += 1;
             }
         }
+        j
     }
 }
 

@@ -2,9 +2,9 @@
 ghost use Rattle.std.specs.Prelude.{◌≡◌};
 ghost use Rattle.job.specs.Refusal.{number_of};
 
-#[derive(Clone, Copy)]
+#[derive(Clone, Copy, PartialEq, Eq, Debug)]
 pub enum Refusal {
-    Torn,
+    Torn = 1,
     Strange,
     Crowded,
     OffTheTable,
@@ -28,24 +28,6 @@ impl Refusal {
     pub fn number(self) -> u32
         ensures { result ≡ number_of self }
     {
-        match self {
-            Refusal::Torn => 1,
-            Refusal::Strange => 2,
-            Refusal::Crowded => 3,
-            Refusal::OffTheTable => 4,
-            Refusal::NoSuch => 5,
-            Refusal::Loose => 6,
-            Refusal::Muddled => 7,
-            Refusal::OpenEdge => 8,
-            Refusal::Knot => 9,
-            Refusal::Full => 10,
-            Refusal::SmallTray => 11,
-            Refusal::OutOfTurn => 12,
-            Refusal::BadRate => 13,
-            Refusal::UnknownName => 14,
-            Refusal::NoPlace => 15,
-            Refusal::SettingsDiffer => 16,
-            Refusal::PastMending => 17,
-        }
+        self as u32
     }
 }

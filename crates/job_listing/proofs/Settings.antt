@@ -7,6 +7,7 @@ use native.Mathlib.Omega.{arith}
 use lib.Dec.{eqb, ltb}
 use lib.ListN.{length, get_or, set, replicate}
 use lib.Seq.{get_or-set_other}
+use Rattle.std.proofs.Common.{Some, None, Ok, Err}
 use Rattle.job.specs.Limits as limit
 use Rattle.job.specs.declared.Job.{Job}
 use Rattle.lone.specs.Act.{Act, stay, discard, drop_point, move_on, to_first, double, cut}
@@ -19,31 +20,28 @@ use Rattle.store.specs.Boxes.{all_boxed}
 use Rattle.bounds.proofs.Beside.{view_all}
 use Rattle.store.specs.Named.{settings_of, points_of, records_of, next_of, rec_of, first_of, set_rec}
 use Rattle.store.specs.Sound.{ring_at}
-use Rattle.primitives.specs.declared.Room.TheVariants as room
+use Rattle.joins.specs.declared.JoinError.TheVariants.{Knot, Full}
 use Rattle.primitives.specs.Primitive.{Taken, taken, after_writes, before_writes, duplicate_op}
 use Rattle.acts.specs.Writes.{move_writes, to_first_writes, discard_writes, drop_writes, double_writes}
 use Rattle.acts.specs.Apply.{Coding, ring_writes, off_writes, after_w}
 use Rattle.acts.specs.Step.{Outcome, outcome, answer_s, act_at, step_by_w, step_w}
 use Rattle.acts.specs.Finish.{RingsEnd, rings_done, rings_full, and_then, steps_by_w, finish_record, finish_from_w, finish_w}
-use Rattle.reading.specs.declared.fill.Outcome.TheVariants as outcome
 use Rattle.reading.specs.Fill as fill
 use Rattle.accepting.specs.Accept.{accept_of}
-use Rattle.joins.specs.declared.Joined.TheVariants as joined
 use Rattle.joins.specs.Resolve.{home_of}
 use Rattle.joins.specs.Join as join
 use Rattle.joins.specs.Join.{relink_writes, made_writes, empty_writes, first_writes, relink_of, new_out_rec, name_all, fix_outrec_pts, move_first, split_ring, split_of, merge_of, by_records, join_of, joins_from, process_horz_joins}
 use Rattle.sorting.specs.declared.HorzSegment.{HorzSegment}
-use Rattle.converting.specs.declared.pairs.Converted.TheVariants as converted
 use Rattle.converting.specs.Make as make
 use Rattle.converting.specs.Make.{Made, made, Out, out, second_at, first_at, make_join, with_lefts, made_of, apart_of, join_pair, first_one, second_one, moved_pair, pair_of, inner_from, outer_from, sorted_segments, pairs_of, convert_horz_segs_to_joins}
-use Rattle.opening.specs.declared.open.Opened.TheVariants.{Accepted}
-use Rattle.opening.specs.declared.open.Opened.TheVariants as opened
 use Rattle.opening.specs.Start.{start_writes, start_ring, start_to, start_rings}
 use Rattle.opening.specs.Open.{JOIN_POINTS, End, end, after_joins, after_segments, after_rows, cleared, open_of}
 use Rattle.opening.proofs.Accepted.{accepts}
 use Rattle.turns.specs.Form.{raised, geometry_of}
+use Rattle.std.specs.Prelude.{Result, Ok, Err}
+use Rattle.job.specs.declared.refusal.Refusal.{Refusal}
+use Rattle.paths.specs.Wrote.{ok_paths}
 use Rattle.paths.specs.declared.Written.{Written}
-use Rattle.paths.specs.declared.Written.TheVariants.{Paths, Refused}
 use Rattle.paths.specs.Wrote.{build_paths64}
 use Rattle.finishing.specs.Finish.{then_boxed, finish_rings}
 use Rattle.finishing.specs.InOneCall.{Finished, after_writing, after_steps, after_opening, finish_of}
@@ -82,7 +80,7 @@ module _ (x : ℕ) where
   unfolding duplicate_op
   has_copy w p after h = go (ltb (points_of w) limit.POINTS) after
     where
-      go : (b : Bool) (a : Bool) → HasTaken (cond b (taken (room.At (points_of w)) (cond a (on_words w (after_writes (view w) p)) (on_words w (before_writes (view w) p)))) (taken room.Full w))
+      go : (b : Bool) (a : Bool) → HasTaken (cond b (taken (Some (points_of w)) (cond a (on_words w (after_writes (view w) p)) (on_words w (before_writes (view w) p)))) (taken None w))
       go true true = has_writes w (after_writes (view w) p) (omega arith, (omega arith, (omega arith, (omega arith, (omega arith, (omega arith, (omega arith, (omega arith, (omega arith, tt))))))))) h
       go true false = has_writes w (before_writes (view w) p) (omega arith, (omega arith, (omega arith, (omega arith, (omega arith, (omega arith, (omega arith, (omega arith, (omega arith, tt))))))))) h
       go false a = h
@@ -95,12 +93,12 @@ module _ (x : ℕ) where
   has_join_made w js m a b h = one (duplicate_op w a true) (has_copy w a true h)
     where
       two : (k : ℕ) (t : Taken) → HasTaken t → HasMade (second_at js m k t)
-      two k (taken (room.At j) u) g = g
-      two k (taken room.Full u) g = g
+      two k (taken (Some j) u) g = g
+      two k (taken None u) g = g
 
       one : (t : Taken) → HasTaken t → HasMade (first_at js m b t)
-      one (taken (room.At k) u) g = two k (duplicate_op u b false) (has_copy u b false g)
-      one (taken room.Full u) g = g
+      one (taken (Some k) u) g = two k (duplicate_op u b false) (has_copy u b false g)
+      one (taken None u) g = g
 
   abbrev HasOut : Out → Type 0
   HasOut (out c w ls js) = Has w
@@ -122,20 +120,20 @@ module _ (x : ℕ) where
       way true = has_join_made w js m a b h
       way false = has_join_made w js m b a h
 
-      go : (z : Bool) → HasOut (cond z (out (converted.Joins m) w ls js) (with_lefts (set (set ls i a) j b) (cond (eqb (get_or fs i 0) 1) (make_join w js m a b) (make_join w js m b a))))
+      go : (z : Bool) → HasOut (cond z (out (Some m) w ls js) (with_lefts (set (set ls i a) j b) (cond (eqb (get_or fs i 0) 1) (make_join w js m a b) (make_join w js m b a))))
       go true = h
       go false = lefts (set (set ls i a) j b) (cond (eqb (get_or fs i 0) 1) (make_join w js m a b) (make_join w js m b a)) (way (eqb (get_or fs i 0) 1))
 
   has_then : (g : List ℕ → List ℕ → List ℕ → ℕ → Out) (c : Out) → HasOut c → ((u ls js : List ℕ) (k : ℕ) → Has u → HasOut (g u ls js k)) → HasOut (make.and_then g c)
-  has_then g (out (converted.Joins k) u ls js) h r = r u ls js k h
-  has_then g (out converted.Full u ls js) h r = h
+  has_then g (out (Some k) u ls js) h r = r u ls js k h
+  has_then g (out None u ls js) h r = h
 
   has_inner : (f : ℕ) (rs fs : List ℕ) (i j : ℕ) (w ls js : List ℕ) (m : ℕ) → Has w → HasOut (inner_from f rs fs i j w ls js m)
   unfolding inner_from
   has_inner zero rs fs i j w ls js m h = h
   has_inner (suc f) rs fs i j w ls js m h = go (eqb (get_or rs j 0) NONE) (λ u ls' js' k g. has_inner f rs fs i (j + 1) u ls' js' k g)
     where
-      go : (z : Bool) → ((u ls' js' : List ℕ) (k : ℕ) → Has u → HasOut (inner_from f rs fs i (j + 1) u ls' js' k)) → HasOut (cond z (out (converted.Joins m) w ls js) (make.and_then (inner_from f rs fs i (j + 1)) (pair_of rs fs js i j w ls m)))
+      go : (z : Bool) → ((u ls' js' : List ℕ) (k : ℕ) → Has u → HasOut (inner_from f rs fs i (j + 1) u ls' js' k)) → HasOut (cond z (out (Some m) w ls js) (make.and_then (inner_from f rs fs i (j + 1)) (pair_of rs fs js i j w ls m)))
       go true r = h
       go false r = has_then (inner_from f rs fs i (j + 1)) (pair_of rs fs js i j w ls m) (has_pair rs fs js i j w ls m h) r
 
@@ -144,7 +142,7 @@ module _ (x : ℕ) where
   has_outer zero rs fs i w ls js m h = h
   has_outer (suc f) rs fs i w ls js m h = go (eqb (get_or rs i 0) NONE) (λ u ls' js' k g. has_outer f rs fs (i + 1) u ls' js' k g)
     where
-      go : (z : Bool) → ((u ls' js' : List ℕ) (k : ℕ) → Has u → HasOut (outer_from f rs fs (i + 1) u ls' js' k)) → HasOut (cond z (out (converted.Joins m) w ls js) (make.and_then (outer_from f rs fs (i + 1)) (inner_from f rs fs i (i + 1) w ls js m)))
+      go : (z : Bool) → ((u ls' js' : List ℕ) (k : ℕ) → Has u → HasOut (outer_from f rs fs (i + 1) u ls' js' k)) → HasOut (cond z (out (Some m) w ls js) (make.and_then (outer_from f rs fs (i + 1)) (inner_from f rs fs i (i + 1) w ls js m)))
       go true r = h
       go false r = has_then (outer_from f rs fs (i + 1)) (inner_from f rs fs i (i + 1) w ls js m) (has_inner f rs fs i (i + 1) w ls js m h) r
 
@@ -204,7 +202,7 @@ module _ (x : ℕ) where
   unfolding join_of by_records split_of
   has_join w a c h = go (eqb (next_of w a) c) (eqb (home_of w a) (home_of w c)) (ltb (records_of w) limit.RECORDS)
     where
-      go : (z y v : Bool) → HasJoin (cond z (join.end joined.Knot w) (cond y (cond v (join.end joined.Done (split_ring w a c (home_of w a) (records_of w))) (join.end joined.Full w)) (join.end joined.Done (merge_of w a c (home_of w a) (home_of w c)))))
+      go : (z y v : Bool) → HasJoin (cond z (join.end (Err Knot) w) (cond y (cond v (join.end (Ok tt) (split_ring w a c (home_of w a) (records_of w))) (join.end (Err Full) w)) (join.end (Ok tt) (merge_of w a c (home_of w a) (home_of w c)))))
       go true y v = h
       go false true true = has_split w a c (home_of w a) (records_of w) h
       go false true false = h
@@ -216,9 +214,9 @@ module _ (x : ℕ) where
   has_joins (suc f) i js w h = go (join_of w (get_or js (2 * i) 0) (get_or js (2 * i + 1) 0)) (has_join w (get_or js (2 * i) 0) (get_or js (2 * i + 1) 0) h) (λ u g. has_joins f (i + 1) js u g)
     where
       go : (t : join.JoinEnd) → HasJoin t → ((u : List ℕ) → Has u → HasJoin (joins_from f (i + 1) js u)) → HasJoin (join.follow (joins_from f (i + 1) js) t)
-      go (join.end joined.Done u) g r = r u g
-      go (join.end joined.Knot u) g r = g
-      go (join.end joined.Full u) g r = g
+      go (join.end (Ok tt) u) g r = r u g
+      go (join.end (Err Knot) u) g r = g
+      go (join.end (Err Full) u) g r = g
 
   -- ---- rings at their start
 
@@ -237,13 +235,13 @@ module _ (x : ℕ) where
 
   has_afterjoins : (t : join.JoinEnd) → HasJoin t → HasEnd (after_joins t)
   unfolding start_rings
-  has_afterjoins (join.end joined.Done u) h = has_boxes (start_to (records_of u) u) (has_started (records_of u) u h)
-  has_afterjoins (join.end joined.Knot u) h = h
-  has_afterjoins (join.end joined.Full u) h = h
+  has_afterjoins (join.end (Ok tt) u) h = has_boxes (start_to (records_of u) u) (has_started (records_of u) u h)
+  has_afterjoins (join.end (Err Knot) u) h = h
+  has_afterjoins (join.end (Err Full) u) h = h
 
   has_aftersegments : (t : Made) → HasMade t → HasEnd (after_segments t)
-  has_aftersegments (made (converted.Joins k) u js) h = has_afterjoins (process_horz_joins k js u) (has_joins k 0 js u h)
-  has_aftersegments (made converted.Full u js) h = h
+  has_aftersegments (made (Some k) u js) h = has_afterjoins (process_horz_joins k js u) (has_joins k 0 js u h)
+  has_aftersegments (made None u js) h = h
 
   -- ---- steps
 
@@ -350,22 +348,22 @@ module _ (x : ℕ) where
 -- ---- of a job
 
 module _ (bytes lent : List ℕ) where
-  settings_opened : (w : List ℕ) → open_of bytes lent ≡ end Accepted w → settings_of w ≡ settings_in bytes
+  settings_opened : (w : List ℕ) → open_of bytes lent ≡ end (Ok tt) w → settings_of w ≡ settings_in bytes
   settings_opened w e = go (accept_of bytes (cleared lent) (replicate limit.SEGMENTS 0) (replicate JOIN_POINTS 0)) refl (accepts w bytes lent e).1
     where
-      go : (T : fill.ReadEnd) → accept_of bytes (cleared lent) (replicate limit.SEGMENTS 0) (replicate JOIN_POINTS 0) ≡ T → after_rows T ≡ end Accepted w → settings_of w ≡ settings_in bytes
-      go (fill.end (outcome.Ok j) v ts ks) h f =
+      go : (T : fill.ReadEnd) → accept_of bytes (cleared lent) (replicate limit.SEGMENTS 0) (replicate JOIN_POINTS 0) ≡ T → after_rows T ≡ end (Ok tt) w → settings_of w ≡ settings_in bytes
+      go (fill.end (Ok j) v ts ks) h f =
           subst (HasEnd (settings_in bytes)) f
           (has_aftersegments (settings_in bytes) (convert_horz_segs_to_joins v j.segments ts ks j.joins)
           (has_converted (settings_in bytes) v j.segments ts ks j.joins (settings_accepted bytes (cleared lent) (replicate limit.SEGMENTS 0) (replicate JOIN_POINTS 0) j v ts ks (accepts w bytes lent e).0 h)))
-      go (fill.end (outcome.Refused x) v ts ks) h f = absurd (let z : ◌≡◌ {A = ℕ} 0 1 = cc in omega arith)
+      go (fill.end (Err x) v ts ks) h f = absurd (let z : ◌≡◌ {A = ℕ} 0 1 = cc in omega arith)
 
   abbrev Left : Finished → Type 0
-  Left f = (c o : ℕ) → f.answer ≡ Paths c o → settings_of f.words ≡ settings_in bytes
+  Left f = (c o : ℕ) → f.answer ≡ ok_paths c o → settings_of f.words ≡ settings_in bytes
 
-  left_written : (w t : List ℕ) (r : Written) → settings_of w ≡ settings_in bytes → Left (after_writing w r t)
-  left_written w t (Paths c₁ o₁) h c o e = h
-  left_written w t (Refused x) h c o e = absurd (let z : ◌≡◌ {A = ℕ} 0 1 = cc in omega arith)
+  left_written : (w t : List ℕ) (r : Result Written Refusal) → settings_of w ≡ settings_in bytes → Left (after_writing w r t)
+  left_written w t (Ok p) h c o e = h
+  left_written w t (Err x) h c o e = absurd (let z : ◌≡◌ {A = ℕ} 0 1 = cc in omega arith)
 
   left_stepped : (r : RingsEnd) (t : List ℕ) → HasDone (settings_in bytes) r → Left (after_steps r t)
   left_stepped (rings_done w) t h = left_written w (build_paths64 (view w) t).tray (build_paths64 (view w) t).answer h
@@ -376,8 +374,8 @@ module _ (bytes lent : List ℕ) where
   settings_finished t = go (open_of bytes lent) refl
     where
       go : (r : End) → open_of bytes lent ≡ r → Left (after_opening r t)
-      go (end Accepted w) e = left_stepped (finish_rings w) t (has_finished (settings_in bytes) w (settings_opened w e))
-      go (end (opened.Refused x) w) e = λ c o f. absurd (let z : ◌≡◌ {A = ℕ} 0 1 = cc in omega arith)
+      go (end (Ok tt) w) e = left_stepped (finish_rings w) t (has_finished (settings_in bytes) w (settings_opened w e))
+      go (end (Err x) w) e = λ c o f. absurd (let z : ◌≡◌ {A = ℕ} 0 1 = cc in omega arith)
 
   pub jobs_setting : JobsSetting bytes lent
   unfolding cutlist_of
@@ -386,6 +384,6 @@ module _ (bytes lent : List ℕ) where
         opened = settings_opened;
         finished = settings_finished;
         listed = λ rate t c o e.
-            ap (λ (r : Written). listed_as rate r (finish_of bytes lent t).words (finish_of bytes lent t).tray) e
+            ap (λ (r : Result Written Refusal). listed_as rate r (finish_of bytes lent t).words (finish_of bytes lent t).tray) e
             ∙ ap (λ (n : ℕ). paths_at rate (eqb (n / 2 % 2) 1) c o (finish_of bytes lent t).tray) (settings_finished t c o e);
       }

@@ -9,6 +9,7 @@ use native.Mathlib.Decide.{dec_lt}
 use lib.Dec.{eqb, ltb}
 use lib.ListN.{length, drop}
 use borrow.Author.Tests.{ltb-false, eqb-false}
+use Rattle.std.proofs.Common.{Result, Ok, Err}
 use Rattle.numbers.specs.Bytes.{le}
 use Rattle.numbers.proofs.Widths.{shifted}
 use Rattle.job.specs.Field.{HEADER, tag_of, value_of, kind_of, field_in, field_of}
@@ -18,13 +19,10 @@ use Rattle.job.specs.declared.field.Kind.{Kind}
 use Rattle.job.specs.declared.field.Kind.TheVariants as kind
 use Rattle.job.specs.declared.field.Field.{Field}
 use Rattle.job.specs.declared.field.Field.TheVariants.{Settings, Point, Record, Segment, Join}
-use Rattle.job.specs.declared.field.Reading.{Reading}
-use Rattle.job.specs.declared.field.Reading.TheVariants as reading
+use Rattle.job.specs.declared.refusal.Refusal.{Refusal}
 use Rattle.job.specs.declared.refusal.Refusal.TheVariants.{Strange}
 use Rattle.store.specs.Field.{BLOCK}
 use Rattle.store.specs.Named.{settings_of}
-use Rattle.reading.specs.declared.fill.Outcome.{Outcome}
-use Rattle.reading.specs.declared.fill.Outcome.TheVariants.{Ok, Refused}
 use Rattle.reading.specs.Fill.{ReadEnd, end, placed, taken, turn_of, follow, run, fill_of}
 use Rattle.reading.specs.Read.{counted, with_counts, read_of}
 use Rattle.reading.proofs.Counted.{filled, counts}
@@ -39,7 +37,7 @@ record Took (bytes : List ℕ) (j : Job) : Type 0 where
 
 abbrev TookEnd : List ℕ → ReadEnd → Type 0
 TookEnd bytes (end (Ok j) w ss js) = Took bytes j
-TookEnd bytes (end (Refused r) w ss js) = Unit {0}
+TookEnd bytes (end (Err r) w ss js) = Unit {0}
 
 module _ (bytes : List ℕ) (j : Job) (w ss js : List ℕ) (t : Took bytes j) where
   -- a field of another kind comes after one
@@ -75,14 +73,14 @@ module _ (bytes : List ℕ) (j : Job) (w ss js : List ℕ) (t : Took bytes j) wh
   unfolding turn_of
   took_turn = go (field_of j (drop j.at bytes)) refl
     where
-      go : (r : Reading) → field_of j (drop j.at bytes) ≡ r → TookEnd bytes (taken r j w ss js)
-      go (reading.Read f n) e = took_placed f n (kind_of (tag_of (drop j.at bytes))) (read_as j (drop j.at bytes) f n e)
-      go (reading.Refused x) e = tt
+      go : (r : Result (Field × ℕ) Refusal) → field_of j (drop j.at bytes) ≡ r → TookEnd bytes (taken r j w ss js)
+      go (Ok (f, n)) e = took_placed f n (kind_of (tag_of (drop j.at bytes))) (read_as j (drop j.at bytes) f n e)
+      go (Err x) e = tt
 
 -- at the end of a job that has a byte the settings were taken
 abbrev Settled : List ℕ → ReadEnd → Type 0
 Settled bytes (end (Ok j) w ss js) = j.bits ≡ settings_in bytes
-Settled bytes (end (Refused r) w ss js) = Unit {0}
+Settled bytes (end (Err r) w ss js) = Unit {0}
 
 took_run : (k : ℕ) (bytes : List ℕ) (j : Job) (w ss js : List ℕ) → 0 < length bytes → Took bytes j → Settled bytes (run k bytes j w ss js)
 unfolding run
@@ -91,7 +89,7 @@ took_run (suc k) bytes j w ss js l t = by (ltb j.at (length bytes)) refl (turn_o
   where
     on : (T : ReadEnd) → TookEnd bytes T → ((i : Job) (v ts ks : List ℕ) → Took bytes i → Settled bytes (run k bytes i v ts ks)) → Settled bytes (follow (run k bytes) T)
     on (end (Ok i) v ts ks) u r = r i v ts ks u
-    on (end (Refused x) v ts ks) u r = tt
+    on (end (Err x) v ts ks) u r = tt
 
     past_start : length bytes ≤ j.at → Dec (0 < j.last) → j.bits ≡ settings_in bytes
     past_start h (yes g) = t.once g
@@ -105,7 +103,7 @@ took_fill : (bytes w ss js : List ℕ) → Settled bytes (fill_of bytes w ss js)
 unfolding fill_of
 took_fill bytes w ss js = go (eqb (length bytes) 0) refl
   where
-    go : (b : Bool) → eqb (length bytes) 0 ≡ b → Settled bytes (cond b (end (Refused Strange) w ss js) (run (suc (length bytes)) bytes fresh w ss js))
+    go : (b : Bool) → eqb (length bytes) 0 ≡ b → Settled bytes (cond b (end (Err Strange) w ss js) (run (suc (length bytes)) bytes fresh w ss js))
     go true e = tt
     go false e =
         let d : length bytes ≢ 0 = eqb-false (length bytes) 0 e in
@@ -122,6 +120,6 @@ settings_accepted bytes w ss js j v ts ks l e = go (fill_of bytes w ss js) refl 
         let a : counted i u ≡ v = by (judge_of i (counted i u) us ls) d in
         ap settings_of (sym a) ∙ (counts u i (omega (arith, f.words)) f.within).settings ∙ t
       where
-        by : (x : Outcome) → end x (counted i u) us ls ≡ end (Ok j) v ts ks → counted i u ≡ v
+        by : (x : Result Job Refusal) → end x (counted i u) us ls ≡ end (Ok j) v ts ks → counted i u ≡ v
         by x g = cc
-    go (end (Refused x) u us ls) h t d = absurd (let z : ◌≡◌ {A = ℕ} 0 1 = cc in omega arith)
+    go (end (Err x) u us ls) h t d = absurd (let z : ◌≡◌ {A = ℕ} 0 1 = cc in omega arith)

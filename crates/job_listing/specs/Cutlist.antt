@@ -8,8 +8,9 @@ use Rattle.rates.specs.Rate.{asked}
 use Rattle.store.specs.Field.{LENGTH}
 use Rattle.store.specs.Words.{view}
 use Rattle.store.specs.Value.{reverse_solution}
+use Rattle.std.specs.Prelude.{Result, Ok, Err}
+use Rattle.job.specs.declared.refusal.Refusal.{Refusal}
 use Rattle.paths.specs.declared.Written.{Written}
-use Rattle.paths.specs.declared.Written.TheVariants.{Paths, Refused}
 use Rattle.listing.specs.Lines.{listing_of, refused_line}
 use Rattle.listing.specs.Charge.{charged_of}
 use Rattle.listing.specs.Told.{Told, tell}
@@ -22,9 +23,9 @@ paths_at (Cents n) rev closed open' t = charged_of rev n closed open' t
 paths_at Bad rev closed open' t = refused_line (number_of BadRate)
 
 -- of the answer, the words and the tray: the setting is the one that the words hold. "A refusal prints `refused` and its number only"
-abbrev pub listed_as : Rate → Written → List ℕ → List ℕ → List ℕ
-listed_as rate (Paths closed open') w t = paths_at rate (reverse_solution (view w)) closed open' t
-listed_as rate (Refused x) w t = refused_line (number_of x)
+abbrev pub listed_as : Rate → Result Written Refusal → List ℕ → List ℕ → List ℕ
+listed_as rate (Ok p) w t = paths_at rate (reverse_solution (view w)) p.closed p.«open» t
+listed_as rate (Err x) w t = refused_line (number_of x)
 
 abbrev pub listed_from : Rate → Finished → List ℕ
 listed_from rate f = listed_as rate f.answer f.words f.tray

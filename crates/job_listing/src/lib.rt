@@ -12,14 +12,13 @@ ghost use Rattle.job_listing.specs.Cutlist.{paths_at, listed_job, listed_out, li
 
 use finishing::finish::finish;
 use job::refusal::Refusal;
-use listing::Listed;
 use listing::charge::charged;
-use paths::{Written, reverse_solution};
+use paths::reverse_solution;
 use rates::{Rate, asked};
 use store::LENGTH;
 
 // The line of a refusal.
-fn refused(x: Refusal, out: &mut [u8]) -> Listed
+fn refused(x: Refusal, out: &mut [u8]) -> Option<usize>
     ensures { told result out.new ≡ tell (refused_line (number_of x)) out.old }
 {
     let k = x.number();
@@ -34,7 +33,7 @@ fn list_paths(
     rev: bool,
     rate: Rate,
     out: &mut [u8],
-) -> Listed
+) -> Option<usize>
     requires fact_1 { Listable closed opened tray.now }
     requires fact_2 { Summable tray.now closed }
     requires fact_3 { asked rate ≡ rate }
@@ -54,22 +53,27 @@ fn list_finished(
     work: &mut [u32],
     tray: &mut [u8],
     out: &mut [u8],
-) -> Listed
+) -> Option<usize>
     requires { asked rate ≡ rate }
     ensures { listed_job (told result out.new) work.new tray.new ≡ listed_out rate (finish_of bytes.now work.old tray.old) out.old }
 {
-    let r = finish(bytes, work, tray);
-    match r {
-        Written::Paths { closed, open } => {
+    match finish(bytes, work, tray) {
+        Ok(p) => {
             let rev = reverse_solution(work);
-            list_paths(tray, closed, open, rev, rate, out)
+            list_paths(tray, p.closed, p.open, rev, rate, out)
         }
-        Written::Refused(x) => refused(x, out),
+        Err(x) => refused(x, out),
     }
 }
 
 // By the rate that is asked for. A bad one is refused before the job is looked at.
-fn list_at(bytes: &[u8], rate: Rate, work: &mut [u32], tray: &mut [u8], out: &mut [u8]) -> Listed
+fn list_at(
+    bytes: &[u8],
+    rate: Rate,
+    work: &mut [u32],
+    tray: &mut [u8],
+    out: &mut [u8],
+) -> Option<usize>
     ensures { listed_job (told result out.new) work.new tray.new ≡ listed_by (asked rate) bytes.now work.old tray.old out.old }
 {
     let at = asked(rate);
@@ -88,7 +92,7 @@ pub fn list_job(
     work: &mut [u32],
     tray: &mut [u8],
     out: &mut [u8],
-) -> Listed
+) -> Option<usize>
     ensures { listed_job (told result out.new) work.new tray.new ≡ list_job_of rate bytes.now work.old tray.old out.old }
 {
     if work.len() < LENGTH {

@@ -6,9 +6,10 @@ use Rattle.store.specs.Words.{view}
 use Rattle.store.specs.Sound.{recs}
 use Rattle.handed.specs.Handed.{handed_of}
 use Rattle.steps.specs.Live.{any_live}
+use Rattle.std.specs.Prelude.{Result, Ok}
+use Rattle.job.specs.declared.refusal.Refusal.{Refusal}
+use Rattle.paths.specs.Wrote.{ok_paths}
 use Rattle.paths.specs.declared.Written.{Written}
-use Rattle.paths.specs.declared.Written.TheVariants.{Paths}
-use Rattle.telling.specs.declared.Told.TheVariants.{Because}
 use Rattle.telling.specs.Telling.{reason_at, reason_of}
 use Rattle.finishing.specs.InOneCall.{finished, finish_of}
 use Rattle.order.proofs.Jobs.{of_job, accepted, words_are, all_over}
@@ -20,10 +21,10 @@ use Rattle.job_reasons.specs.Reasons.{reasons_as, reasons_of}
 use Rattle.job_reasons.specs.InFact.{left, InFact}
 
 -- asked for one of its records, such a work space tells it
-pub call_told : (w : List ℕ) (i : ℕ) → TellableAt w i → reason_of w i ≡ Because (reason_at (view w) i)
+pub call_told : (w : List ℕ) (i : ℕ) → TellableAt w i → reason_of w i ≡ Ok (reason_at (view w) i)
 call_told w i h = call_tells w i h.work.tested h.known h.work.done
 
-module _ (bytes lent t w' t' : List ℕ) (c o : ℕ) (e : finished (Paths c o) w' t' ≡ finish_of bytes lent t) where
+module _ (bytes lent t w' t' : List ℕ) (c o : ℕ) (e : finished (ok_paths c o) w' t' ≡ finish_of bytes lent t) where
   pub tellable : Tellable w'
   tellable =
       let a = accepted bytes lent t w' t' c o e in
@@ -33,9 +34,9 @@ module _ (bytes lent t w' t' : List ℕ) (c o : ℕ) (e : finished (Paths c o) w
       }
 
 -- of what finishing in one call leaves where it gives paths
-module _ (bytes lent t : List ℕ) (c o : ℕ) (h : (finish_of bytes lent t).answer ≡ Paths c o) where
-  given : finished (Paths c o) (left bytes lent t) (finish_of bytes lent t).tray ≡ finish_of bytes lent t
-  given = ap (λ (r : Written). finished r (left bytes lent t) (finish_of bytes lent t).tray) (sym h)
+module _ (bytes lent t : List ℕ) (c o : ℕ) (h : (finish_of bytes lent t).answer ≡ ok_paths c o) where
+  given : finished (ok_paths c o) (left bytes lent t) (finish_of bytes lent t).tray ≡ finish_of bytes lent t
+  given = ap (λ (r : Result Written Refusal). finished r (left bytes lent t) (finish_of bytes lent t).tray) (sym h)
 
   pub left_tellable : Tellable (left bytes lent t)
   left_tellable = tellable bytes lent t (left bytes lent t) (finish_of bytes lent t).tray c o given
@@ -47,7 +48,7 @@ module _ (bytes lent t : List ℕ) (c o : ℕ) (h : (finish_of bytes lent t).ans
       let a = accepted bytes lent t (left bytes lent t) (finish_of bytes lent t).tray c o given in
       let e = words_are bytes lent t (left bytes lent t) (finish_of bytes lent t).tray c o given in
       record {
-        text = ap (λ (r : Written). reasons_as r (left bytes lent t)) h;
+        text = ap (λ (r : Result Written Refusal). reasons_as r (left bytes lent t)) h;
         calls = λ i l. call_told (left bytes lent t) i (record { work = left_tellable; known = l });
         opened = a.from;
         stages = stages bytes lent a.from a.opens;

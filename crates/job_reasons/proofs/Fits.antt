@@ -9,13 +9,16 @@ use lib.Dec.{leb}
 use lib.ListN.{length, drop, length-append}
 use lib.Seq.{take_all}
 use borrow.Author.Tests.{le-leb}
+use Rattle.std.proofs.Common.{Ok, Err}
 use Rattle.job.specs.Refusal.{number_of}
 use Rattle.job.specs.declared.refusal.Refusal.TheVariants.{SmallTray}
 use Rattle.store.specs.Words.{view}
 use Rattle.store.specs.Sound.{recs}
 use Rattle.acts.specs.Finish.{RingsEnd, rings_done, rings_full}
+use Rattle.std.specs.Prelude.{Option, Some, Result, Ok, Err}
+use Rattle.job.specs.declared.refusal.Refusal.{Refusal}
+use Rattle.paths.specs.Wrote.{ok_paths}
 use Rattle.paths.specs.declared.Written.{Written}
-use Rattle.paths.specs.declared.Written.TheVariants.{Paths, Refused}
 use Rattle.paths.specs.Path.{closed_paths, open_paths}
 use Rattle.paths.specs.Tray.{fields_of, padded}
 use Rattle.paths.specs.Wrote.{wrote, build_paths64}
@@ -24,14 +27,10 @@ use Rattle.telling.specs.declared.Reason.TheVariants as reason
 use Rattle.telling.specs.Telling.{reason_at}
 use Rattle.telling.specs.Within.{NumberWithin, ToldWithin}
 use Rattle.telling.proofs.Within.{told_within}
-use Rattle.opening.specs.declared.open.Opened.TheVariants.{Accepted}
-use Rattle.opening.specs.declared.open.Opened.TheVariants as opened
 use Rattle.opening.specs.Open.{End, end, open_of}
 use Rattle.finishing.specs.Finish.{finish_rings}
 use Rattle.finishing.specs.InOneCall.{after_writing, after_steps, after_opening, finish_of}
 use Rattle.finishing.proofs.Refusals.{OpenedTo, open_rows}
-use Rattle.listing.specs.declared.Listed.{Listed}
-use Rattle.listing.specs.declared.Listed.TheVariants.{Bytes}
 use Rattle.text.specs.Text.{SPACE, NEWLINE, digit, decimal}
 use Rattle.listing.specs.Words.{REFUSED}
 use Rattle.listing.specs.Lines.{refused_line}
@@ -119,16 +118,16 @@ module _ (w : List ℕ) (h : Tellable w) where
 -- ---- a job
 
 -- finishing gives rows 1 to 11
-abbrev RefusedTo : ℕ → Written → Type 0
-RefusedTo m (Paths c o) = Unit {0}
-RefusedTo m (Refused x) = number_of x ≤ m
+abbrev RefusedTo : ℕ → Result Written Refusal → Type 0
+RefusedTo m (Ok p) = Unit {0}
+RefusedTo m (Err x) = number_of x ≤ m
 
 module _ (bytes lent t : List ℕ) where
   finish_rows : RefusedTo 11 (finish_of bytes lent t).answer
   unfolding finish_of build_paths64
   finish_rows = go (open_of bytes lent) (open_rows bytes lent)
     where
-      written : (w : List ℕ) (b : Bool) (c o : ℕ) (u : List ℕ) → RefusedTo 11 (after_writing w (cond b (wrote (Paths c o) u) (wrote (Refused SmallTray) t)).answer (cond b (wrote (Paths c o) u) (wrote (Refused SmallTray) t)).tray).answer
+      written : (w : List ℕ) (b : Bool) (c o : ℕ) (u : List ℕ) → RefusedTo 11 (after_writing w (cond b (wrote (ok_paths c o) u) (wrote (Err SmallTray) t)).answer (cond b (wrote (ok_paths c o) u) (wrote (Err SmallTray) t)).tray).answer
       written w true c o u = tt
       written w false c o u = omega arith
 
@@ -137,24 +136,24 @@ module _ (bytes lent t : List ℕ) where
       stepped (rings_full w) = omega arith
 
       go : (r : End) → OpenedTo 10 r → RefusedTo 11 (after_opening r t).answer
-      go (end Accepted w) k = stepped (finish_rings w)
-      go (end (opened.Refused x) w) k = omega (arith, k)
+      go (end (Ok tt) w) k = stepped (finish_rings w)
+      go (end (Err x) w) k = omega (arith, k)
 
   pub reasons_fit : length (reasons_of bytes lent t) ≤ TEXT
   unfolding reasons_of
   reasons_fit = go (finish_of bytes lent t).answer refl finish_rows
     where
-      go : (r : Written) → (finish_of bytes lent t).answer ≡ r → RefusedTo 11 r → length (reasons_as r (finish_of bytes lent t).words) ≤ TEXT
-      go (Paths c o) h k = text_le (finish_of bytes lent t).words (left_tellable bytes lent t c o h)
-      go (Refused x) h k = refused_le (number_of x) (omega (arith, k))
+      go : (r : Result Written Refusal) → (finish_of bytes lent t).answer ≡ r → RefusedTo 11 r → length (reasons_as r (finish_of bytes lent t).words) ≤ TEXT
+      go (Ok p) h k = text_le (finish_of bytes lent t).words (left_tellable bytes lent t p.closed p.«open» h)
+      go (Err x) h k = refused_le (number_of x) (omega (arith, k))
 
 -- a text that has room is told whole
-tell_all : (text out : List ℕ) → length text ≤ length out → tell text out ≡ told (Bytes (length text)) (text ++ drop (length text) out)
+tell_all : (text out : List ℕ) → length text ≤ length out → tell text out ≡ told (Some (length text)) (text ++ drop (length text) out)
 unfolding tell
 tell_all text out h = rw (le-leb (length text) (length out) h, take_all (length out) text h)
 
 -- so `tell_job` answers how long the text is, and the slice begins with it
-pub told_whole : (bytes w t w' t' out out' : List ℕ) (a : Listed) → TEXT ≤ length out → listed_job (told a out') w' t' ≡ tell_job_of bytes w t out
-    → told a out' ≡ told (Bytes (length (reasons_of bytes w t))) (reasons_of bytes w t ++ drop (length (reasons_of bytes w t)) out)
+pub told_whole : (bytes w t w' t' out out' : List ℕ) (a : Option ℕ) → TEXT ≤ length out → listed_job (told a out') w' t' ≡ tell_job_of bytes w t out
+    → told a out' ≡ told (Some (length (reasons_of bytes w t))) (reasons_of bytes w t ++ drop (length (reasons_of bytes w t)) out)
 unfolding tell_job_of reasons_of
 told_whole bytes w t w' t' out out' a h e = ap (λ (x : ListedJob). x.text) e ∙ tell_all (reasons_of bytes w t) out (omega (arith, reasons_fit bytes w t))

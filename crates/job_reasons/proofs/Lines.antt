@@ -9,7 +9,7 @@ use Rattle.store.specs.Words.{Store}
 use Rattle.store.specs.Sound.{recs}
 use Rattle.telling.specs.declared.Reason.{Reason}
 use Rattle.telling.specs.Telling.{reason_at}
-use Rattle.listing.specs.declared.Listed.TheVariants.{Bytes, NoRoom}
+use Rattle.std.specs.Prelude.{Some, None}
 use Rattle.text.specs.Pour.{poured, pour}
 use Rattle.text.specs.Text.{NEWLINE, decimal}
 use Rattle.listing.specs.Told.{told, tell}
@@ -63,8 +63,8 @@ module _ (s : Store) (out₀ out : List ℕ) (k i : ℕ) (g : Going s out₀ out
 -- ---- at the end
 
 module _ (text t u : List ℕ) (k : ℕ) (e : poured k u ≡ pour text 0 t) where
-  pub with_room : k ≤ length u → told (Bytes k) u ≡ tell text t
-  with_room h = told_all text t u k (Bytes k) e (has_room k u h)
+  pub with_room : k ≤ length u → told (Some k) u ≡ tell text t
+  with_room h = told_all text t u k (Some k) e (has_room k u h)
 
-  pub without_room : length u < k → told NoRoom u ≡ tell text t
-  without_room h = told_all text t u k NoRoom e (no_room k u h)
+  pub without_room : length u < k → told None u ≡ tell text t
+  without_room h = told_all text t u k None e (no_room k u h)

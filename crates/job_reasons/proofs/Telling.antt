@@ -11,15 +11,11 @@ use Rattle.store.specs.Field.{BLOCK}
 use Rattle.store.specs.Words.{view}
 use Rattle.store.specs.Sound.{recs}
 use Rattle.handed.proofs.Handing.{handed_sound}
+use Rattle.std.specs.Prelude.{Option, Result, Ok, Err}
 use Rattle.paths.specs.declared.Written.{Written}
-use Rattle.paths.specs.declared.Written.TheVariants.{Paths}
-use Rattle.paths.specs.declared.Written.TheVariants as written
 use Rattle.telling.specs.declared.Reason.{Reason}
-use Rattle.telling.specs.declared.Told.{Told}
-use Rattle.telling.specs.declared.Told.TheVariants.{Because, Refused}
 use Rattle.telling.specs.Telling.{reason_at, reason_of}
 use Rattle.finishing.specs.InOneCall.{Finished, finished, finish_of}
-use Rattle.listing.specs.declared.Listed.{Listed}
 use Rattle.text.specs.Pour.{poured, pour}
 use Rattle.listing.specs.Lines.{refused_line}
 use Rattle.listing.specs.Told as listing
@@ -45,33 +41,33 @@ module _ (w : List ℕ) (i : ℕ) (h : TellableAt w i) where
   pub number_fits : i < 2 ^ 32
   number_fits = omega (arith, h.known, few_records w h.work)
 
-  module _ (a : Told) (e : a ≡ reason_of w i) (at : ℕ) (t : List ℕ) where
-    pub record_told : (x : Reason) (r : ℕ) (u : List ℕ) → a ≡ Because x → poured r u ≡ pour (line_of i x) at t → poured r u ≡ pour (line_of i (reason_at (view w) i)) at t
+  module _ (a : Result Reason Refusal) (e : a ≡ reason_of w i) (at : ℕ) (t : List ℕ) where
+    pub record_told : (x : Reason) (r : ℕ) (u : List ℕ) → a ≡ Ok x → poured r u ≡ pour (line_of i x) at t → poured r u ≡ pour (line_of i (reason_at (view w) i)) at t
     record_told x r u f g =
-        let d : Because x ≡ Because (reason_at (view w) i) = sym f ∙ e ∙ call_told w i h in
+        let d : Ok x ≡ Ok (reason_at (view w) i) = sym f ∙ e ∙ call_told w i h in
         let z : x ≡ reason_at (view w) i = cc in
         g ∙ ap (λ (y : Reason). pour (line_of i y) at t) z
 
     -- a refusal there is not
-    pub never_refused : (x : Refusal) → a ≡ Refused x → poured at t ≡ pour (line_of i (reason_at (view w) i)) at t
+    pub never_refused : (x : Refusal) → a ≡ Err x → poured at t ≡ pour (line_of i (reason_at (view w) i)) at t
     never_refused x f =
-        let d : Refused x ≡ Because (reason_at (view w) i) = sym f ∙ e ∙ call_told w i h in
+        let d : Err x ≡ Ok (reason_at (view w) i) = sym f ∙ e ∙ call_told w i h in
         let z : ◌≡◌ {A = ℕ} 0 1 = cc in
         absurd (omega arith)
 
 -- ---- a job
 
-module _ (bytes w t w' t' : List ℕ) (r : Written) (e : finished r w' t' ≡ finish_of bytes w t) where
-  pub may_tell : (c o : ℕ) → r ≡ Paths c o → Tellable w'
-  may_tell c o h = tellable bytes w t w' t' c o (subst (λ (z : Written). finished z w' t' ≡ finish_of bytes w t) h e)
+module _ (bytes w t w' t' : List ℕ) (r : Result Written Refusal) (e : finished r w' t' ≡ finish_of bytes w t) where
+  pub may_tell : (p : Written) → r ≡ Ok p → Tellable w'
+  may_tell p h = tellable bytes w t w' t' p.closed p.«open» (subst (λ (z : Result Written Refusal). finished z w' t' ≡ finish_of bytes w t) h e)
 
-  module _ (out out' : List ℕ) (a : Listed) where
+  module _ (out out' : List ℕ) (a : Option ℕ) where
     as_told : (text : List ℕ) → reasons_as r w' ≡ text → told a out' ≡ tell text out → listed_job (told a out') w' t' ≡ tell_job_of bytes w t out
     unfolding tell_job_of
     as_told text h g = ap (λ (x : listing.Told). listed_job x w' t') (g ∙ ap (λ (s : List ℕ). tell s out) (sym h)) ∙ ap (λ (f : Finished). told_out f out) e
 
-    pub job_told : (c o : ℕ) → r ≡ Paths c o → told a out' ≡ tell (reasons_text (view w')) out → listed_job (told a out') w' t' ≡ tell_job_of bytes w t out
-    job_told c o h g = as_told (reasons_text (view w')) (ap (λ (z : Written). reasons_as z w') h) g
+    pub job_told : (p : Written) → r ≡ Ok p → told a out' ≡ tell (reasons_text (view w')) out → listed_job (told a out') w' t' ≡ tell_job_of bytes w t out
+    job_told p h g = as_told (reasons_text (view w')) (ap (λ (z : Result Written Refusal). reasons_as z w') h) g
 
-    pub job_refused : (x : Refusal) (n : ℕ) → r ≡ written.Refused x → n ≡ number_of x → told a out' ≡ tell (refused_line n) out → listed_job (told a out') w' t' ≡ tell_job_of bytes w t out
-    job_refused x n h k g = as_told (refused_line n) (ap (λ (z : Written). reasons_as z w') h ∙ ap refused_line (sym k)) g
+    pub job_refused : (x : Refusal) (n : ℕ) → r ≡ Err x → n ≡ number_of x → told a out' ≡ tell (refused_line n) out → listed_job (told a out') w' t' ≡ tell_job_of bytes w t out
+    job_refused x n h k g = as_told (refused_line n) (ap (λ (z : Result Written Refusal). reasons_as z w') h ∙ ap refused_line (sym k)) g

@@ -2,7 +2,7 @@
 use Rattle.std.specs.Prelude.{◌≡◌, List, ℕ, ◌<◌}
 use Rattle.store.specs.Words.{view}
 use Rattle.store.specs.Sound.{recs}
-use Rattle.telling.specs.declared.Told.TheVariants.{Because}
+use Rattle.std.specs.Prelude.{Ok}
 use Rattle.telling.specs.Telling.{reason_at, reason_of}
 use Rattle.finishing.specs.Run.{run_of}
 use Rattle.finishing.specs.InOneCall.{finish_of}
@@ -21,7 +21,7 @@ module _ (bytes lent t : List ℕ) where
     -- the text is the lines of their records
     pub text : reasons_of bytes lent t ≡ reasons_text (view left)
     -- a line's reason is what the call tells: below the count it is never refused
-    pub calls : (i : ℕ) → i < recs (view left) → reason_of left i ≡ Because (reason_at (view left) i)
+    pub calls : (i : ℕ) → i < recs (view left) → reason_of left i ≡ Ok (reason_at (view left) i)
     -- what opening left, stage by stage, and the steps since
     pub opened : List ℕ
     pub stages : Stages bytes lent opened

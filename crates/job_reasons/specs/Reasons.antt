@@ -2,8 +2,9 @@
 use Rattle.std.specs.Prelude.{ℕ, List, length}
 use Rattle.job.specs.Refusal.{number_of}
 use Rattle.store.specs.Words.{view}
+use Rattle.std.specs.Prelude.{Result, Ok, Err}
+use Rattle.job.specs.declared.refusal.Refusal.{Refusal}
 use Rattle.paths.specs.declared.Written.{Written}
-use Rattle.paths.specs.declared.Written.TheVariants.{Paths, Refused}
 use Rattle.listing.specs.Lines.{refused_line}
 use Rattle.listing.specs.Told.{tell}
 use Rattle.finishing.specs.InOneCall.{Finished, finish_of}
@@ -11,9 +12,9 @@ use Rattle.job_listing.specs.Cutlist.{ListedJob, listed_job}
 use Rattle.job_reasons.specs.Lines.{reasons_text}
 
 -- of the answer and the words
-abbrev pub reasons_as : Written → List ℕ → List ℕ
-reasons_as (Paths closed open') w = reasons_text (view w)
-reasons_as (Refused x) w = refused_line (number_of x)
+abbrev pub reasons_as : Result Written Refusal → List ℕ → List ℕ
+reasons_as (Ok p) w = reasons_text (view w)
+reasons_as (Err x) w = refused_line (number_of x)
 
 abbrev pub reasons_from : Finished → List ℕ
 reasons_from f = reasons_as f.answer f.words

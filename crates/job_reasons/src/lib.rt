@@ -15,10 +15,8 @@ ghost use Rattle.job_reasons.specs.Reasons.{tell_job_of};
 
 use finishing::finish::finish;
 use job::Job;
-use listing::Listed;
-use paths::Written;
 use store::{Col, get};
-use telling::{Reason, Told, reason_of};
+use telling::{Reason, reason_of};
 use text::{put, put_decimal, put_text};
 
 // A slice of so many bytes has room for the text of any job.
@@ -82,10 +80,9 @@ fn put_record(w: &[u32], i: usize, out: &mut [u8], at: usize) -> usize
     requires { TellableAt w.now i }
     ensures { poured result out.new ≡ pour (line_of i (reason_at (view w.now) i)) at out.old }
 {
-    let a = reason_of(w, i as u32);
-    match a {
-        Told::Because(x) => put_line(out, at, i, x),
-        Told::Refused(_) => at,
+    match reason_of(w, i as u32) {
+        Ok(x) => put_line(out, at, i, x),
+        Err(_) => at,
     }
 }
 
@@ -96,38 +93,29 @@ fn put_records(w: &[u32], out: &mut [u8]) -> usize
 {
     let n = get(w, Col::Records, 0);
     let mut k: usize = 0;
-    let mut i: usize = 0;
-    while i < n {
+    for i in 0..n {
         k = put_record(w, i, out, k);
-        i += 1;
     }
     k
 }
 
-fn tell_records(w: &[u32], out: &mut [u8]) -> Listed
+fn tell_records(w: &[u32], out: &mut [u8]) -> Option<usize>
     requires { Tellable w.now }
     ensures { told result out.new ≡ tell (reasons_text (view w.now)) out.old }
 {
     let k = put_records(w, out);
-    if k <= out.len() {
-        return Listed::Bytes(k);
-    }
-    Listed::NoRoom
+    if k <= out.len() { Some(k) } else { None }
 }
 
 // ---- a job
 
 // Where each record of a job went, in a lent slice: the answer, every word and every byte left. `TEXT` bytes are always room enough (`reasons_fit`), the first `prefix::DECIDES`
 // bytes of an input are enough (`reasons_decided`), and each line tells the rule that in fact ended the ring (`in_fact`).
-pub fn tell_job(job: &[u8], work: &mut [u32], tray: &mut [u8], text: &mut [u8]) -> Listed
+pub fn tell_job(job: &[u8], work: &mut [u32], tray: &mut [u8], text: &mut [u8]) -> Option<usize>
     ensures { listed_job (told result text.new) work.new tray.new ≡ tell_job_of job.now work.old tray.old text.old }
 {
-    let a = finish(job, work, tray);
-    match a {
-        Written::Paths { closed, open } => tell_records(work, text),
-        Written::Refused(x) => {
-            let n = x.number();
-            listing::refusal(n, text)
-        }
+    match finish(job, work, tray) {
+        Ok(_) => tell_records(work, text),
+        Err(x) => listing::refusal(x.number(), text),
     }
 }

@@ -8,6 +8,7 @@ use native.Mathlib.Omega.{arith}
 use lib.Dec.{eqb, ltb}
 use lib.ListN.{get_or}
 use borrow.Author.Tests.{eq-eqb, ne_eqb, eqb-true, eqb-false, ltb-true, ltb-false}
+use Rattle.std.proofs.Common.{Ok, Err}
 use Rattle.job.specs.Limits as limit
 use Rattle.rings.specs.Circle.{turn, rest}
 use Rattle.rings.specs.Count.{occ}
@@ -22,7 +23,7 @@ use Rattle.store.specs.Field.{pt, rc, NEXT, PREV, FIRST, NONE}
 use Rattle.store.specs.Words.{Store, view}
 use Rattle.store.specs.Named.{next_of, prev_of, records_of}
 use Rattle.store.specs.Sound.{pts, recs, ring_at}
-use Rattle.joins.specs.declared.Joined.TheVariants.{Done, Knot, Full}
+use Rattle.joins.specs.declared.JoinError.TheVariants.{Knot, Full}
 use Rattle.joins.specs.Resolve.{home_of}
 use Rattle.joins.specs.Resolved.{Resolved}
 use Rattle.joins.specs.Join.{JoinEnd, end, split_ring, split_of, merge_of, by_records, join_of, follow, joins_from, process_horz_joins}
@@ -262,7 +263,7 @@ split_rings : (w : List ℕ) (a c : ℕ) → Unknotted w a c (home_of w a) (home
 unfolding split_of
 split_rings w a c t e d = go (ltb (records_of w) limit.RECORDS) refl
   where
-    go : (b : Bool) → ltb (records_of w) limit.RECORDS ≡ b → AsRings w a c (cond b (end Done (split_ring w a c (home_of w a) (records_of w))) (end Full w))
+    go : (b : Bool) → ltb (records_of w) limit.RECORDS ≡ b → AsRings w a c (cond b (end (Ok tt) (split_ring w a c (home_of w a) (records_of w))) (end (Err Full) w))
     go true f = (d, inl (e, split_ring_rings w a c (home_of w a) (records_of w) t refl (ltb-true _ _ f)))
     go false f = (refl, d, e, omega (arith, ltb-false (records_of w) limit.RECORDS f, t.ready.resolved.few_records))
 
@@ -270,7 +271,7 @@ by_rings : (w : List ℕ) (a c : ℕ) → Unknotted w a c (home_of w a) (home_of
 unfolding by_records
 by_rings w a c t d = go (eqb (home_of w a) (home_of w c)) refl
   where
-    go : (b : Bool) → eqb (home_of w a) (home_of w c) ≡ b → AsRings w a c (cond b (split_of w a c (home_of w a)) (end Done (merge_of w a c (home_of w a) (home_of w c))))
+    go : (b : Bool) → eqb (home_of w a) (home_of w c) ≡ b → AsRings w a c (cond b (split_of w a c (home_of w a)) (end (Ok tt) (merge_of w a c (home_of w a) (home_of w c))))
     go true e = split_rings w a c (pair_same w a c (home_of w a) (home_of w c) t (eqb-true _ _ e)) (eqb-true _ _ e) d
     go false e = (d, inr (eqb-false _ _ e, merge_rings w a c (home_of w a) (home_of w c) t (eqb-false _ _ e)))
 
@@ -279,7 +280,7 @@ pub join_rings : (w : List ℕ) (a c : ℕ) → Points w a c → AsRings w a c (
 unfolding join_of
 join_rings w a c t = go (eqb (next_of w a) c) refl
   where
-    go : (b : Bool) → eqb (next_of w a) c ≡ b → AsRings w a c (cond b (end Knot w) (by_records w a c (home_of w a) (home_of w c)))
+    go : (b : Bool) → eqb (next_of w a) c ≡ b → AsRings w a c (cond b (end (Err Knot) w) (by_records w a c (home_of w a) (home_of w c)))
     go true e = (refl, eqb-true _ _ e)
     go false e = by_rings w a c (points_pair w a c t (next_of w a) (home_of w a) (home_of w c) refl (eqb-false _ _ e) refl refl) (eqb-false _ _ e)
 
@@ -289,15 +290,15 @@ join_rings w a c t = go (eqb (next_of w a) c) refl
 abbrev turn_of : List ℕ → ℕ → List ℕ → JoinEnd
 turn_of js k x = join_of x (get_or js (2 * k) 0) (get_or js (2 * k + 1) 0)
 
-follow_none : (g : List ℕ → JoinEnd) → ((x : List ℕ) → g x ≡ end Done x) → (e : JoinEnd) → follow g e ≡ e
-follow_none g h (end Done w) = h w
-follow_none g h (end Knot w) = refl
-follow_none g h (end Full w) = refl
+follow_none : (g : List ℕ → JoinEnd) → ((x : List ℕ) → g x ≡ end (Ok tt) x) → (e : JoinEnd) → follow g e ≡ e
+follow_none g h (end (Ok tt) w) = h w
+follow_none g h (end (Err Knot) w) = refl
+follow_none g h (end (Err Full) w) = refl
 
 follow_two : (g h k : List ℕ → JoinEnd) → ((x : List ℕ) → k x ≡ follow h (g x)) → (e : JoinEnd) → follow k e ≡ follow h (follow g e)
-follow_two g h k f (end Done w) = f w
-follow_two g h k f (end Knot w) = refl
-follow_two g h k f (end Full w) = refl
+follow_two g h k f (end (Ok tt) w) = f w
+follow_two g h k f (end (Err Knot) w) = refl
+follow_two g h k f (end (Err Full) w) = refl
 
 -- the last of f + 1 joins comes after the f before it
 last_turn : (f i : ℕ) (js w : List ℕ) → joins_from (suc f) i js w ≡ follow (turn_of js (i + f)) (joins_from f i js w)
@@ -308,7 +309,7 @@ last_turn (suc f) i js w =
     (λ x. last_turn f (i + 1) js x ∙ ap (λ (k : ℕ). follow (turn_of js k) (joins_from f (i + 1) js x)) (let e : i + 1 + f ≡ i + suc f = omega arith in e)) (turn_of js i w)
 
 -- THE THEOREM: of every join of a list at its turn
-pub at_turn : (n : ℕ) (js w : List ℕ) → Joins w n js → (k : ℕ) → k < n → (x : List ℕ) → process_horz_joins k js w ≡ end Done x → AtTurn k js w x
+pub at_turn : (n : ℕ) (js w : List ℕ) → Joins w n js → (k : ℕ) → k < n → (x : List ℕ) → process_horz_joins k js w ≡ end (Ok tt) x → AtTurn k js w x
 at_turn n js w t k h x e =
     let b : Joins w k js = record { ready = t.ready; fits = omega (arith, t.fits); points = λ i l. t.points i (omega arith) } in
     let s : Still w x = subst (λ (z : JoinEnd). Still w (words z)) e (joins_kept k js w b) in

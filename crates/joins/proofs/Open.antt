@@ -8,11 +8,12 @@ use lib.Dec.{eqb, ltb}
 use lib.ListN.{get_or}
 use native.Mathlib.Decide.{dec_lt}
 use borrow.Author.Tests.{eqb-true, eqb-false, ltb-true}
+use Rattle.std.proofs.Common.{Ok, Err}
 use Rattle.job.specs.Limits as limit
 use Rattle.store.specs.Words.{Store, view}
 use Rattle.store.specs.Named.{next_of, records_of}
 use Rattle.store.specs.Sound.{recs, is_open}
-use Rattle.joins.specs.declared.Joined.TheVariants.{Done, Knot, Full}
+use Rattle.joins.specs.declared.JoinError.TheVariants.{Knot, Full}
 use Rattle.joins.specs.Resolve.{home_of}
 use Rattle.joins.specs.Join.{JoinEnd, end, split_ring, split_of, merge_of, by_records, join_of, follow, joins_from, process_horz_joins}
 use Rattle.joins.specs.Needs.{Points, Unknotted, Joins}
@@ -56,7 +57,7 @@ split_open : (w : List ℕ) (a c i : ℕ) → Unknotted w a c i i → is_open (v
 unfolding split_of
 split_open w a c i t e = go (ltb (records_of w) limit.RECORDS) refl
   where
-    go : (b : Bool) → ltb (records_of w) limit.RECORDS ≡ b → OpenKept (view w) (view (words (cond b (end Done (split_ring w a c i (records_of w))) (end Full w))))
+    go : (b : Bool) → ltb (records_of w) limit.RECORDS ≡ b → OpenKept (view w) (view (words (cond b (end (Ok tt) (split_ring w a c i (records_of w))) (end (Err Full) w))))
     go true f = split_ring_open w a c i (records_of w) t refl (ltb-true _ _ f) e
     go false f = opened_self (view w)
 
@@ -64,7 +65,7 @@ by_open : (w : List ℕ) (a c i j : ℕ) → Unknotted w a c i j → is_open (vi
 unfolding by_records
 by_open w a c i j t e f = go (eqb i j) refl
   where
-    go : (b : Bool) → eqb i j ≡ b → OpenKept (view w) (view (words (cond b (split_of w a c i) (end Done (merge_of w a c i j)))))
+    go : (b : Bool) → eqb i j ≡ b → OpenKept (view w) (view (words (cond b (split_of w a c i) (end (Ok tt) (merge_of w a c i j)))))
     go true g = split_open w a c i (pair_same w a c i j t (eqb-true i j g)) e
     go false g = merge_open w a c i j t (eqb-false i j g) e f
 
@@ -72,16 +73,16 @@ pub join_open : (w : List ℕ) (a c : ℕ) → Points w a c → Shut (view w) a 
 unfolding join_of
 join_open w a c t e f = go (eqb (next_of w a) c) refl
   where
-    go : (b : Bool) → eqb (next_of w a) c ≡ b → OpenKept (view w) (view (words (cond b (end Knot w) (by_records w a c (home_of w a) (home_of w c)))))
+    go : (b : Bool) → eqb (next_of w a) c ≡ b → OpenKept (view w) (view (words (cond b (end (Err Knot) w) (by_records w a c (home_of w a) (home_of w c)))))
     go true g = opened_self (view w)
     go false g =
         let p = points_pair w a c t (next_of w a) (home_of w a) (home_of w c) refl (eqb-false (next_of w a) c g) refl refl in
         by_open w a c (home_of w a) (home_of w c) p (e (home_of w a) p.one) (f (home_of w c) p.two)
 
 follow_open : (g : List ℕ → JoinEnd) (w : List ℕ) (e : JoinEnd) → Still w (words e) → OpenKept (view w) (view (words e)) → ((x : List ℕ) → Still w x → OpenKept (view w) (view x) → OpenKept (view x) (view (words (g x)))) → OpenKept (view w) (view (words (follow g e)))
-follow_open g w (end Done x) s o f = opened_on (view w) (view x) (view (words (g x))) o (f x s o)
-follow_open g w (end Knot x) s o f = o
-follow_open g w (end Full x) s o f = o
+follow_open g w (end (Ok tt) x) s o f = opened_on (view w) (view x) (view (words (g x))) o (f x s o)
+follow_open g w (end (Err Knot) x) s o f = o
+follow_open g w (end (Err Full) x) s o f = o
 
 list_open : (f i n : ℕ) (js w : List ℕ) → Joins w n js → ((k : ℕ) → k < 2 * n → Shut (view w) (get_or js k 0)) → i + f ≡ n → OpenKept (view w) (view (words (joins_from f i js w)))
 unfolding joins_from

@@ -1,6 +1,6 @@
 -- What a join does, as rings: lists of points, each from its record's first point in walk order. Document 01: "In a join, one record for both points gives a new record owned by
 -- the first; two records empty the second, now owned by the first." Here a is op1 and c is op2; s is the store before, u the store after.
-use Rattle.std.specs.Prelude.{ℕ, suc, ◌+◌, ◌*◌, ◌<◌, ◌≡◌, ◌≢◌, ◌⊎◌, false, cond, List, [], ◌∷◌, ◌++◌, eqb, ltb, get_or}
+use Rattle.std.specs.Prelude.{ℕ, suc, ◌+◌, ◌*◌, ◌<◌, ◌≡◌, ◌≢◌, ◌⊎◌, false, cond, List, [], ◌∷◌, ◌++◌, eqb, ltb, get_or, Ok, Err}
 use Rattle.job.specs.Limits as limit
 use Rattle.rings.specs.Circle.{turn, rest}
 use Rattle.rings.specs.Count.{occ}
@@ -9,7 +9,7 @@ use Rattle.store.specs.Reason.{JOINED}
 use Rattle.store.specs.Words.{Store, view}
 use Rattle.store.specs.Named.{next_of, records_of}
 use Rattle.store.specs.Sound.{pts, recs, ringless, ring_at, is_open}
-use Rattle.joins.specs.declared.Joined.TheVariants.{Done, Knot, Full}
+use Rattle.joins.specs.declared.JoinError.TheVariants.{Knot, Full}
 use Rattle.joins.specs.Resolve.{home_of}
 use Rattle.joins.specs.Join.{JoinEnd, end, join_of, process_horz_joins}
 
@@ -100,9 +100,9 @@ OneOrTwo w x a c i j = ((i ≡ j) × OneRecord (view w) (view x) a c i) ⊎ ((i 
 
 -- rows 9 and 10, which leave all as it was, or one of the two cases
 abbrev pub AsRings : List ℕ → ℕ → ℕ → JoinEnd → Type 0
-AsRings w a c (end Knot x) = (x ≡ w) × (next_of w a ≡ c)
-AsRings w a c (end Full x) = (x ≡ w) × (next_of w a ≢ c) × (home_of w a ≡ home_of w c) × (records_of w ≡ limit.RECORDS)
-AsRings w a c (end Done x) = (next_of w a ≢ c) × OneOrTwo w x a c (home_of w a) (home_of w c)
+AsRings w a c (end (Err Knot) x) = (x ≡ w) × (next_of w a ≡ c)
+AsRings w a c (end (Err Full) x) = (x ≡ w) × (next_of w a ≢ c) × (home_of w a ≡ home_of w c) × (records_of w ≡ limit.RECORDS)
+AsRings w a c (end (Ok tt) x) = (next_of w a ≢ c) × OneOrTwo w x a c (home_of w a) (home_of w c)
 
 -- join number k of a list, when the k before it are done and have left x: it is made next, on those words, as above
 pub record AtTurn (k : ℕ) (js w x : List ℕ) : Type 0 where

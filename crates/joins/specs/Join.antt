@@ -1,27 +1,18 @@
 -- Joins (`process_horz_joins`), as equations over the words: document 01, "Segment and join".
-use Rattle.std.specs.Prelude.{ℕ, zero, suc, ◌+◌, ◌*◌, cond, List, [], ◌∷◌, ltb, eqb, get_or}
-use Rattle.std.proofs.Math.Option.{Option, none, some}
+use Rattle.std.specs.Prelude.{ℕ, zero, suc, ◌+◌, ◌*◌, cond, List, [], ◌∷◌, ltb, eqb, get_or, Result, Ok, Err}
 use Rattle.job.specs.Limits as limit
-use Rattle.job.specs.declared.refusal.Refusal.{Refusal}
-use Rattle.job.specs.declared.refusal.Refusal.TheVariants as refusal
 use Rattle.store.specs.Field.{pt, rc, ct, NEXT, PREV, REC, FLAGS, OWNER, FIRST, REASON, TAKER, RECORDS, NONE}
 use Rattle.store.specs.Reason.{JOINED}
 use Rattle.store.specs.Words.{Store, view, Write, write, on_words}
 use Rattle.store.specs.Named.{next_of, rec_of, first_of, records_of, set_rec}
 use Rattle.store.specs.Sound.{ring_at}
-use Rattle.joins.specs.declared.Joined.{Joined}
-use Rattle.joins.specs.declared.Joined.TheVariants.{Done, Knot, Full}
+use Rattle.joins.specs.declared.JoinError.{JoinError}
+use Rattle.joins.specs.declared.JoinError.TheVariants.{Knot, Full}
 use Rattle.joins.specs.Resolve.{home_of}
 
 -- the answer, and the words that it leaves
 pub data JoinEnd : Type 0 where
-  end : Joined → List ℕ → JoinEnd
-
--- the row of document 01's table that an answer is, if any
-abbrev pub refusal_of : Joined → Option Refusal
-refusal_of Done = none
-refusal_of Knot = some refusal.Knot
-refusal_of Full = some refusal.Full
+  end : Result (Unit {0}) JoinError → List ℕ → JoinEnd
 
 -- ---- what is written, in the program's order, every value read before the first write
 
@@ -71,28 +62,27 @@ split_ring w a c i k = move_first (fix_outrec_pts (new_out_rec (relink_of w a c)
 
 -- if there is room for a record
 unfoldable pub split_of : List ℕ → ℕ → ℕ → ℕ → JoinEnd
-split_of w a c i = cond (ltb (records_of w) limit.RECORDS) (end Done (split_ring w a c i (records_of w))) (end Full w)
+split_of w a c i = cond (ltb (records_of w) limit.RECORDS) (end (Ok tt) (split_ring w a c i (records_of w))) (end (Err Full) w)
 
 -- "two records empty the second, now owned by the first"
 unfoldable pub merge_of : List ℕ → ℕ → ℕ → ℕ → ℕ → List ℕ
 merge_of w a c i j = on_words (relink_of w a c) (empty_writes j i)
 
 unfoldable pub by_records : List ℕ → ℕ → ℕ → ℕ → ℕ → JoinEnd
-by_records w a c i j = cond (eqb i j) (split_of w a c i) (end Done (merge_of w a c i j))
+by_records w a c i j = cond (eqb i j) (split_of w a c i) (end (Ok tt) (merge_of w a c i j))
 
 -- a join of op1 = a and op2 = c at its turn: a knot where a's next is c already
 unfoldable pub join_of : List ℕ → ℕ → ℕ → JoinEnd
-join_of w a c = cond (eqb (next_of w a) c) (end Knot w) (by_records w a c (home_of w a) (home_of w c))
+join_of w a c = cond (eqb (next_of w a) c) (end (Err Knot) w) (by_records w a c (home_of w a) (home_of w c))
 
 -- the rest of the joins, unless one was refused
 abbrev pub follow : (List ℕ → JoinEnd) → JoinEnd → JoinEnd
-follow k (end Done w) = k w
-follow k (end Knot w) = end Knot w
-follow k (end Full w) = end Full w
+follow k (end (Ok tt) w) = k w
+follow k (end (Err e) w) = end (Err e) w
 
 -- f joins from number i on; js holds their points two by two
 unfoldable pub joins_from : ℕ → ℕ → List ℕ → List ℕ → JoinEnd
-joins_from zero i js w = end Done w
+joins_from zero i js w = end (Ok tt) w
 joins_from (suc f) i js w = follow (joins_from f (i + 1) js) (join_of w (get_or js (2 * i) 0) (get_or js (2 * i + 1) 0))
 
 -- process_horz_joins over n joins

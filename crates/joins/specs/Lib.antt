@@ -1,4 +1,5 @@
 -- Definitions of level segments and joins: resolving, the invariant, joins.
+pub mod Error
 pub mod Resolve
 pub mod Paths
 pub mod Resolved

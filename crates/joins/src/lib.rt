@@ -5,19 +5,31 @@ ghost use Rattle.std.specs.Prelude.{◌≡◌, ◌+◌, ◌<◌, ◌≤◌, leng
 ghost use Rattle.job.specs.Limits as limit;
 ghost use Rattle.store.specs.Field.{BLOCK};
 ghost use Rattle.store.specs.Named.{records_of, first_of};
+ghost use Rattle.joins.specs.Error.{row_of};
 ghost use Rattle.joins.specs.Resolve.{get_real_outrec, home_of};
 ghost use Rattle.joins.specs.Needs.{Resolving, Point, Points, Four, Ringed, Unknotted, Joins};
 ghost use Rattle.joins.specs.Join.{end, relink_of, new_out_rec, fix_outrec_pts, move_first, split_ring, split_of, merge_of, by_records, join_of, process_horz_joins};
 
 use job::Job;
+use job::refusal::Refusal;
 use store::{Col, JOINED, NONE, get, set};
 
-// How a join, or the list of them, ends: done, or refused as a knot (9) or full (10).
-#[derive(Clone, Copy)]
-pub enum Joined {
-    Done,
+// Why a join is refused: it is a knot (9), or there is no room for a record (10).
+#[derive(Clone, Copy, PartialEq, Eq, Debug)]
+pub enum JoinError {
     Knot,
     Full,
+}
+
+impl From<JoinError> for Refusal {
+    ghost from_gives = { λ e r. r ≡ row_of e };
+
+    fn from(e: JoinError) -> Refusal {
+        match e {
+            JoinError::Knot => Refusal::Knot,
+            JoinError::Full => Refusal::Full,
+        }
+    }
 }
 
 // The first with points among r and its owners.
@@ -27,6 +39,7 @@ fn get_real_outrec(w: &[u32], r: usize) -> usize
 {
     let mut q = r;
     let mut f = get(w, Col::First, q);
+    // along the owners: no index is counted
     while f == NONE {
         q = get(w, Col::Owner, q);
         f = get(w, Col::First, q);
@@ -74,6 +87,7 @@ fn fix_outrec_pts(w: &mut [u32], k: usize)
 {
     let start = get(w, Col::First, k);
     let mut p = start;
+    // round the ring, at least once: no index is counted
     loop {
         set(w, Col::Rec, p, k);
         p = get(w, Col::Next, p);
@@ -121,19 +135,19 @@ fn split_ring(w: &mut [u32], op1: usize, op2: usize, i: usize, k: usize)
 }
 
 // The same, if there is room for a record.
-fn split(w: &mut [u32], op1: usize, op2: usize, i: usize) -> Joined
+fn split(w: &mut [u32], op1: usize, op2: usize, i: usize) -> Result<(), JoinError>
     requires { Unknotted w.old op1 op2 i i }
     ensures { end result w.new ≡ split_of w.old op1 op2 i }
 {
     let k = get(w, Col::Records, 0);
     if k < Job::RECORDS {
         split_ring(w, op1, op2, i, k);
-        return Joined::Done;
+        return Ok(());
     }
-    Joined::Full
+    Err(JoinError::Full)
 }
 
-fn by_records(w: &mut [u32], op1: usize, op2: usize, i: usize, j: usize) -> Joined
+fn by_records(w: &mut [u32], op1: usize, op2: usize, i: usize, j: usize) -> Result<(), JoinError>
     requires { Unknotted w.old op1 op2 i j }
     ensures { end result w.new ≡ by_records w.old op1 op2 i j }
 {
@@ -141,17 +155,17 @@ fn by_records(w: &mut [u32], op1: usize, op2: usize, i: usize, j: usize) -> Join
         return split(w, op1, op2, i);
     }
     merge(w, op1, op2, i, j);
-    Joined::Done
+    Ok(())
 }
 
 // A join at its turn.
-fn join(w: &mut [u32], op1: usize, op2: usize) -> Joined
+fn join(w: &mut [u32], op1: usize, op2: usize) -> Result<(), JoinError>
     requires { Points w.old op1 op2 }
     ensures { end result w.new ≡ join_of w.old op1 op2 }
 {
     let n = get(w, Col::Next, op1);
     if n == op2 {
-        return Joined::Knot;
+        return Err(JoinError::Knot);
     }
     let i = home(w, op1);
     let j = home(w, op2);
@@ -167,26 +181,14 @@ pub fn point_at(list: &[u32], k: usize) -> usize
 }
 
 // The joins in order, up to the first that is refused. Their points stand two by two.
-pub fn process_horz_joins(w: &mut [u32], joins: &[u32], n: usize) -> Joined
+pub fn process_horz_joins(w: &mut [u32], joins: &[u32], n: usize) -> Result<(), JoinError>
     requires { Joins w.old n joins.now }
     ensures { end result w.new ≡ process_horz_joins n joins.now w.old }
 {
-    let mut i = 0;
-    while i < n {
+    for i in 0..n {
         let a = point_at(joins, 2 * i);
         let b = point_at(joins, 2 * i + 1);
-        let t = join(w, a, b);
-        match t {
-            Joined::Done => {
-                i += 1;
-            }
-            Joined::Knot => {
-                return Joined::Knot;
-            }
-            Joined::Full => {
-                return Joined::Full;
-            }
-        }
+        join(w, a, b)?;
     }
-    Joined::Done
+    Ok(())
 }

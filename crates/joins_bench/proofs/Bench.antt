@@ -6,16 +6,17 @@ use mathlib.Core.List.{List, [], ◌∷◌, ◌++◌}
 use mathlib.Core.Option.{Option, none, some}
 use lib.Dec.{eqb}
 use lib.ListN.{replicate}
+use Rattle.std.proofs.Common.{Ok, Err}
 use Rattle.store.specs.Field.{pt, rc, ct, NEXT, PREV, REC, OWNER, FIRST, POINTS, RECORDS, BLOCK, NONE}
 use Rattle.store.specs.Words.{cell, put, Write, write, on_words, view}
 use Rattle.store.specs.Named.{owner_of, records_of, kept_of, taker_of}
 use Rattle.store.specs.Reason.{JOINED}
 use Rattle.store.specs.Sound.{ring_at}
 use Rattle.rings.specs.Walk.{run}
-use Rattle.job.specs.declared.refusal.Refusal.{Refusal}
 use Rattle.job.specs.Refusal.{number_of}
 use Rattle.joins.specs.Resolve.{find_in}
-use Rattle.joins.specs.Join.{JoinEnd, end, refusal_of, relink_of, new_out_rec, name_all, fix_outrec_pts, move_first, split_ring, split_of, merge_of, by_records, join_of, joins_from, process_horz_joins}
+use Rattle.joins.specs.Error.{row_of}
+use Rattle.joins.specs.Join.{JoinEnd, end, relink_of, new_out_rec, name_all, fix_outrec_pts, move_first, split_ring, split_of, merge_of, by_records, join_of, joins_from, process_horz_joins}
 use Rattle.joins.specs.AsRings.{goes, stays, seen_from, first_left, spliced}
 
 -- from point c of record r's ring on by l, and back to f
@@ -56,12 +57,9 @@ abbrev pub left_from : List ℕ → ℕ → ℕ → List Left
 left_from w i zero = []
 left_from w i (suc n) = record { owner = owner_of w i; ring = ring_at (view w) i; taker = taker w i } ∷ left_from w (i + 1) n
 
-abbrev pub answer_by : List ℕ → Option Refusal → Answer
-answer_by w none = joined (left_from w 0 (records_of w))
-answer_by w (some r) = refused (number_of r)
-
 abbrev pub answer_of : JoinEnd → Answer
-answer_of (end t w) = answer_by w (refusal_of t)
+answer_of (end (Ok tt) w) = joined (left_from w 0 (records_of w))
+answer_of (end (Err e) w) = refused (number_of (row_of e))
 
 -- a job of rings with `points` points, its joins two by two, and the answer
 pub record Example : Type 0 where

@@ -8,24 +8,22 @@ use native.Mathlib.Omega.{arith}
 use lib.Dec.{eqb, ltb}
 use lib.ListN.{length}
 use borrow.Author.Tests.{eq-eqb, le-ltb}
+use Rattle.std.specs.Prelude.{Ok}
 use Rattle.job.specs.Limits as limit
 use Rattle.store.specs.Field.{rc, FIRST, PRESENT, CUT, REASON, NONE, LENGTH}
 use Rattle.store.specs.Words.{view}
 use Rattle.store.specs.Sound.{pts, recs, ringless, is_open}
 use Rattle.store.specs.Reason.{JOINED}
 use Rattle.audit.proofs.Saying.{all_none}
-use Rattle.audit.specs.declared.Verdict.TheVariants.{Passed}
 use Rattle.handed.specs.Handed.{tested_of}
 use Rattle.handed.proofs.Handing.{usable_handed, says_tested}
 use Rattle.joins.specs.Resolved.{Emptied}
-use Rattle.opening.specs.declared.open.Opened.TheVariants.{Accepted}
 use Rattle.opening.specs.Open.{end, open_of}
 use Rattle.opening.specs.After.{AfterOpening}
 use Rattle.opening.proofs.Accepted.{after_opening_lem}
 use Rattle.finishing.specs.Start.{Start}
 use Rattle.finishing.proofs.Starting.{start_usable}
 use Rattle.finishing.proofs.InOneCall.{opening_left}
-use Rattle.audit.specs.declared.Reply.TheVariants.{Done}
 use Rattle.audit.specs.Left.{Left, left}
 use Rattle.pooling.specs.Words.{pooled_words}
 use Rattle.laying.specs.Lay.{settings_byte, is_at_start, is_discarded, is_stepped, any_stepped, lay_of}
@@ -57,11 +55,11 @@ module _ (w : List ℕ) (a : AfterOpening w) where
   unfolding any_stepped
   none_stepped = all_none (recs (view w)) (is_stepped (view w)) fresh_record
 
-passes : (w : List ℕ) → Start w → tested_of w ≡ Passed
+passes : (w : List ℕ) → Start w → tested_of w ≡ Ok tt
 passes w o = says_tested w (tested_of w) o.long refl ∙ usable_handed w (start_usable w o)
 
-module _ (bytes bytes' lent lent' w v : List ℕ) (e : open_of bytes lent ≡ end Accepted w) (f : open_of bytes' lent' ≡ end Accepted v) (s : settings_byte (view w) ≡ settings_byte (view v)) (fit : BothFit (view w) (view v)) where
-  pub jobs_together : lay_of w v ≡ left Done (pooled_words w v)
+module _ (bytes bytes' lent lent' w v : List ℕ) (e : open_of bytes lent ≡ end (Ok tt) w) (f : open_of bytes' lent' ≡ end (Ok tt) v) (s : settings_byte (view w) ≡ settings_byte (view v)) (fit : BothFit (view w) (view v)) where
+  pub jobs_together : lay_of w v ≡ left (Ok tt) (pooled_words w v)
   jobs_together =
       let a : AfterOpening w = after_opening_lem w bytes lent e in
       let b : AfterOpening v = after_opening_lem v bytes' lent' f in

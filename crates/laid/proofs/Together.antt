@@ -9,6 +9,7 @@ use native.Mathlib.Decide.{ℕ_discrete}
 use lib.Dec.{eqb, ltb}
 use lib.ListN.{length, drop}
 use borrow.Author.Tests.{eqb-true, ltb-false, eq-eqb, ne_eqb}
+use Rattle.std.specs.Prelude.{Ok}
 use Rattle.job.specs.Limits as limit
 use Rattle.store.specs.Field.{rc, ct, FIRST, MARK, PRESENT, CUT, SETTINGS, NONE, BLOCK, LENGTH}
 use Rattle.store.specs.Words.{Store, view}
@@ -16,8 +17,6 @@ use Rattle.store.specs.Sound.{pts, recs, ringless, is_open}
 use Rattle.store.specs.Good.{Sound}
 use Rattle.store.specs.Boxes.{Boxed}
 use Rattle.store.specs.States.{BYTES, Apart}
-use Rattle.audit.specs.declared.Verdict.TheVariants as verdict
-use Rattle.audit.specs.declared.Reply.TheVariants.{Done}
 use Rattle.audit.specs.Left.{left}
 use Rattle.audit.proofs.Saying.{none_of}
 use Rattle.acts.specs.Opened.{Fresh, records}
@@ -88,9 +87,9 @@ module _ (w v : List ℕ) where
     pub fresh : (i : ℕ) → i < recs (view w) → Fresh (view w) i
     pub fresh_second : (i : ℕ) → i < recs (view v) → Fresh (view v) i
     pub fit : BothFit (view w) (view v)
-    pub is : lay_of w v ≡ left Done (pooled_words w v)
+    pub is : lay_of w v ≡ left (Ok tt) (pooled_words w v)
 
-  pub lies : (lay_of w v).answer ≡ Done → Lies
+  pub lies : (lay_of w v).answer ≡ Ok tt → Lies
   lies h =
       let t : Together w v = together w v h in
       record {

@@ -1,6 +1,6 @@
 -- Document 02, Ask 11, "Two drawings on one table": what holds of work spaces w and v that were laid together in u. Beside it read laying's Lay (`lay_of`: what is answered, and the order of the tests), Pooled and
 -- order's Demand3. Proved of every two work spaces (proofs/Two, `two_drawings`), and that two accepted jobs with equal settings, and room for both, are laid together (proofs/Jobs, `of_jobs`).
-use Rattle.std.specs.Prelude.{ℕ, ◌+◌, ◌<◌, ◌≤◌, ◌≡◌, List, [], ◌∷◌, ◌++◌, drop}
+use Rattle.std.specs.Prelude.{ℕ, ◌+◌, ◌<◌, ◌≤◌, ◌≡◌, List, [], ◌∷◌, ◌++◌, drop, Ok, Err}
 use Rattle.job.specs.declared.refusal.Refusal.{Refusal}
 use Rattle.rings.specs.Count.{sum_by}
 use Rattle.rings.specs.Progress.{Ring}
@@ -11,7 +11,6 @@ use Rattle.store.specs.Field.{BLOCK}
 use Rattle.store.specs.Words.{view}
 use Rattle.store.specs.Sound.{pts, recs}
 use Rattle.store.specs.Value.{preserve_collinear, reverse_solution}
-use Rattle.audit.specs.declared.Reply.TheVariants.{Done, Refused}
 use Rattle.audit.specs.Left.{left}
 use Rattle.telling.specs.declared.Reason.{Reason}
 use Rattle.telling.specs.declared.Reason.TheVariants.{NoRing, Joined, SmallRing, RingFell, SmallArea, ShortPath, SmallPath, Written}
@@ -50,7 +49,7 @@ pub record OwnOf (x u : List ℕ) (m : ℕ) (ks is : List ℕ) : Type 0 where
       → raised_reason 0 (reason_at (now u ks) a) ≡ raised_reason m (reason_at (now x is) b)
 
 pub record OfTwo (w v u : List ℕ) : Type 0 where
-  pub laid : lay_of w v ≡ left Done u
+  pub laid : lay_of w v ≡ left (Ok tt) u
   -- each is a start, the two and the pooled one: "with laying together in opening's place"
   pub first : Start w
   pub second : Start v
@@ -82,5 +81,5 @@ pub record OfTwo (w v u : List ℕ) : Type 0 where
 -- of every two work spaces
 pub record TwoDrawings (w v : List ℕ) : Type 0 where
   -- "Each refusal changes neither": not the first; the second is only read
-  pub refused : (x : Refusal) → (lay_of w v).answer ≡ Refused x → (lay_of w v).words ≡ w
-  pub together : (lay_of w v).answer ≡ Done → OfTwo w v (lay_of w v).words
+  pub refused : (x : Refusal) → (lay_of w v).answer ≡ Err x → (lay_of w v).words ≡ w
+  pub together : (lay_of w v).answer ≡ Ok tt → OfTwo w v (lay_of w v).words

@@ -8,6 +8,7 @@ use native.Mathlib.Omega.{arith}
 use lib.Dec.{eqb, ltb}
 use lib.ListN.{length}
 use borrow.Author.Tests.{eq-eqb, ne_eqb, lt-ltb, le-ltb}
+use Rattle.std.specs.Prelude.{Result, Ok, Err}
 use Rattle.job.specs.Limits as limit
 use Rattle.job.specs.declared.refusal.Refusal.{Refusal}
 use Rattle.job.specs.declared.refusal.Refusal.TheVariants.{Full, OutOfTurn, SettingsDiffer}
@@ -16,12 +17,8 @@ use Rattle.store.specs.Words.{cell, view}
 use Rattle.store.specs.Sound.{pts, recs}
 use Rattle.store.specs.Good.{Sound, SoundWords}
 use Rattle.store.specs.Reason.{JOINED}
-use Rattle.audit.specs.declared.Verdict.{Verdict}
-use Rattle.audit.specs.declared.Verdict.TheVariants as verdict
 use Rattle.handed.specs.Handed.{tested_of}
 use Rattle.audit.specs.Left.{left}
-use Rattle.audit.specs.declared.Reply.{Reply}
-use Rattle.audit.specs.declared.Reply.TheVariants.{Done, Refused}
 use Rattle.handed.proofs.Handing.{says_tested, handed_sound}
 use Rattle.pooling.specs.declared.Used.{Used}
 use Rattle.pooling.specs.Pooled.{used_in}
@@ -67,7 +64,7 @@ module _ (w v : List ℕ) (a b : Used) (ea : CountsOf w a) (eb : CountsOf v b) (
   points_both : pts (view w) + pts (view v) ≡ p
   points_both = sym (ep ∙ cc (ap (λ (c : Used). c.points) ea.is, ap (λ (c : Used). c.points) eb.is))
 
-  pub room_points : limit.POINTS < p → left (Refused Full) w ≡ lay_room w v
+  pub room_points : limit.POINTS < p → left (Err Full) w ≡ lay_room w v
   unfolding lay_room
   room_points h = rw (lt-ltb limit.POINTS (pts (view w) + pts (view v)) (omega (arith, points_both)))
 
@@ -75,23 +72,23 @@ module _ (w v : List ℕ) (a b : Used) (ea : CountsOf w a) (eb : CountsOf v b) (
     records_both : recs (view w) + recs (view v) ≡ r
     records_both = sym (er ∙ cc (ap (λ (c : Used). c.records) ea.is, ap (λ (c : Used). c.records) eb.is))
 
-    pub room_records : limit.RECORDS < r → left (Refused Full) w ≡ lay_room w v
+    pub room_records : limit.RECORDS < r → left (Err Full) w ≡ lay_room w v
     unfolding lay_room
     room_records h = rw (le-ltb limit.POINTS (pts (view w) + pts (view v)) (omega (arith, points_both)), lt-ltb limit.RECORDS (recs (view w) + recs (view v)) (omega (arith, records_both)))
 
     pub room_there : r ≤ limit.RECORDS → SoundWords w → SoundWords v → RoomForBoth w v a b
     room_there h s t = record { first_long = s.long; second_long = t.long; few_points = omega arith; few_records = omega arith }
 
-    pub room_laid : (w' : List ℕ) → r ≤ limit.RECORDS → w' ≡ lay_all a b v w → left Done w' ≡ lay_room w v
+    pub room_laid : (w' : List ℕ) → r ≤ limit.RECORDS → w' ≡ lay_all a b v w → left (Ok tt) w' ≡ lay_room w v
     unfolding lay_room
     room_laid w' h e =
         rw (le-ltb limit.POINTS (pts (view w) + pts (view v)) (omega (arith, points_both)), le-ltb limit.RECORDS (recs (view w) + recs (view v)) (omega (arith, records_both)))
-        (ap (left Done) (e ∙ ap (λ (c : Used). lay_all c b v w) ea.is ∙ ap (λ (c : Used). lay_all (used_in (view w)) c v w) eb.is))
+        (ap (left (Ok tt)) (e ∙ ap (λ (c : Used). lay_all c b v w) ea.is ∙ ap (λ (c : Used). lay_all (used_in (view w)) c v w) eb.is))
 
 -- ---- settings and steps
 
 module _ (w v : List ℕ) (a b : ℕ) (ea : a ≡ settings_byte (view w)) (eb : b ≡ settings_byte (view v)) where
-  pub settings_unequal : a ≢ b → left (Refused SettingsDiffer) w ≡ lay_tested w v
+  pub settings_unequal : a ≢ b → left (Err SettingsDiffer) w ≡ lay_tested w v
   unfolding lay_tested
   settings_unequal n = rw (ne_eqb (settings_byte (view w)) (settings_byte (view v)) (λ z. n (ea ∙ z ∙ sym eb)))
 
@@ -99,47 +96,47 @@ module _ (w v : List ℕ) (a b : ℕ) (ea : a ≡ settings_byte (view w)) (eb : 
     equal : eqb (settings_byte (view w)) (settings_byte (view v)) ≡ true
     equal = eq-eqb (settings_byte (view w)) (settings_byte (view v)) (sym ea ∙ h ∙ eb)
 
-    pub first_stepped : x ≡ true → left (Refused OutOfTurn) w ≡ lay_tested w v
+    pub first_stepped : x ≡ true → left (Err OutOfTurn) w ≡ lay_tested w v
     unfolding lay_tested
     first_stepped t = rw (equal, sym ex ∙ t)
 
     module _ (f : x ≡ false) where
-      pub second_stepped : y ≡ true → left (Refused OutOfTurn) w ≡ lay_tested w v
+      pub second_stepped : y ≡ true → left (Err OutOfTurn) w ≡ lay_tested w v
       unfolding lay_tested
       second_stepped t = rw (equal, sym ex ∙ f, sym ey ∙ t)
 
-      pub none_stepped : (r : Reply) (w' : List ℕ) → y ≡ false → left r w' ≡ lay_room w v → left r w' ≡ lay_tested w v
+      pub none_stepped : (r : Result (Unit {0}) Refusal) (w' : List ℕ) → y ≡ false → left r w' ≡ lay_room w v → left r w' ≡ lay_tested w v
       unfolding lay_tested
       none_stepped r w' t e = rw (equal, sym ex ∙ f, sym ey ∙ t) e
 
 -- ---- the tests
 
-pub passed_sound : (w : List ℕ) (x : Verdict) → LENGTH ≤ length w → x ≡ tested_of w → x ≡ verdict.Passed → SoundWords w
+pub passed_sound : (w : List ℕ) (x : Result (Unit {0}) Refusal) → LENGTH ≤ length w → x ≡ tested_of w → x ≡ Ok tt → SoundWords w
 passed_sound w x l e p = handed_sound w (sym (says_tested w x l e) ∙ p)
 
-module _ (w v : List ℕ) (x : Verdict) where
-  pub second_passed : (r : Reply) (w' : List ℕ) → x ≡ tested_of v → x ≡ verdict.Passed → left r w' ≡ lay_tested w v → left r w' ≡ lay_by verdict.Passed w v
-  second_passed r w' e p h = h ∙ sym (ap (λ (z : Verdict). lay_second z w v) (sym e ∙ p))
+module _ (w v : List ℕ) (x : Result (Unit {0}) Refusal) where
+  pub second_passed : (r : Result (Unit {0}) Refusal) (w' : List ℕ) → x ≡ tested_of v → x ≡ Ok tt → left r w' ≡ lay_tested w v → left r w' ≡ lay_by (Ok tt) w v
+  second_passed r w' e p h = h ∙ sym (ap (λ (z : Result (Unit {0}) Refusal). lay_second z w v) (sym e ∙ p))
 
-  pub second_refused : (r : Refusal) → x ≡ tested_of v → x ≡ verdict.Refused r → left (Refused r) w ≡ lay_by verdict.Passed w v
-  second_refused r e p = sym (ap (λ (z : Verdict). lay_second z w v) (sym e ∙ p))
+  pub second_refused : (r : Refusal) → x ≡ tested_of v → x ≡ Err r → left (Err r) w ≡ lay_by (Ok tt) w v
+  second_refused r e p = sym (ap (λ (z : Result (Unit {0}) Refusal). lay_second z w v) (sym e ∙ p))
 
   module _ (l : LENGTH ≤ length w) (k : LENGTH ≤ length v) where
     pub both_long : lay_of w v ≡ lay_by (tested_of w) w v
     unfolding lay_of
     both_long = rw (le-ltb (length w) LENGTH l, le-ltb (length v) LENGTH k)
 
-    pub first_passed : (r : Reply) (w' : List ℕ) → x ≡ tested_of w → x ≡ verdict.Passed → left r w' ≡ lay_by verdict.Passed w v → left r w' ≡ lay_of w v
-    first_passed r w' e p h = h ∙ sym (both_long ∙ ap (λ (z : Verdict). lay_by z w v) (sym e ∙ p))
+    pub first_passed : (r : Result (Unit {0}) Refusal) (w' : List ℕ) → x ≡ tested_of w → x ≡ Ok tt → left r w' ≡ lay_by (Ok tt) w v → left r w' ≡ lay_of w v
+    first_passed r w' e p h = h ∙ sym (both_long ∙ ap (λ (z : Result (Unit {0}) Refusal). lay_by z w v) (sym e ∙ p))
 
-    pub first_refused : (r : Refusal) → x ≡ tested_of w → x ≡ verdict.Refused r → left (Refused r) w ≡ lay_of w v
-    first_refused r e p = sym (both_long ∙ ap (λ (z : Verdict). lay_by z w v) (sym e ∙ p))
+    pub first_refused : (r : Refusal) → x ≡ tested_of w → x ≡ Err r → left (Err r) w ≡ lay_of w v
+    first_refused r e p = sym (both_long ∙ ap (λ (z : Result (Unit {0}) Refusal). lay_by z w v) (sym e ∙ p))
 
 module _ (w v : List ℕ) where
-  pub first_short : length w < LENGTH → left (Refused Full) w ≡ lay_of w v
+  pub first_short : length w < LENGTH → left (Err Full) w ≡ lay_of w v
   unfolding lay_of
   first_short h = rw (lt-ltb (length w) LENGTH h)
 
-  pub second_short : LENGTH ≤ length w → length v < LENGTH → left (Refused Full) w ≡ lay_of w v
+  pub second_short : LENGTH ≤ length w → length v < LENGTH → left (Err Full) w ≡ lay_of w v
   unfolding lay_of
   second_short l h = rw (le-ltb (length w) LENGTH l, lt-ltb (length v) LENGTH h)

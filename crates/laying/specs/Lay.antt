@@ -1,15 +1,13 @@
 -- Document 02, Ask 11, "Two drawings on one table": laying together as a call, what it answers and the words that it leaves, on every two work spaces. "Each refusal changes neither"; the second's work space is only read.
-use Rattle.std.specs.Prelude.{ℕ, ◌+◌, ◌%◌, Bool, true, false, cond, not, ◌&&◌, ◌||◌, List, eqb, ltb, length}
+use Rattle.std.specs.Prelude.{ℕ, ◌+◌, ◌%◌, Bool, true, false, cond, not, ◌&&◌, ◌||◌, List, eqb, ltb, length, Result, Ok, Err}
 use Rattle.job.specs.Limits as limit
+use Rattle.job.specs.declared.refusal.Refusal.{Refusal}
 use Rattle.job.specs.declared.refusal.Refusal.TheVariants.{Full, OutOfTurn, SettingsDiffer}
 use Rattle.store.specs.Field.{rc, ct, FIRST, MARK, PRESENT, CUT, REASON, SETTINGS, NONE, LENGTH}
 use Rattle.store.specs.Words.{Store, view}
 use Rattle.store.specs.Sound.{pts, recs, ringless, is_open}
 use Rattle.store.specs.Reason.{JOINED}
 use Rattle.store.specs.States.{BYTES}
-use Rattle.audit.specs.declared.Verdict.{Verdict}
-use Rattle.audit.specs.declared.Verdict.TheVariants as verdict
-use Rattle.audit.specs.declared.Reply.TheVariants.{Done, Refused}
 use Rattle.audit.specs.Tests.{any_below}
 use Rattle.handed.specs.Handed.{tested_of}
 use Rattle.audit.specs.Left.{Left, left}
@@ -54,21 +52,21 @@ crowd s t = ltb limit.POINTS (pts s + pts t) || ltb limit.RECORDS (recs s + recs
 
 -- where no record was stepped: is there room?
 unfoldable pub lay_room : List ℕ → List ℕ → Left
-lay_room w v = cond (crowd (view w) (view v)) (left (Refused Full) w) (left Done (pooled_words w v))
+lay_room w v = cond (crowd (view w) (view v)) (left (Err Full) w) (left (Ok tt) (pooled_words w v))
 
 -- on work spaces that passed their tests
 unfoldable pub lay_tested : List ℕ → List ℕ → Left
-lay_tested w v = cond (settings_differ (view w) (view v)) (left (Refused SettingsDiffer) w) (cond (any_stepped (view w) || any_stepped (view v)) (left (Refused OutOfTurn) w) (lay_room w v))
+lay_tested w v = cond (settings_differ (view w) (view v)) (left (Err SettingsDiffer) w) (cond (any_stepped (view w) || any_stepped (view v)) (left (Err OutOfTurn) w) (lay_room w v))
 
 -- "their own tests, the first's first": by what the second's say, and the first's
-abbrev pub lay_second : Verdict → List ℕ → List ℕ → Left
-lay_second (verdict.Refused r) w v = left (Refused r) w
-lay_second verdict.Passed w v = lay_tested w v
+abbrev pub lay_second : Result (Unit {0}) Refusal → List ℕ → List ℕ → Left
+lay_second (Err r) w v = left (Err r) w
+lay_second (Ok _) w v = lay_tested w v
 
-abbrev pub lay_by : Verdict → List ℕ → List ℕ → Left
-lay_by (verdict.Refused r) w v = left (Refused r) w
-lay_by verdict.Passed w v = lay_second (tested_of v) w v
+abbrev pub lay_by : Result (Unit {0}) Refusal → List ℕ → List ℕ → Left
+lay_by (Err r) w v = left (Err r) w
+lay_by (Ok _) w v = lay_second (tested_of v) w v
 
 -- `lay_together`: "tested once both work spaces have passed their lengths, then their own tests"
 unfoldable pub lay_of : List ℕ → List ℕ → Left
-lay_of w v = cond (ltb (length w) LENGTH) (left (Refused Full) w) (cond (ltb (length v) LENGTH) (left (Refused Full) w) (lay_by (tested_of w) w v))
+lay_of w v = cond (ltb (length w) LENGTH) (left (Err Full) w) (cond (ltb (length v) LENGTH) (left (Err Full) w) (lay_by (tested_of w) w v))

@@ -1,16 +1,14 @@
 // Laying two drawings together: the tests of both work spaces, one by one, then the second's drawing beside the first's.
 #![tactic(auto)]
 
-ghost use Rattle.std.specs.Prelude.{◌≡◌, ◌+◌, ◌<◌, ◌≤◌, length};
+ghost use Rattle.std.specs.Prelude.{◌≡◌, ◌+◌, ◌<◌, ◌≤◌, length, Ok};
 ghost use Rattle.store.specs.Field as layout;
 ghost use Rattle.store.specs.Good.{SoundWords};
 ghost use Rattle.store.specs.Words.{view};
-ghost use Rattle.audit.specs.declared.Verdict.TheVariants.{Passed};
 ghost use Rattle.audit.specs.Left.{left};
 ghost use Rattle.pooling.specs.Needs.{CountsOf};
 ghost use Rattle.laying.specs.Lay.{settings_byte, is_stepped, any_stepped, lay_room, lay_tested, lay_by, lay_of};
 
-use audit::{Reply, Verdict};
 use handed::tested;
 use job::Job;
 use job::refusal::Refusal;
@@ -72,22 +70,13 @@ fn any_stepped(w: &[u32]) -> bool
     requires { layout.BLOCK ≤ length w.now }
     ensures { result ≡ any_stepped (view w.now) }
 {
-    let n = get(w, Col::Records, 0);
-    let mut i: usize = 0;
-    while i < n {
-        let found = is_stepped(w, i);
-        if found {
-            return true;
-        }
-        i += 1;
-    }
-    false
+    (0..get(w, Col::Records, 0)).any(|i| is_stepped(w, i))
 }
 
 // ---- the call, test by test
 
 // Settings and steps are in order: is there room?
-fn lay_room(first: &mut [u32], second: &[u32]) -> Reply
+fn lay_room(first: &mut [u32], second: &[u32]) -> Result<(), Refusal>
     requires { (SoundWords first.old) × (SoundWords second.now) }
     ensures { left result first.new ≡ lay_room first.old second.now }
 {
@@ -96,69 +85,55 @@ fn lay_room(first: &mut [u32], second: &[u32]) -> Reply
     let p = a.points + b.points;
     let r = a.records + b.records;
     if Job::POINTS < p {
-        return Reply::Refused(Refusal::Full);
+        return Err(Refusal::Full);
     }
     if Job::RECORDS < r {
-        return Reply::Refused(Refusal::Full);
+        return Err(Refusal::Full);
     }
     lay_all(first, second, a, b);
-    Reply::Done
+    Ok(())
 }
 
 // Both passed their tests.
-fn lay_tested(first: &mut [u32], second: &[u32]) -> Reply
+fn lay_tested(first: &mut [u32], second: &[u32]) -> Result<(), Refusal>
     requires { (SoundWords first.old) × (SoundWords second.now) }
     ensures { left result first.new ≡ lay_tested first.old second.now }
 {
     let a = settings_byte(first);
     let b = settings_byte(second);
     if a != b {
-        return Reply::Refused(Refusal::SettingsDiffer);
+        return Err(Refusal::SettingsDiffer);
     }
     let x = any_stepped(first);
     let y = any_stepped(second);
     if x {
-        return Reply::Refused(Refusal::OutOfTurn);
+        return Err(Refusal::OutOfTurn);
     }
     if y {
-        return Reply::Refused(Refusal::OutOfTurn);
+        return Err(Refusal::OutOfTurn);
     }
     lay_room(first, second)
 }
 
 // The first passed its tests, and the second is long enough.
-fn lay_first(first: &mut [u32], second: &[u32]) -> Reply
+fn lay_first(first: &mut [u32], second: &[u32]) -> Result<(), Refusal>
     requires { (SoundWords first.old) × (layout.LENGTH ≤ length second.now) }
-    ensures { left result first.new ≡ lay_by Passed first.old second.now }
+    ensures { left result first.new ≡ lay_by (Ok tt) first.old second.now }
 {
-    let verdict = tested(second);
-    match verdict {
-        Verdict::Passed => {
-            return lay_tested(first, second);
-        }
-        Verdict::Refused(r) => {
-            return Reply::Refused(r);
-        }
-    }
+    tested(second)?;
+    lay_tested(first, second)
 }
 
 // Lays the second's drawing beside the first's: the answer, and every word left. A refusal leaves every word as found.
-pub fn lay_together(first: &mut [u32], second: &[u32]) -> Reply
+pub fn lay_together(first: &mut [u32], second: &[u32]) -> Result<(), Refusal>
     ensures { left result first.new ≡ lay_of first.old second.now }
 {
     if first.len() < LENGTH {
-        return Reply::Refused(Refusal::Full);
+        return Err(Refusal::Full);
     }
     if second.len() < LENGTH {
-        return Reply::Refused(Refusal::Full);
+        return Err(Refusal::Full);
     }
-    let verdict = tested(first);
-    match verdict {
-        Verdict::Passed => {
-            return lay_first(first, second);
-        }
-        Verdict::Refused(r) => {
-            return Reply::Refused(r);
-        }
-    }
+    tested(first)?;
+    lay_first(first, second)
 }

@@ -4,6 +4,8 @@ use mathlib.Core.Path.{◌≡◌, refl}
 use mathlib.Core.Bool.{true, false, cond}
 use mathlib.Core.List.{List, [], ◌∷◌, ◌++◌}
 use lib.ListN.{get_or, set, replicate}
+use Rattle.std.specs.Prelude.{Result, Ok, Err}
+use Rattle.job.specs.declared.refusal.Refusal.{Refusal}
 use Rattle.job.specs.declared.refusal.Refusal.TheVariants.{Crowded, NoSuch, Muddled, Full, OutOfTurn, SettingsDiffer}
 use Rattle.rings.specs.Walk.{run}
 use Rattle.geometry.specs.Box.{widen}
@@ -12,8 +14,6 @@ use Rattle.store.specs.Field.{PointCol, RecordCol, pt, rc, ct, X, Y, NEXT, PREV,
 use Rattle.store.specs.Words.{Store, Write, write, cell, put, on_words}
 use Rattle.store.specs.Reason.{NO_RING}
 use Rattle.store.specs.Boxes.{sides_at, set_sides, ring_box, misboxed}
-use Rattle.audit.specs.declared.Reply.{Reply}
-use Rattle.audit.specs.declared.Reply.TheVariants.{Done, Refused}
 use Rattle.audit.specs.Tests.{any_below, reach, reached_by, tests_of}
 use Rattle.handed.specs.Handed.{any_misboxed, kept_twice, tested_of}
 use Rattle.pooling.specs.Pooled.{raise, followed, pooled}
@@ -41,7 +41,7 @@ cut_off = points 1 ∷ write (ct RECORDS) 0 1 ∷ []
 abbrev at_start : List Write
 at_start = cut_off ++ write (rc CUT) 0 NONE ∷ []
 
-abbrev says : List ℕ → List ℕ → Reply
+abbrev says : List ℕ → List ℕ → Result (Unit {0}) Refusal
 says w v = (lay_of w v).answer
 
 -- the definitions that the rows compute with
@@ -49,54 +49,54 @@ unfoldable computing : Unit {0}
 unfolding lay_of lay_tested lay_room lay_all lay_column lay_sides raise is_stepped any_stepped tested_of any_misboxed misboxed ring_box widen set_sides kept_twice tests_of any_below reach reached_by run cell put
 computing = tt
 
-first_length : says short (work []) ≡ Refused Full
+first_length : says short (work []) ≡ Err Full
 unfolding computing
 first_length = refl
 
 -- "once both work spaces have passed their lengths": the second's before the first's tests
-second_length : says (work (points 2049 ∷ [])) short ≡ Refused Full
+second_length : says (work (points 2049 ∷ [])) short ≡ Err Full
 unfolding computing
 second_length = refl
 
 -- "then their own tests, the first's first"
-first_tests : says (work (points 2049 ∷ [])) (work (cut_off ++ write (rc OWNER) 0 7 ∷ [])) ≡ Refused Crowded
+first_tests : says (work (points 2049 ∷ [])) (work (cut_off ++ write (rc OWNER) 0 7 ∷ [])) ≡ Err Crowded
 unfolding computing
 first_tests = refl
 
 -- the names among them
-name_twice : says (set (set (work []) NAMES 5) (2 + NAMES) 5) (work (points 2049 ∷ [])) ≡ Refused Muddled
+name_twice : says (set (set (work []) NAMES 5) (2 + NAMES) 5) (work (points 2049 ∷ [])) ≡ Err Muddled
 unfolding computing
 name_twice = refl
 
 -- the second's before 16
-second_tests : says (work (settings 1 ∷ [])) (work (cut_off ++ write (rc OWNER) 0 7 ∷ [])) ≡ Refused NoSuch
+second_tests : says (work (settings 1 ∷ [])) (work (cut_off ++ write (rc OWNER) 0 7 ∷ [])) ≡ Err NoSuch
 unfolding computing
 second_tests = refl
 
 -- 16 before 12; bytes, not bits; and the low byte only
-settings_first : says (work (settings 1 ∷ cut_off)) (work []) ≡ Refused SettingsDiffer
+settings_first : says (work (settings 1 ∷ cut_off)) (work []) ≡ Err SettingsDiffer
 unfolding computing
 settings_first = refl
 
-bytes_differ : says (work []) (work (settings 4 ∷ [])) ≡ Refused SettingsDiffer
+bytes_differ : says (work []) (work (settings 4 ∷ [])) ≡ Err SettingsDiffer
 unfolding computing
 bytes_differ = refl
 
-low_byte : says (work (settings 258 ∷ [])) (work (settings 2 ∷ [])) ≡ Done
+low_byte : says (work (settings 258 ∷ [])) (work (settings 2 ∷ [])) ≡ Ok tt
 unfolding computing
 low_byte = refl
 
 -- 12 before the crowd, in either
-first_stepped : says (work (cut_off ++ points 1500 ∷ [])) (work (points 1500 ∷ [])) ≡ Refused OutOfTurn
+first_stepped : says (work (cut_off ++ points 1500 ∷ [])) (work (points 1500 ∷ [])) ≡ Err OutOfTurn
 unfolding computing
 first_stepped = refl
 
-second_stepped : says (work (points 1500 ∷ [])) (work (cut_off ++ points 1500 ∷ [])) ≡ Refused OutOfTurn
+second_stepped : says (work (points 1500 ∷ [])) (work (cut_off ++ points 1500 ∷ [])) ≡ Err OutOfTurn
 unfolding computing
 second_stepped = refl
 
 -- "then 10 for a crowd"
-too_many : says (work (at_start ++ points 1500 ∷ [])) (work (points 1500 ∷ [])) ≡ Refused Full
+too_many : says (work (at_start ++ points 1500 ∷ [])) (work (points 1500 ∷ [])) ≡ Err Full
 unfolding computing
 too_many = refl
 
@@ -126,11 +126,11 @@ abbrev and_bare : List ℕ → List ℕ
 and_bare w = set_sides (on_words w (write (ct RECORDS) 0 2 ∷ write (rc FIRST) 1 NONE ∷ write (rc CUT) 1 NONE ∷ write (rc REASON) 1 NO_RING ∷ [])) 1 bare
 
 -- "A work space whose box isn't its ring's meets 7", in either
-first_misboxed : says (point_at 5 7 (around 5 8)) (work []) ≡ Refused Muddled
+first_misboxed : says (point_at 5 7 (around 5 8)) (work []) ≡ Err Muddled
 unfolding computing
 first_misboxed = refl
 
-second_misboxed : says (work []) (point_at 5 7 (around 5 8)) ≡ Refused Muddled
+second_misboxed : says (work []) (point_at 5 7 (around 5 8)) ≡ Err Muddled
 unfolding computing
 second_misboxed = refl
 

@@ -9,7 +9,6 @@ use lib.ListN.{length}
 use mir.Syntax.{w64}
 use mir.Val.{SFits, to_z, of_z}
 use mir.Facts.{to_z-of_z}
-use Rattle.exact.specs.Num.{Within}
 use Rattle.exact.proofs.Size.{fits_size, size_add}
 use Rattle.rates.specs.declared.Charge.{Charge}
 use Rattle.rates.specs.Charge.{charge_of}
@@ -24,21 +23,21 @@ use Rattle.listing.specs.Lines.{listing_of}
 use Rattle.listing.specs.Charge.{net_area, charge_text, charged_of}
 use Rattle.listing.specs.Needs.{Sized, FieldIn, FieldsIn, Summable, Netting, point_count}
 use Rattle.text.proofs.Pouring.{pour_more}
-use Rattle.listing.proofs.Runs.{less}
+use Rattle.listing.proofs.Runs.{one_passed, all_passed, from_none}
 use Rattle.listing.proofs.Heads.{field_sized}
 
-pub netting_begins : (t : List ℕ) (n : ℕ) → Summable t n → Netting t n 0 n (pos 0)
-netting_begins t n s = record { rest = s.fields; sum = +ℤ_idl (net_area (paths_in t n 0)); low = omega (arith, s.few) }
+pub netting_begins : (t : List ℕ) (n : ℕ) → Summable t n → Netting t n 0 (n - 0) (pos 0)
+netting_begins t n s = from_none (λ (k : ℕ). Netting t n 0 k (pos 0)) n (record { rest = s.fields; sum = +ℤ_idl (net_area (paths_in t n 0)); low = omega (arith, s.few) })
 
-module _ (t : List ℕ) (n f left v : ℕ) (s : Netting t n f left (to_z w64 v)) where
-  pub netting_ends : left ≤ 0 → to_z w64 v ≡ net_area (paths_in t n 0)
+module _ (t : List ℕ) (n f c i v : ℕ) (s : Netting t n f (c - i) (to_z w64 v)) where
+  pub netting_ends : c ≤ i → to_z w64 v ≡ net_area (paths_in t n 0)
   netting_ends h =
-      let z : left ≡ 0 = omega arith in
+      let z : c - i ≡ 0 = all_passed c i h in
       sym (+ℤ_idr (to_z w64 v)) ∙ ap (λ (k : ℕ). to_z w64 v +ℤ net_area (paths_in t k f)) (sym z) ∙ s.sum
 
-  module _ (h : 0 < left) where
-    fields : FieldIn t f × FieldsIn t (left - 1) (next_field t f)
-    fields = subst (λ (m : ℕ). FieldsIn t m f) (less left h) s.rest
+  module _ (h : i < c) where
+    fields : FieldIn t f × FieldsIn t (c - (i + 1)) (next_field t f)
+    fields = subst (λ (m : ℕ). FieldsIn t m f) (one_passed c i h) s.rest
 
     pub netting_field : FieldIn t f
     netting_field = fields.0
@@ -54,8 +53,8 @@ module _ (t : List ℕ) (n f left v : ℕ) (s : Netting t n f left (to_z w64 v))
         small : nat_abs d ≤ length (path_in t f) * 2 ^ 42
         small = omega (arith, ap nat_abs is_path, (area_within (path_in t f) netting_field.small).size)
 
-        next_low : nat_abs (to_z w64 v) + (length (path_in t f) + point_count (paths_in t (left - 1) (next_field t f))) * 2 ^ 42 ≤ 2 ^ 53
-        next_low = subst (λ (m : ℕ). nat_abs (to_z w64 v) + point_count (paths_in t m f) * 2 ^ 42 ≤ 2 ^ 53) (less left h) s.low
+        next_low : nat_abs (to_z w64 v) + (length (path_in t f) + point_count (paths_in t (c - (i + 1)) (next_field t f))) * 2 ^ 42 ≤ 2 ^ 53
+        next_low = subst (λ (m : ℕ). nat_abs (to_z w64 v) + point_count (paths_in t m f) * 2 ^ 42 ≤ 2 ^ 53) (one_passed c i h) s.low
 
         plain : to_z w64 v +ℤ to_z w64 (of_z w64 d) ≡ to_z w64 v +ℤ d
         plain = ap (λ (y : ℤ). to_z w64 v +ℤ y) (to_z-of_z (fits_size w64 d (omega (arith, small, next_low))))
@@ -66,16 +65,16 @@ module _ (t : List ℕ) (n f left v : ℕ) (s : Netting t n f left (to_z w64 v))
         pub netting_fits : SFits w64 (to_z w64 v +ℤ to_z w64 (of_z w64 d))
         netting_fits = rw plain (fits_size w64 (to_z w64 v +ℤ d) (omega (arith, near, next_low)))
 
-        pub netting_on : Netting t n (f + 3 + l) (left - 1) (to_z w64 (of_z w64 (to_z w64 v +ℤ to_z w64 (of_z w64 d))))
+        pub netting_on : Netting t n (f + 3 + l) (c - (i + 1)) (to_z w64 (of_z w64 (to_z w64 v +ℤ to_z w64 (of_z w64 d))))
         netting_on =
             rw e
-            (subst (λ (y : ℤ). Netting t n (next_field t f) (left - 1) y) (sym (to_z-of_z netting_fits ∙ plain))
+            (subst (λ (y : ℤ). Netting t n (next_field t f) (c - (i + 1)) y) (sym (to_z-of_z netting_fits ∙ plain))
             (record {
               rest = fields.1;
               sum =
-                  +ℤ_assoc (to_z w64 v) d (net_area (paths_in t (left - 1) (next_field t f)))
-                  ∙ ap (λ (y : ℤ). to_z w64 v +ℤ (y +ℤ net_area (paths_in t (left - 1) (next_field t f)))) is_path
-                  ∙ ap (λ (k : ℕ). to_z w64 v +ℤ net_area (paths_in t k f)) (sym (less left h))
+                  +ℤ_assoc (to_z w64 v) d (net_area (paths_in t (c - (i + 1)) (next_field t f)))
+                  ∙ ap (λ (y : ℤ). to_z w64 v +ℤ (y +ℤ net_area (paths_in t (c - (i + 1)) (next_field t f)))) is_path
+                  ∙ ap (λ (k : ℕ). to_z w64 v +ℤ net_area (paths_in t k f)) (sym (one_passed c i h))
                   ∙ s.sum;
               low = omega (arith, near, next_low);
             }))
@@ -94,9 +93,6 @@ module _ (t : List ℕ) (n : ℕ) (s : Summable t n) (r : ℤ) (e : r ≡ net_ar
 
   held : to_z w64 (of_z w64 r) ≡ net_area (paths_in t n 0)
   held = to_z-of_z {w = w64} (rw e (fits_size w64 (net_area (paths_in t n 0)) (omega (arith, bound)))) ∙ e
-
-  pub net_asked : Within (2 ^ 62) (to_z w64 (of_z w64 r))
-  net_asked = rw held (record { size = omega (arith, bound) })
 
   module _ (m : ℕ) (f : m ≡ nat_abs (to_z w64 (of_z w64 r))) where
     pub magnitude_small : m ≤ 2 ^ 53

@@ -43,32 +43,59 @@ module _ (t : List ℕ) where
   points_none : (left f : ℕ) → left ≤ 0 → points_in t left f ≡ []
   points_none left f h = let z : left ≡ 0 = omega arith in ap (λ (k : ℕ). points_in t k f) z
 
+-- ---- the same where i of c are passed
+none_passed : (c : ℕ) → c ≡ c - 0
+none_passed c = omega arith
+
+pub one_passed : (c i : ℕ) → i < c → c - i ≡ suc (c - (i + 1))
+one_passed c i h = omega arith
+
+pub all_passed : (c i : ℕ) → c ≤ i → c - i ≡ 0
+all_passed c i h = omega arith
+
+-- what holds of all at the start
+pub from_none : (P : ℕ → Type 0) (c : ℕ) → P c → P (c - 0)
+from_none P c h = subst P (none_passed c) h
+
+module _ (t : List ℕ) (c i f : ℕ) where
+  pub head_at : Run t (c - i) f → i < c → Held t f
+  head_at r h = run_head t (c - i) f r (omega arith)
+
+  pub rest_at : Run t (c - i) f → i < c → Run t (c - (i + 1)) (f + POINT)
+  rest_at r h = (run_next t (c - (i + 1)) f (subst (λ (k : ℕ). Run t k f) (one_passed c i h) r)).1
+
+  pub points_at : i < c → points_in t (c - i) f ≡ point_in t f ∷ points_in t (c - (i + 1)) (f + POINT)
+  points_at h = ap (λ (k : ℕ). points_in t k f) (one_passed c i h)
+
+  pub points_over : c ≤ i → points_in t (c - i) f ≡ []
+  points_over h = ap (λ (k : ℕ). points_in t k f) (all_passed c i h)
+
 -- ---- the text
 
-pub showing_begins : (t : List ℕ) (from n at : ℕ) (out : List ℕ) → Run t n from → Showing t from n at out out at from n
-showing_begins t from n at out r = record { rest = r; done = []; is = pour_none out at; all = refl }
+pub showing_begins : (t : List ℕ) (from n at : ℕ) (out : List ℕ) → Run t n from → Showing t from n at out out at from (n - 0)
+showing_begins t from n at out r = from_none (Showing t from n at out out at from) n (record { rest = r; done = []; is = pour_none out at; all = refl })
 
-module _ (t : List ℕ) (from n at : ℕ) (out₀ out : List ℕ) (k f left : ℕ) (s : Showing t from n at out₀ out k f left) where
-  pub showing_on : (k' : ℕ) (out' : List ℕ) → 0 < left → poured k' out' ≡ pour (point_text (point_in t f)) k out → Showing t from n at out₀ out' k' (f + POINT) (left - 1)
+module _ (t : List ℕ) (from n at : ℕ) (out₀ out : List ℕ) (k f c i : ℕ) (s : Showing t from n at out₀ out k f (c - i)) where
+  pub showing_on : (k' : ℕ) (out' : List ℕ) → i < c → poured k' out' ≡ pour (point_text (point_in t f)) k out → Showing t from n at out₀ out' k' (f + POINT) (c - (i + 1))
   showing_on k' out' h e =
       record {
-        rest = run_rest t left f s.rest h;
+        rest = rest_at t c i f s.rest h;
         done = s.done ++ point_text (point_in t f);
         is = pour_more s.done (point_text (point_in t f)) out₀ out out' at k k' s.is e;
         all =
-            append_assoc s.done (point_text (point_in t f)) (points_text (points_in t (left - 1) (f + POINT)))
-            ∙ ap (λ (l : List Point). s.done ++ points_text l) (sym (points_next t left f h))
+            append_assoc s.done (point_text (point_in t f)) (points_text (points_in t (c - (i + 1)) (f + POINT)))
+            ∙ ap (λ (l : List Point). s.done ++ points_text l) (sym (points_at t c i f h))
             ∙ s.all;
       }
 
   pub showing_length : length out ≡ length out₀
   showing_length = pour_length s.done out₀ out at k s.is
 
-  pub showing_ends : left ≤ 0 → poured k out ≡ pour (points_text (points_in t n from)) at out₀
+  pub showing_ends : c ≤ i → poured k out ≡ pour (points_text (points_in t n from)) at out₀
   showing_ends h =
       s.is
       ∙ ap (λ (x : List ℕ). pour x at out₀)
-      (sym (append-nil s.done) ∙ ap (λ (l : List Point). s.done ++ points_text l) (sym (points_none t left f h)) ∙ s.all)
+      (sym (append-nil s.done) ∙ ap (λ (l : List Point). s.done ++ points_text l) (sym (points_over t c i f h)) ∙ s.all)
 
 -- ---- one edge
 
@@ -101,25 +128,26 @@ begins t from m r h =
       low = omega arith;
     }
 
-pub adding_begins : (t : List ℕ) (from n : ℕ) → Run t n from → n ≤ 8191 → n ≢ 0 → Adding t (from + POINT * (n - 1)) from n (pos 0) (area_outpt (points_in t n from))
+pub adding_begins : (t : List ℕ) (from n : ℕ) → Run t n from → n ≤ 8191 → n ≢ 0 → Adding t (from + POINT * (n - 1)) from (n - 0) (pos 0) (area_outpt (points_in t n from))
 adding_begins t from n r h d =
-    let z : suc (n - 1) ≡ n = omega arith in
-    subst (λ (k : ℕ). Adding t (from + POINT * (n - 1)) from k (pos 0) (area_outpt (points_in t k from))) z (begins t from (n - 1) (subst (λ (k : ℕ). Run t k from) (sym z) r) (omega arith))
+    from_none (λ (k : ℕ). Adding t (from + POINT * (n - 1)) from k (pos 0) (area_outpt (points_in t n from))) n
+    (let z : suc (n - 1) ≡ n = omega arith in
+    subst (λ (k : ℕ). Adding t (from + POINT * (n - 1)) from k (pos 0) (area_outpt (points_in t k from))) z (begins t from (n - 1) (subst (λ (k : ℕ). Run t k from) (sym z) r) (omega arith)))
 
 pub none_area : (t : List ℕ) (from n : ℕ) → n ≡ 0 → pos 0 ≡ area_outpt (points_in t n from)
 unfolding area_outpt
 none_area t from n e = rw e
 
-module _ (t : List ℕ) (prev at left v : ℕ) (total : ℤ) (s : Adding t prev at left (to_z w64 v) total) where
-  pub adding_here : 0 < left → Held t prev × Held t at
-  adding_here h = (s.before, run_head t left at s.rest h)
+module _ (t : List ℕ) (prev at c i v : ℕ) (total : ℤ) (s : Adding t prev at (c - i) (to_z w64 v) total) where
+  pub adding_here : i < c → Held t prev × Held t at
+  adding_here h = (s.before, head_at t c i at s.rest h)
 
-  pub adding_ends : left ≤ 0 → to_z w64 v ≡ total
-  adding_ends h = sym (+ℤ_idr (to_z w64 v)) ∙ ap (λ (l : List Point). to_z w64 v +ℤ area_from (point_in t prev) l) (sym (points_none t left at h)) ∙ s.sum
+  pub adding_ends : c ≤ i → to_z w64 v ≡ total
+  adding_ends h = sym (+ℤ_idr (to_z w64 v)) ∙ ap (λ (l : List Point). to_z w64 v +ℤ area_from (point_in t prev) l) (sym (points_over t c i at h)) ∙ s.sum
 
-  module _ (d : ℤ) (e : d ≡ edge_area (point_in t prev) (point_in t at)) (h : 0 < left) where
+  module _ (d : ℤ) (e : d ≡ edge_area (point_in t prev) (point_in t at)) (h : i < c) where
     small : nat_abs d ≤ 2 ^ 42
-    small = omega (arith, ap nat_abs e, (edge_within s.before.small (run_head t left at s.rest h).small).size)
+    small = omega (arith, ap nat_abs e, (edge_within s.before.small (head_at t c i at s.rest h).small).size)
 
     plain : to_z w64 v +ℤ to_z w64 (of_z w64 d) ≡ to_z w64 v +ℤ d
     plain = ap (λ (y : ℤ). to_z w64 v +ℤ y) (to_z-of_z (fits_size w64 d (omega (arith, small))))
@@ -133,16 +161,16 @@ module _ (t : List ℕ) (prev at left v : ℕ) (total : ℤ) (s : Adding t prev 
     held : to_z w64 (of_z w64 (to_z w64 v +ℤ to_z w64 (of_z w64 d))) ≡ to_z w64 v +ℤ d
     held = to_z-of_z adding_fits ∙ plain
 
-    pub adding_on : Adding t at (at + POINT) (left - 1) (to_z w64 (of_z w64 (to_z w64 v +ℤ to_z w64 (of_z w64 d)))) total
+    pub adding_on : Adding t at (at + POINT) (c - (i + 1)) (to_z w64 (of_z w64 (to_z w64 v +ℤ to_z w64 (of_z w64 d)))) total
     adding_on =
-        subst (λ (y : ℤ). Adding t at (at + POINT) (left - 1) y total) (sym held)
+        subst (λ (y : ℤ). Adding t at (at + POINT) (c - (i + 1)) y total) (sym held)
         (record {
-          before = run_head t left at s.rest h;
-          rest = run_rest t left at s.rest h;
+          before = head_at t c i at s.rest h;
+          rest = rest_at t c i at s.rest h;
           sum =
-              +ℤ_assoc (to_z w64 v) d (area_from (point_in t at) (points_in t (left - 1) (at + POINT)))
-              ∙ ap (λ (y : ℤ). to_z w64 v +ℤ (y +ℤ area_from (point_in t at) (points_in t (left - 1) (at + POINT)))) e
-              ∙ ap (λ (l : List Point). to_z w64 v +ℤ area_from (point_in t prev) l) (sym (points_next t left at h))
+              +ℤ_assoc (to_z w64 v) d (area_from (point_in t at) (points_in t (c - (i + 1)) (at + POINT)))
+              ∙ ap (λ (y : ℤ). to_z w64 v +ℤ (y +ℤ area_from (point_in t at) (points_in t (c - (i + 1)) (at + POINT)))) e
+              ∙ ap (λ (l : List Point). to_z w64 v +ℤ area_from (point_in t prev) l) (sym (points_at t c i at h))
               ∙ s.sum;
           low = omega (arith, near, s.low);
         })

@@ -1,19 +1,17 @@
 -- Signed numbers as the code holds them, and their text.
-use Prim.Native.Nat.{ℕ, zero, suc, ◌+◌, ◌^◌}
+use Prim.Native.Nat.{ℕ, zero, suc, ◌^◌}
 use mathlib.Core.Path.{◌≡◌, refl, sym, ap, ◌∙◌}
 use mathlib.Core.Bool.{Bool, true, false, cond, not, false≢true, true≢false}
 use mathlib.Core.List.{List, [], ◌∷◌, ◌++◌}
 use native.Mathlib.Omega.{arith}
-use native.Mathlib.Nat.{zero-add}
-use lib.Dec.{T}
-use lib.IntN.{ℤ, pos, negsuc, nat_abs, ◌-ℤ◌}
-use lib.Signed.{lt_z, non_neg}
+use lib.IntN.{ℤ, pos, negsuc, nat_abs}
+use lib.Signed.{lt_z}
 use borrow.Author.Tests.{ltb-true, ltb-false}
 use mir.Syntax.{w64}
-use mir.Val.{Fits, SFits, to_z, of_z}
+use mir.Val.{to_z, of_z}
 use mir.Facts.{to_z-of_z}
 use Rattle.exact.specs.Num.{Within}
-use Rattle.exact.proofs.Size.{fits_size, size_sub}
+use Rattle.exact.proofs.Size.{fits_size}
 use Rattle.text.specs.Pour.{poured, pour}
 use Rattle.text.specs.Text.{SPACE, MINUS, decimal, signed_text}
 use Rattle.listing.specs.Words.{PIECE, HOLE, FLAT}
@@ -22,38 +20,6 @@ use Rattle.text.proofs.Pouring.{pour_more}
 
 pub back : (z : ℤ) → Within (2 ^ 62) z → to_z w64 (of_z w64 z) ≡ z
 back z h = to_z-of_z (fits_size w64 z (omega (arith, h.size)))
-
--- ---- the magnitude
-
-negated : (z : ℤ) → lt_z z (pos 0) ≡ true → pos 0 -ℤ z ≡ pos (nat_abs z)
-negated (pos n) e = absurd (omega (arith, ltb-true n 0 e))
-negated (negsuc n) e = ap pos (zero-add (suc n))
-
-nonneg : (z : ℤ) → lt_z z (pos 0) ≡ false → z ≡ pos (nat_abs z)
-nonneg (pos n) e = refl
-nonneg (negsuc n) e = absurd (true≢false e)
-
-module _ (z : ℤ) (h : Within (2 ^ 62) z) where
-  pub minus_fits : SFits w64 (pos 0 -ℤ to_z w64 (of_z w64 z))
-  minus_fits = rw (back z h) (fits_size w64 (pos 0 -ℤ z) (omega (arith, size_sub (pos 0) z, h.size)))
-
-  minus_is : lt_z (to_z w64 (of_z w64 z)) (pos 0) ≡ true → to_z w64 (of_z w64 (pos 0 -ℤ to_z w64 (of_z w64 z))) ≡ pos (nat_abs z)
-  minus_is e = to_z-of_z minus_fits ∙ ap (λ (x : ℤ). pos 0 -ℤ x) (back z h) ∙ negated z (rw (back z h) at e)
-
-  pub minus_casts : lt_z (to_z w64 (of_z w64 z)) (pos 0) ≡ true → T (non_neg (to_z w64 (of_z w64 (pos 0 -ℤ to_z w64 (of_z w64 z))))) × Fits w64 (nat_abs (to_z w64 (of_z w64 (pos 0 -ℤ to_z w64 (of_z w64 z)))))
-  minus_casts e = rw (minus_is e) (tt, record { fits = omega (arith, h.size) })
-
-  pub minus_size : lt_z (to_z w64 (of_z w64 z)) (pos 0) ≡ true → nat_abs (to_z w64 (of_z w64 (pos 0 -ℤ to_z w64 (of_z w64 z)))) ≡ nat_abs z
-  minus_size e = ap nat_abs (minus_is e)
-
-  plus_is : lt_z (to_z w64 (of_z w64 z)) (pos 0) ≡ false → to_z w64 (of_z w64 z) ≡ pos (nat_abs z)
-  plus_is e = back z h ∙ nonneg z (rw (back z h) at e)
-
-  pub plus_casts : lt_z (to_z w64 (of_z w64 z)) (pos 0) ≡ false → T (non_neg (to_z w64 (of_z w64 z))) × Fits w64 (nat_abs (to_z w64 (of_z w64 z)))
-  plus_casts e = rw (plus_is e) (tt, record { fits = omega (arith, h.size) })
-
-  pub plus_size : lt_z (to_z w64 (of_z w64 z)) (pos 0) ≡ false → nat_abs (to_z w64 (of_z w64 z)) ≡ nat_abs z
-  plus_size e = ap nat_abs (plus_is e)
 
 -- ---- the text
 

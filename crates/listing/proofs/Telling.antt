@@ -8,8 +8,7 @@ use native.Mathlib.Decide.{dec_lt}
 use lib.ListN.{length, set, take, drop}
 use lib.Seq.{sets, length-sets, drop-nil}
 use borrow.Author.Tests.{le-leb, lt-leb}
-use Rattle.listing.specs.declared.Listed.{Listed}
-use Rattle.listing.specs.declared.Listed.TheVariants.{Bytes, NoRoom}
+use Rattle.std.specs.Prelude.{Option, Some, None}
 use Rattle.text.specs.Pour.{Poured, poured, pour}
 use Rattle.text.specs.Text.{SPACE, NEWLINE, decimal}
 use Rattle.listing.specs.Words.{CLOSED, OPEN, REFUSED}
@@ -20,37 +19,34 @@ use Rattle.listing.specs.Needs.{Going}
 use Rattle.listing.specs.Told.{told, answer_at, tell}
 use Rattle.listing.specs.Needs.{Listable}
 use Rattle.text.proofs.Pouring.{pour_none, pour_more, pour_length}
-use Rattle.listing.proofs.Runs.{less}
+use Rattle.listing.proofs.Runs.{one_passed, all_passed, from_none}
 
 -- ---- lines
 
-pub going_begins : (t : List ℕ) (from count : ℕ) (rev o : Bool) (at : ℕ) (out : List ℕ) → FieldsIn t count from → Going t from count rev o at out out at from count
-going_begins t from count rev o at out r = record { rest = r; done = []; is = pour_none out at; all = refl; after = refl }
+pub going_begins : (t : List ℕ) (from count : ℕ) (rev o : Bool) (at : ℕ) (out : List ℕ) → FieldsIn t count from → Going t from count rev o at out out at from (count - 0)
+going_begins t from count rev o at out r = from_none (Going t from count rev o at out out at from) count (record { rest = r; done = []; is = pour_none out at; all = refl; after = refl })
 
-module _ (t : List ℕ) (from count : ℕ) (rev o : Bool) (at : ℕ) (out₀ out : List ℕ) (k f left : ℕ) (s : Going t from count rev o at out₀ out k f left) where
+module _ (t : List ℕ) (from count : ℕ) (rev o : Bool) (at : ℕ) (out₀ out : List ℕ) (k f c i : ℕ) (s : Going t from count rev o at out₀ out k f (c - i)) where
   pub going_length : length out ≡ length out₀
   going_length = pour_length s.done out₀ out at k s.is
 
-  none_left : left ≤ 0 → left ≡ 0
-  none_left h = omega arith
+  pub going_after : c ≤ i → f ≡ field_after t count from
+  going_after h = ap (λ (m : ℕ). field_after t m f) (sym (all_passed c i h)) ∙ s.after
 
-  pub going_after : left ≤ 0 → f ≡ field_after t count from
-  going_after h = ap (λ (m : ℕ). field_after t m f) (sym (none_left h)) ∙ s.after
-
-  pub going_ends : left ≤ 0 → poured k out ≡ pour (lines_of rev o (paths_in t count from)) at out₀
+  pub going_ends : c ≤ i → poured k out ≡ pour (lines_of rev o (paths_in t count from)) at out₀
   going_ends h =
       s.is
       ∙ ap (λ (x : List ℕ). pour x at out₀)
-      (sym (append-nil s.done) ∙ ap (λ (m : ℕ). s.done ++ lines_of rev o (paths_in t m f)) (sym (none_left h)) ∙ s.all)
+      (sym (append-nil s.done) ∙ ap (λ (m : ℕ). s.done ++ lines_of rev o (paths_in t m f)) (sym (all_passed c i h)) ∙ s.all)
 
-  module _ (h : 0 < left) where
-    fields : FieldIn t f × FieldsIn t (left - 1) (next_field t f)
-    fields = subst (λ (m : ℕ). FieldsIn t m f) (less left h) s.rest
+  module _ (h : i < c) where
+    fields : FieldIn t f × FieldsIn t (c - (i + 1)) (next_field t f)
+    fields = subst (λ (m : ℕ). FieldsIn t m f) (one_passed c i h) s.rest
 
     pub going_field : FieldIn t f
     going_field = fields.0
 
-    pub going_on : (k' v : ℕ) (out' : List ℕ) → poured k' out' ≡ pour (line_of rev o (path_in t f)) k out → v ≡ value_length t f → Going t from count rev o at out₀ out' k' (f + 3 + v) (left - 1)
+    pub going_on : (k' v : ℕ) (out' : List ℕ) → poured k' out' ≡ pour (line_of rev o (path_in t f)) k out → v ≡ value_length t f → Going t from count rev o at out₀ out' k' (f + 3 + v) (c - (i + 1))
     going_on k' v out' e g =
         rw g
         (record {
@@ -58,10 +54,10 @@ module _ (t : List ℕ) (from count : ℕ) (rev o : Bool) (at : ℕ) (out₀ out
           done = s.done ++ line_of rev o (path_in t f);
           is = pour_more s.done (line_of rev o (path_in t f)) out₀ out out' at k k' s.is e;
           all =
-              append_assoc s.done (line_of rev o (path_in t f)) (lines_of rev o (paths_in t (left - 1) (next_field t f)))
-              ∙ ap (λ (m : ℕ). s.done ++ lines_of rev o (paths_in t m f)) (sym (less left h))
+              append_assoc s.done (line_of rev o (path_in t f)) (lines_of rev o (paths_in t (c - (i + 1)) (next_field t f)))
+              ∙ ap (λ (m : ℕ). s.done ++ lines_of rev o (paths_in t m f)) (sym (one_passed c i h))
               ∙ s.all;
-          after = ap (λ (m : ℕ). field_after t m f) (sym (less left h)) ∙ s.after;
+          after = ap (λ (m : ℕ). field_after t m f) (sym (one_passed c i h)) ∙ s.after;
         })
 
 -- ---- first line, refusal
@@ -99,13 +95,13 @@ sets_front [] text = sets_nil 0 text ∙ sym (drop-nil (length text))
 sets_front (x ∷ t) [] = refl
 sets_front (x ∷ t) (v ∷ text) = sets_cons v t 0 text ∙ ap (λ (l : List ℕ). v ∷ l) (sets_front t text)
 
-pub told_all : (text t u : List ℕ) (at : ℕ) (r : Listed) → poured at u ≡ pour text 0 t → r ≡ answer_at at u → told r u ≡ tell text t
+pub told_all : (text t u : List ℕ) (at : ℕ) (r : Option ℕ) → poured at u ≡ pour text 0 t → r ≡ answer_at at u → told r u ≡ tell text t
 unfolding pour tell
 told_all text t u at r e f =
     let n : at ≡ max 0 (min (0 + length text) (suc (length t))) = ap (λ (x : Poured). x.at) e in
     let o : u ≡ sets t 0 text = ap (λ (x : Poured). x.out) e in
     let l : length u ≡ length t = ap length o ∙ length-sets t 0 text in
-    ap (λ (x : Listed). told x u) (f ∙ by n l) ∙ ap (λ (x : List ℕ). told (answer_at (length text) t) x) (o ∙ sets_front t text)
+    ap (λ (x : Option ℕ). told x u) (f ∙ by n l) ∙ ap (λ (x : List ℕ). told (answer_at (length text) t) x) (o ∙ sets_front t text)
   where
     by : at ≡ max 0 (min (0 + length text) (suc (length t))) → length u ≡ length t → answer_at at u ≡ answer_at (length text) t
     by n l = go (dec_lt (length t) (length text))
@@ -116,10 +112,10 @@ told_all text t u at r e f =
             let z : at ≡ length text = omega arith in
             rw (z, le-leb (length text) (length u) (omega arith), le-leb (length text) (length t) (omega arith))
 
-pub has_room : (at : ℕ) (u : List ℕ) → at ≤ length u → Bytes at ≡ answer_at at u
+pub has_room : (at : ℕ) (u : List ℕ) → at ≤ length u → Some at ≡ answer_at at u
 has_room at u h = rw (le-leb at (length u) h)
 
-pub no_room : (at : ℕ) (u : List ℕ) → length u < at → NoRoom ≡ answer_at at u
+pub no_room : (at : ℕ) (u : List ℕ) → length u < at → None ≡ answer_at at u
 no_room at u h = rw (lt-leb at (length u) h)
 
 -- the listing: counts, closed lines, open lines

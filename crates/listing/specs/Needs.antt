@@ -10,8 +10,7 @@ use Rattle.listing.specs.Fields.{next_field, path_in, point_in, points_in, paths
 use Rattle.text.specs.Pour.{poured, pour}
 use Rattle.listing.specs.Lines.{lines_of, points_text}
 use Rattle.listing.specs.Charge.{net_area}
-use Rattle.listing.specs.declared.Listed.{Listed}
-use Rattle.listing.specs.declared.Listed.TheVariants.{Bytes, NoRoom}
+use Rattle.std.specs.Prelude.{Option, Some, None}
 
 -- a point within the tray and within the limit
 pub record Held (t : List ℕ) (at : ℕ) : Type 0 where
@@ -62,9 +61,9 @@ pub record Going (t : List ℕ) (from count : ℕ) (rev o : Bool) (at : ℕ) (ou
   pub after : field_after t left f ≡ field_after t count from
 
 -- there was room for all of the text, in a slice of n bytes
-abbrev pub Whole : Listed → ℕ → Type 0
-Whole (Bytes m) n = m ≤ n
-Whole NoRoom n = ⊥
+abbrev pub Whole : Option ℕ → ℕ → Type 0
+Whole (Some m) n = m ≤ n
+Whole None n = ⊥
 
 -- a tray that begins with fields of so many closed and then so many open paths, their points within the limit
 pub record Listable (closed open' : ℕ) (t : List ℕ) : Type 0 where

@@ -8,7 +8,7 @@ ghost use Rattle.listing.specs.Charge.{net_area, charge_text, charged_of};
 ghost use Rattle.listing.specs.Told.{told, tell};
 ghost use Rattle.listing.specs.Needs.{Listable, Summable};
 
-use crate::{Listed, answer, area_in, magnitude, put_listing, value_length};
+use crate::{answer, area_in, put_listing, value_length};
 use paths::POINT;
 use rates::{Charge, charge_of};
 use text::{put, put_decimal, put_text};
@@ -20,13 +20,11 @@ fn net_area(t: &[u8], n: usize) -> i64
 {
     let mut a: i64 = 0;
     let mut f: usize = 0;
-    let mut left = n;
-    while 0 < left {
+    for i in 0..n {
         let length = value_length(t, f);
         let e = area_in(t, f + 3, length / POINT);
-        a = a + e;
+        a += e;
         f = f + 3 + length;
-        left -= 1;
     }
     a
 }
@@ -37,8 +35,7 @@ fn charge_in(t: &[u8], n: usize, rate: u64) -> Charge
     ensures { result ≡ charge_of (nat_abs (net_area (paths_in t.now n 0))) rate }
 {
     let net = net_area(t, n);
-    let m = magnitude(net);
-    charge_of(m, rate)
+    charge_of(net.unsigned_abs(), rate)
 }
 
 // The last line.
@@ -60,7 +57,7 @@ pub fn charged(
     rev: bool,
     rate: u64,
     out: &mut [u8],
-) -> Listed
+) -> Option<usize>
     requires fact_1 { Listable closed opened t.now }
     requires fact_2 { Summable t.now closed }
     requires fact_3 { rate ≤ LARGEST }

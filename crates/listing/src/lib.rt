@@ -30,23 +30,12 @@ fn text_agrees()
     ensures { TEXT ≡ lines.TEXT }
 {}
 
-// How large a number is.
-fn magnitude(z: i64) -> u64
-    requires { Within (2 ^ 62) z }
-    ensures { result ≡ nat_abs z }
-{
-    if z < 0 {
-        return (0 - z) as u64;
-    }
-    z as u64
-}
-
 // A decimal number with its sign.
 fn put_signed(out: &mut [u8], at: usize, z: i64) -> usize
     requires { Within (2 ^ 62) z }
     ensures { poured result out.new ≡ pour (signed_text z) at out.old }
 {
-    let n = magnitude(z);
+    let n = z.unsigned_abs();
     if z < 0 {
         let k = put(out, at, b'-');
         return put_decimal(out, k, n);
@@ -150,11 +139,9 @@ fn put_points(t: &[u8], from: usize, n: usize, out: &mut [u8], at: usize) -> usi
 {
     let mut k = at;
     let mut f = from;
-    let mut left = n;
-    while 0 < left {
+    for i in 0..n {
         k = put_point(t, f, out, k);
         f += POINT;
-        left -= 1;
     }
     k
 }
@@ -180,13 +167,10 @@ fn area_in(t: &[u8], from: usize, n: usize) -> i64
     let mut a: i64 = 0;
     let mut prev = from + POINT * (n - 1);
     let mut at = from;
-    let mut left = n;
-    while 0 < left {
-        let e = edge_in(t, prev, at);
-        a = a + e;
+    for i in 0..n {
+        a += edge_in(t, prev, at);
         prev = at;
         at += POINT;
-        left -= 1;
     }
     a
 }
@@ -238,8 +222,7 @@ fn put_line(t: &[u8], from: usize, rev: bool, opened: bool, out: &mut [u8], at: 
     requires { FieldIn t.now from }
     ensures { poured result out.new ≡ pour (line_of rev opened (path_in t.now from)) at out.old }
 {
-    let length = value_length(t, from);
-    let n = length / POINT;
+    let n = value_length(t, from) / POINT;
     let body = from + 3;
     let a = put_head(t, body, n, rev, opened, out, at);
     let b = put_points(t, body, n, out, a);
@@ -270,12 +253,9 @@ fn put_lines(
 {
     let mut k = at;
     let mut f = from;
-    let mut left = count;
-    while 0 < left {
+    for i in 0..count {
         k = put_line(t, f, rev, opened, out, k);
-        let length = value_length(t, f);
-        f = f + 3 + length;
-        left -= 1;
+        f = f + 3 + value_length(t, f);
     }
     Places { from: f, at: k }
 }
@@ -291,20 +271,11 @@ fn put_counts(closed: usize, opened: usize, out: &mut [u8]) -> usize
     put(out, d, b'\n')
 }
 
-// What listing answers: how many bytes the text has, or that there is no room for it.
-#[derive(Clone, Copy)]
-pub enum Listed {
-    Bytes(usize),
-    NoRoom,
-}
-
-fn answer(at: usize, out: &[u8]) -> Listed
+// How many bytes a text that ends at `at` has, if there is room for it.
+fn answer(at: usize, out: &[u8]) -> Option<usize>
     ensures { result ≡ answer_at at out.now }
 {
-    if at <= out.len() {
-        return Listed::Bytes(at);
-    }
-    Listed::NoRoom
+    if at <= out.len() { Some(at) } else { None }
 }
 
 // The lines of a tray that begins with the fields of so many closed and then so many open paths, written under the setting `rev` of `reverse_solution`.
@@ -314,14 +285,11 @@ fn put_listing(t: &[u8], closed: usize, opened: usize, rev: bool, out: &mut [u8]
 {
     let a = put_counts(closed, opened, out);
     let b = put_lines(t, 0, closed, rev, false, out, a);
-    let from = b.from;
-    let place = b.at;
-    let c = put_lines(t, from, opened, rev, true, out, place);
-    c.at
+    put_lines(t, b.from, opened, rev, true, out, b.at).at
 }
 
-// The listing of such a tray.
-pub fn listing(t: &[u8], closed: usize, opened: usize, rev: bool, out: &mut [u8]) -> Listed
+// The listing of such a tray: how many bytes it has, or none where there is no room for it.
+pub fn listing(t: &[u8], closed: usize, opened: usize, rev: bool, out: &mut [u8]) -> Option<usize>
     requires { Listable closed opened t.now }
     ensures { told result out.new ≡ tell (listing_of rev closed opened t.now) out.old }
 {
@@ -330,7 +298,7 @@ pub fn listing(t: &[u8], closed: usize, opened: usize, rev: bool, out: &mut [u8]
 }
 
 // The line of a refusal.
-pub fn refusal(number: u32, out: &mut [u8]) -> Listed
+pub fn refusal(number: u32, out: &mut [u8]) -> Option<usize>
     ensures { told result out.new ≡ tell (refused_line number) out.old }
 {
     let a = put_text(out, 0, b"refused ");

@@ -1,19 +1,30 @@
 -- Marks: one is set, and all below a count are tested, a word at a time.
-use mathlib.Core.Path.{◌≡◌, refl, sym, ap, ◌∙◌}
-use mathlib.Core.Bool.{Bool, true, false, not, ◌&&◌, ◌||◌}
+use mathlib.Core.Path.{◌≡◌, refl, sym, ap, ◌∙◌, subst}
+use mathlib.Core.Bool.{Bool, true, false, ◌&&◌, ◌||◌}
 use mathlib.Core.List.{List}
 use Prim.Native.Nat.{ℕ, zero, suc, ◌+◌, ◌-◌, ◌*◌, ◌/◌, ◌%◌, ◌^◌, ◌<◌, ◌≤◌}
 use native.Mathlib.Decide.{ℕ_discrete, dec_lt}
 use native.Mathlib.Nat.{add-zero, add-suc, one-mul, mod-eq_of_lt, zero-div}
-use native.Mathlib.Numerals.{add-one}
 use native.Mathlib.Omega.{arith}
 use lib.Arith.{digits_div, digits_mod}
 use lib.Bits.{bit_or, bit_and, and_mask, or_zero_r}
 use lib.Dec.{eqb}
-use lib.ListN.{length, get_or, set, replicate, length-set, get_or-replicate, get_or-eq_default}
-use lib.Pow.{pow_pos, shl_exact}
+use lib.ListN.{length, get_or, take, set, replicate, length-set, get_or-replicate, get_or-eq_default}
+use lib.Pow.{shl_exact}
 use lib.Seq.{get_or-set_same, get_or-set_other, set_out, set-set, set-get_or}
-use borrow.Author.Tests.{eq-eqb, ne_eqb, not-true, not-false}
+use borrow.Author.Tests.{eq-eqb, ne_eqb}
+use Rattle.std.proofs.lemmas.List.{get_or-take, length-take}
+use denote.Param.Members.{Mut}
+use Rattle.std.proofs.Common.{Bor, Iter}
+use Rattle.std.proofs.iter.Yields.{fronts}
+use Rattle.std.proofs.lemmas.Iterator.{YieldsList-from_slice, cases_from_all}
+use Rattle.std.specs.Fn.{Called}
+use Rattle.std.specs.Iterator.{YieldsThen}
+use Rattle.std.specs.Option.{MatchOption}
+use Rattle.std.specs.Prelude.{Option}
+use Rattle.std.specs.Slice.Iter.{iter_rest}
+use Rattle.std.specs.Bool.{MatchBool}
+use Rattle.std.specs.List.{AllWithin, HoldsAt, FoldsTo}
 use Rattle.job.specs.Limits.{POINTS}
 use Rattle.marks.specs.Marks.{BITS, WORDS, bit, with_bit, marked, with_mark, with_bits, all_below}
 use Rattle.marks.proofs.Bits.{bit_set, low_is, or_assoc}
@@ -27,9 +38,6 @@ shifted i h = shl_exact {a = 1} 1 i BITS (omega arith) (omega arith) ∙ one-mul
 pub with_bit_is : (w i : ℕ) → i < BITS → bit_or w (1 * 2 ^ i % 2 ^ BITS) ≡ with_bit w i
 unfolding with_bit
 with_bit_is w i h = rw (shifted i h)
-
-pub low_positive : (n : ℕ) → n < BITS → 1 ≤ 1 * 2 ^ n % 2 ^ BITS
-low_positive n h = rw (shifted n h) (pow_pos n)
 
 pub low_set_is : (w n : ℕ) → n < BITS → eqb (bit_and w (1 * 2 ^ n % 2 ^ BITS - 1)) (1 * 2 ^ n % 2 ^ BITS - 1) ≡ all_below n (bit w)
 low_set_is w n h = rw (shifted n h, and_mask w n) (low_is w n)
@@ -72,6 +80,13 @@ module _ (q : ℕ → Bool) where
   all_same p zero h = refl
   all_same p (suc n) h = rw (all_same p n (λ i l. h i (omega arith)), h n (omega arith))
 
+-- a word that has all its bits, and one that lacks one
+abbrev pub full_word : ℕ → Type 0
+full_word w = all_below BITS (bit w) ≡ true
+
+abbrev pub bare_word : ℕ → Type 0
+bare_word w = all_below BITS (bit w) ≡ false
+
 -- ---- marks
 
 pub none_marked : (k : ℕ) → k < POINTS → marked (replicate WORDS 0) k ≡ false
@@ -88,10 +103,6 @@ module _ (ws : List ℕ) where
   block j m h =
       all_split (marked ws) (j * BITS) m
       ∙ ap (λ (b : Bool). all_below (j * BITS) (marked ws) && b) (all_same (bit (get_or ws j 0)) (λ i. marked ws (j * BITS + i)) m (λ i l. in_word j i (omega arith)))
-
-  pub none_yet : all_below (0 * BITS) (marked ws) ≡ true
-  unfolding all_below
-  none_yet = refl
 
   pub length_with : (j b : ℕ) → length (with_bits ws j b) ≡ length ws
   unfolding with_bits
@@ -143,30 +154,53 @@ module _ (ws : List ℕ) where
     unfolding all_below
     past_count count h = sym (all_stays (marked ws) (suc POINTS) count h (rw (none_past POINTS (omega arith)) (and_false (all_below POINTS (marked ws)))))
 
-  -- the loop over whole words
-  module _ (i w : ℕ) (b : Bool) (e : w ≡ get_or ws i 0) (a : b ≡ all_below BITS (bit w)) where
-    whole_word : all_below (suc i * BITS) (marked ws) ≡ (all_below (i * BITS) (marked ws) && b)
-    whole_word =
-        let d : suc i * BITS ≡ i * BITS + BITS = omega arith in
-        ap (λ (x : ℕ). all_below x (marked ws)) d
-        ∙ block i BITS (omega arith)
-        ∙ ap (λ (c : Bool). all_below (i * BITS) (marked ws) && c) (ap (λ (x : ℕ). all_below BITS (bit x)) (sym e) ∙ sym a)
+  -- the first n words have all their bits
+  words_full : (n : ℕ) → AllWithin full_word ws 0 n → all_below (n * BITS) (marked ws) ≡ true
+  unfolding all_below
+  words_full zero h = refl
+  words_full (suc n) h =
+      let d : suc n * BITS ≡ n * BITS + BITS = omega arith in
+      ap (λ (x : ℕ). all_below x (marked ws)) d
+      ∙ block n BITS (omega arith)
+      ∙ rw (words_full n (λ k e l m. h k e l (omega arith)), h n 0 (omega arith) (omega arith))
 
-    pub word_more : all_below (i * BITS) (marked ws) ≡ true → not b ≡ false → all_below ((i + 1) * BITS) (marked ws) ≡ true
-    word_more g h = rw add-one (whole_word ∙ rw (g, not-false b h))
+  -- word k lacks a bit
+  word_bare : (n k : ℕ) → k < n → bare_word (get_or ws k 0) → all_below (n * BITS) (marked ws) ≡ false
+  word_bare n k l h =
+      let d : suc k * BITS ≡ k * BITS + BITS = omega arith in
+      all_stays (marked ws) (suc k * BITS) (n * BITS) (omega arith)
+      (ap (λ (x : ℕ). all_below x (marked ws)) d ∙ block k BITS (omega arith) ∙ rw h (and_false (all_below (k * BITS) (marked ws))))
 
-    pub word_bare : (count n : ℕ) → i < n → n ≡ count / BITS → not b ≡ true → false ≡ all_below count (marked ws)
-    word_bare count n k c h = sym (all_stays (marked ws) (suc i * BITS) count (omega arith) (whole_word ∙ rw (not-true b h) (and_false (all_below (i * BITS) (marked ws)))))
+  -- what `all` over the first n words answers
+  pub words_are : (n : ℕ) → n ≤ length ws → (r : Bool)
+      → MatchBool r (AllWithin full_word (take n ws) 0 (length (take n ws))) ((k : ℕ) × (k < length (take n ws)) × HoldsAt bare_word (take n ws) k)
+      → r ≡ all_below (n * BITS) (marked ws)
+  words_are n h true a =
+      sym (words_full n (λ k e l m. subst full_word (get_or-take n ws k e m) (a k e l (omega (arith, length-take n ws)))))
+  words_are n h false a =
+      let l : a.0 < n = omega (arith, length-take n ws) in
+      sym (word_bare n a.0 l (subst bare_word (get_or-take n ws a.0 0 l) (a.2 0)))
 
-  module _ (count i : ℕ) (g : all_below (i * BITS) (marked ws) ≡ true) (h : count / BITS ≤ i) (k : i ≤ count / BITS) where
-    pub no_rest : count % BITS ≡ 0 → true ≡ all_below count (marked ws)
-    no_rest z = let d : i * BITS ≡ count = omega arith in sym g ∙ ap (λ (x : ℕ). all_below x (marked ws)) d
+  -- the same by the call's clause `ran`, that the iterator is over the first n words, and what the closure answers
+  pub words_by_all : {F : Type 0} {g : Mut F (Bor ℕ × Unit {0}) Bool} {s : Iter ℕ} (n : ℕ) (u : Iter ℕ) (f : F) (r : Bool) → n ≤ length ws
+      → (xs : List (Bor ℕ)) × (o : Option (Bor ℕ)) × (j : F) × YieldsThen fronts s xs o u × FoldsTo (λ p x q. Called g p (x, tt) true q) f xs j × MatchOption o (r ≡ true) (λ x. (r ≡ false) × ((h : F) × Called g j (x, tt) false h))
+      → iter_rest s ≡ take n ws
+      → ((x : Bor ℕ) (b : Bool) (q : F) → Called g f (x, tt) b q → (q ≡ f) × (b ≡ all_below BITS (bit x.now)))
+      → r ≡ all_below (n * BITS) (marked ws)
+  words_by_all n u f r h a e k =
+      words_are n h r (cases_from_all u f r full_word bare_word a (YieldsList-from_slice (take n ws) e) (λ x q c. ((k x true q c).0, sym (k x true q c).1)) (λ x q c. sym (k x false q c).1))
 
-    pub rest_is : (w : ℕ) (b : Bool) → w ≡ get_or ws (count / BITS) 0 → b ≡ all_below (count % BITS) (bit w) → b ≡ all_below count (marked ws)
-    rest_is w b e a =
-        let c : i ≡ count / BITS = omega arith in
+  module _ (count : ℕ) (r : Bool) (e : r ≡ all_below (count / BITS * BITS) (marked ws)) where
+    pub words_bare : r ≡ false → false ≡ all_below count (marked ws)
+    words_bare h = sym (all_stays (marked ws) (count / BITS * BITS) count (omega arith) (sym e ∙ h))
+
+    pub no_rest : r ≡ true → count % BITS ≡ 0 → true ≡ all_below count (marked ws)
+    no_rest h z = let d : count / BITS * BITS ≡ count = omega arith in sym h ∙ e ∙ ap (λ (x : ℕ). all_below x (marked ws)) d
+
+    pub rest_is : r ≡ true → (b : Bool) → b ≡ all_below (count % BITS) (bit (get_or ws (count / BITS) 0)) → b ≡ all_below count (marked ws)
+    rest_is h b a =
         let d : count / BITS * BITS + count % BITS ≡ count = omega arith in
-        a ∙ ap (λ (x : ℕ). all_below (count % BITS) (bit x)) e
-        ∙ sym (ap (λ (b : Bool). b && all_below (count % BITS) (bit (get_or ws (count / BITS) 0))) (ap (λ (x : ℕ). all_below (x * BITS) (marked ws)) (sym c) ∙ g))
+        a
+        ∙ sym (ap (λ (b : Bool). b && all_below (count % BITS) (bit (get_or ws (count / BITS) 0))) (sym e ∙ h))
         ∙ sym (block (count / BITS) (count % BITS) (omega arith))
         ∙ ap (λ (x : ℕ). all_below x (marked ws)) d

@@ -63,8 +63,7 @@ impl Marks {
     pub fn set(self, i: usize) -> Marks
         ensures { result.words ≡ with_mark self.words i }
     {
-        let b = with_bit(0, i % BITS);
-        self.set_bits(i / BITS, b)
+        self.set_bits(i / BITS, with_bit(0, i % BITS))
     }
 
     // The points of word j that b has the bits of are marked too.
@@ -74,8 +73,7 @@ impl Marks {
         if WORDS <= j {
             return self;
         }
-        let w = self.words[j];
-        self.words[j] = w | b;
+        self.words[j] |= b;
         self
     }
 
@@ -87,20 +85,10 @@ impl Marks {
             return false;
         }
         let whole = count / BITS;
-        let mut i: usize = 0;
-        while i < whole {
-            let word = self.words[i];
-            let full = is_full(word);
-            if !full {
-                return false;
-            }
-            i += 1;
+        if !self.words[..whole].iter().all(|w| is_full(*w)) {
+            return false;
         }
         let rest = count % BITS;
-        if rest == 0 {
-            return true;
-        }
-        let last = self.words[whole];
-        low_set(last, rest)
+        rest == 0 || low_set(self.words[whole], rest)
     }
 }

@@ -2,7 +2,6 @@
 // printed there, and `refused` with its number on standard error.
 #![tactic(auto)]
 
-use audit::Reply;
 use job::refusal::Refusal;
 use mending::mend;
 use prefix::DECIDES;
@@ -17,23 +16,12 @@ fn refuse<R: Eprint>(rt: &R, x: Refusal) -> io::Result<ExitCode> {
     Ok(ExitCode::SUCCESS)
 }
 
-// Writes to standard output; says so where that does not take all of it.
-fn put<R: Print + Eprint>(rt: &R, bytes: &[u8]) -> io::Result<ExitCode> {
-    write_or_say(rt, "mend", bytes)
-}
-
-// Writes the job, or why there is none.
-fn say<R: Print + Eprint>(rt: &R, a: Reply, job: &[u8]) -> io::Result<ExitCode> {
-    match a {
-        Reply::Done => put(rt, job),
-        Reply::Refused(x) => refuse(rt, x),
-    }
-}
-
-// Mends a job that was read.
+// Mends a job that was read, and writes it, or why there is none.
 fn answer<R: Print + Eprint>(rt: &R, job: &mut [u8]) -> io::Result<ExitCode> {
-    let a = mend(job);
-    say(rt, a, job)
+    match mend(job) {
+        Ok(()) => write_or_say(rt, "mend", job),
+        Err(x) => refuse(rt, x),
+    }
 }
 
 // Reads as many bytes as decide any job: what follows them changes nothing of the answer, and a job that is mended has no more (`mends`, crate mending).

@@ -8,11 +8,11 @@ use native.Mathlib.Omega.{arith}
 use native.Mathlib.Decide.{ℕ_discrete, dec_lt}
 use lib.ListN.{length, get_or, set, replicate}
 use lib.Seq.{set_out, get_or-set_same, get_or-set_other}
+use Rattle.std.specs.Prelude.{Ok}
 use Rattle.numbers.specs.Written.{put_le}
 use Rattle.rings.specs.Links.{All}
 use Rattle.job.specs.Limits as limit
 use Rattle.store.specs.Field.{BLOCK}
-use Rattle.audit.specs.declared.Reply.TheVariants.{Done}
 use Rattle.reading.specs.Needs.{Space}
 use Rattle.mending.specs.Mend.{mended, prev_at, with_prevs, mend_of}
 use Rattle.mending.specs.Mends.{acceptance, passes_rows, job_points, MendedWell}
@@ -42,10 +42,10 @@ bytes_at (x ∷ s) h zero = h.0
 bytes_at (x ∷ s) h (suc i) = bytes_at s h.1 i
 
 module _ (bytes : List ℕ) (b : All (λ (r : ℕ). r < 256) bytes) where
-  pub comes_back_so : (w ss js : List ℕ) → Space w ss js → passes_rows 6 (acceptance bytes w ss js) ≡ true → mend_of bytes ≡ mended Done bytes
+  pub comes_back_so : (w ss js : List ℕ) → Space w ss js → passes_rows 6 (acceptance bytes w ss js) ≡ true → mend_of bytes ≡ mended (Ok tt) bytes
   comes_back_so = unaltered_of bytes (bytes_at bytes b)
 
-  pub mends_once : (mend_of bytes).answer ≡ Done → mend_of (mend_of bytes).bytes ≡ mend_of bytes
+  pub mends_once : (mend_of bytes).answer ≡ Ok tt → mend_of (mend_of bytes).bytes ≡ mend_of bytes
   mends_once e =
       let m : MendedWell (job_points bytes) bytes (mend_of bytes).bytes = done_well bytes e in
       let small : Small (mend_of bytes).bytes = subst (λ (s : List ℕ). (i : ℕ) → get_or s i 0 < 256) (sym m.is) (bytes_prevs m.prevs (job_points bytes) bytes (bytes_at bytes b)) in

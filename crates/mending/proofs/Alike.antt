@@ -7,6 +7,7 @@ use native.Mathlib.Omega.{arith}
 use lib.Dec.{ltb}
 use lib.ListN.{length, set, drop, length-set}
 use borrow.Author.Tests.{leb-false}
+use Rattle.std.proofs.Common.{Result, Ok, Err}
 use Rattle.numbers.specs.Bytes.{le}
 use Rattle.job.specs.Coordinate.{word_at, depth_at}
 use Rattle.job.specs.Limits as limit
@@ -17,12 +18,10 @@ use Rattle.job.specs.declared.field.Kind.{Kind}
 use Rattle.job.specs.declared.field.Kind.TheVariants as kind
 use Rattle.job.specs.declared.field.Field.{Field}
 use Rattle.job.specs.declared.field.Field.TheVariants.{Settings, Point, Record, Segment, Join}
-use Rattle.job.specs.declared.field.Reading.{Reading}
-use Rattle.job.specs.declared.field.Reading.TheVariants as reading
+use Rattle.job.specs.declared.refusal.Refusal.{Refusal}
 use Rattle.store.specs.Words.{Store, view, Write, on_words}
 use Rattle.store.specs.Stores.{on_store}
 use Rattle.store.proofs.Storing.{view_writes, length_writes}
-use Rattle.reading.specs.declared.fill.Outcome.TheVariants.{Ok, Refused}
 use Rattle.reading.specs.Fill.{ReadEnd, end, record_read, placed, taken, turn_of, follow, run}
 use Rattle.reading.specs.Needs.{Space}
 use Rattle.reading.proofs.Going.{After, moves}
@@ -154,11 +153,11 @@ module _ (bytes bytes' : List ℕ) (f : ℕ → ℕ) (N : ℕ) where
           let st : past (field_in k (value_of here)) n j ≡ m = ap (λ (x : Field). past x n j) (sym r.is) ∙ t.state in
           let v = value_alike bytes bytes' f N sim j b.lay k g n r (subst (λ (x : Job). x.points ≤ N) (sym st) p) (subst (λ (x : Job). 2 < x.last → x.points ≡ N) (sym st) o) in
           let r0 : ReadAs j here (field_in k (value_of here)) n k = subst (λ (x : Field). ReadAs j here x n k) r.is r in
-          let r' : field_of j (drop j.at bytes') ≡ reading.Read (fixed f j.points (field_in k (value_of here))) n = as_read j (drop j.at bytes') (fixed f j.points (field_in k (value_of here))) n k (same_read bytes bytes' f N sim j (field_in k (value_of here)) n k r0 v.0 v.1) in
+          let r' : field_of j (drop j.at bytes') ≡ Ok (fixed f j.points (field_in k (value_of here)), n) = as_read j (drop j.at bytes') (fixed f j.points (field_in k (value_of here))) n k (same_read bytes bytes' f N sim j (field_in k (value_of here)) n k r0 v.0 v.1) in
           let i : Within (past (field_in k (value_of here)) n j) = subst Within (sym st) ((subst (After j) e (moves bytes j w ss js)).within b.within) in
-          let z : field_of j here ≡ reading.Read (field_in k (value_of here)) n = t.reads ∙ ap (λ (x : Field). reading.Read x n) r.is in
-          subst (λ (x : Reading). AlikeEnd (taken x j w ss js) (taken (field_of j (drop j.at bytes')) j w' ss' js')) (sym z)
-          (subst (λ (x : Reading). AlikeEnd (placed (field_in k (value_of here)) n j w ss js) (taken x j w' ss' js')) (sym r') (place_both n k r0 i))
+          let z : field_of j here ≡ Ok (field_in k (value_of here), n) = t.reads ∙ ap (λ (x : Field). Ok (x, n)) r.is in
+          subst (λ (x : Result (Field × ℕ) Refusal). AlikeEnd (taken x j w ss js) (taken (field_of j (drop j.at bytes')) j w' ss' js')) (sym z)
+          (subst (λ (x : Result (Field × ℕ) Refusal). AlikeEnd (placed (field_in k (value_of here)) n j w ss js) (taken x j w' ss' js')) (sym r') (place_both n k r0 i))
 
     -- ---- a run of both
     module _ (n : Job) (v ts ks : List ℕ) (total : n.points ≡ N) where
@@ -186,7 +185,7 @@ module _ (bytes bytes' : List ℕ) (f : ℕ → ℕ) (N : ℕ) where
               let q : Laid bytes m n = run_laid bytes n v ts ks k m u us ls lm h d in
               let tb = turn_both j w w' ss ss' js js' b m u us ls a (omega (arith, q.more, total)) (λ g. sym (q.over g) ∙ total) in
               handed (end (Ok m) u us ls) (turn_of bytes' j w' ss' js') (subst (λ (x : ReadEnd). AlikeEnd x (turn_of bytes' j w' ss' js')) a tb) d f
-          on (end (Refused x) u us ls) a d f = absurd (let z : ◌≡◌ {A = ℕ} 0 1 = cc in omega arith)
+          on (end (Err x) u us ls) a d f = absurd (let z : ◌≡◌ {A = ℕ} 0 1 = cc in omega arith)
 
           by : (t : Bool) (T : ReadEnd) → turn_of bytes j w ss js ≡ T → cond t (follow (run k bytes) T) (end (Ok j) w ss js) ≡ end (Ok n) v ts ks
               → ((m : Job) (u u' us us' ls ls' : List ℕ) → Both m u u' us us' ls ls' → run k bytes m u us ls ≡ end (Ok n) v ts ks → AlikeEnd (run k bytes m u us ls) (run k bytes' m u' us' ls'))

@@ -8,6 +8,7 @@ use native.Mathlib.Omega.{arith}
 use lib.Dec.{eqb}
 use lib.ListN.{get_or, replicate}
 use borrow.Author.Tests.{eqb-true, eq-eqb, le-ltb, not-false}
+use Rattle.std.specs.Prelude.{Result, Ok, Err}
 use Rattle.numbers.specs.Bytes.{le}
 use Rattle.numbers.specs.Written.{put_le}
 use Rattle.numbers.proofs.Written.{written_back}
@@ -19,14 +20,10 @@ use Rattle.job.specs.declared.refusal.Refusal.{Refusal}
 use Rattle.job.specs.declared.refusal.Refusal.TheVariants.{OffTheTable, NoSuch, Loose, Muddled, OpenEdge, PastMending}
 use Rattle.store.specs.Field.{BLOCK}
 use Rattle.store.specs.Named.{points_of, next_of, prev_of}
-use Rattle.reading.specs.declared.fill.Outcome.TheVariants as outcome
 use Rattle.reading.specs.Fill.{ReadEnd, end}
 use Rattle.reading.specs.Needs.{Space}
 use Rattle.reading.specs.Read.{read_of}
 use Rattle.reading.proofs.Standing.{standing}
-use Rattle.audit.specs.declared.Reply.TheVariants.{Done, Refused}
-use Rattle.audit.specs.declared.Verdict.{Verdict}
-use Rattle.audit.specs.declared.Verdict.TheVariants as verdict
 use Rattle.audit.proofs.Saying.{none_of, all_none}
 use Rattle.rows.specs.Rows.{off_the_table, no_such_number, loose_link, muddled, open_edge, rows_of}
 use Rattle.accepting.specs.Accept.{answer, judged, accept_of}
@@ -40,17 +37,17 @@ use Rattle.mending.proofs.Inverse.{Inverse, before_is, one_before, Base, points_
 use Rattle.mending.proofs.FirstFive.{read_low}
 
 -- ---- a job that was read and meets none of rows 4 to 6
-not_past : (x : Refusal) → number_of x ≤ 6 → passes_rows 6 (outcome.Refused x) ≡ true → ⊥
+not_past : (x : Refusal) → number_of x ≤ 6 → passes_rows 6 (Err x) ≡ true → ⊥
 not_past x h e = true≢false (sym e ∙ le-ltb 6 (number_of x) h)
 
-six_base : (bytes w ss js : List ℕ) → Space w ss js → (n : Job) (v ts ks : List ℕ) → read_of bytes w ss js ≡ end (outcome.Ok n) v ts ks → passes_rows 6 (acceptance bytes w ss js) ≡ true → Base bytes w ss js n v ts ks × (loose_link v ≡ false)
+six_base : (bytes w ss js : List ℕ) → Space w ss js → (n : Job) (v ts ks : List ℕ) → read_of bytes w ss js ≡ end (Ok n) v ts ks → passes_rows 6 (acceptance bytes w ss js) ≡ true → Base bytes w ss js n v ts ks × (loose_link v ≡ false)
 unfolding accept_of rows_of
 six_base bytes w ss js s n v ts ks q e =
-    rows (off_the_table v) (no_such_number v ts n.segments ks n.joins) (loose_link v) (cond (muddled v) (verdict.Refused Muddled) (cond (open_edge v ts n.segments ks n.joins) (verdict.Refused OpenEdge) verdict.Passed)) refl refl refl
+    rows (off_the_table v) (no_such_number v ts n.segments ks n.joins) (loose_link v) (cond (muddled v) (Err Muddled) (cond (open_edge v ts n.segments ks n.joins) (Err OpenEdge) (Ok tt))) refl refl refl
     (subst (λ (T : ReadEnd). passes_rows 6 (outcome_of (judged T)) ≡ true) q e)
   where
-    rows : (a c d : Bool) (z : Verdict) → off_the_table v ≡ a → no_such_number v ts n.segments ks n.joins ≡ c → loose_link v ≡ d
-        → passes_rows 6 (answer (cond a (verdict.Refused OffTheTable) (cond c (verdict.Refused NoSuch) (cond d (verdict.Refused Loose) z))) n) ≡ true → Base bytes w ss js n v ts ks × (loose_link v ≡ false)
+    rows : (a c d : Bool) (z : Result (Unit {0}) Refusal) → off_the_table v ≡ a → no_such_number v ts n.segments ks n.joins ≡ c → loose_link v ≡ d
+        → passes_rows 6 (answer (cond a (Err OffTheTable) (cond c (Err NoSuch) (cond d (Err Loose) z))) n) ≡ true → Base bytes w ss js n v ts ks × (loose_link v ≡ false)
     rows true c d z x y l g = absurd (not_past OffTheTable (omega arith) g)
     rows false true d z x y l g = absurd (not_past NoSuch (omega arith) g)
     rows false false true z x y l g = absurd (not_past Loose (omega arith) g)
@@ -114,7 +111,7 @@ module _ (bytes w₀ ss₀ js₀ : List ℕ) (n : Job) (v ts ks : List ℕ) (b :
         back k h (m, o) = before_only (next_of v k) m o ∙ sym (o.only k h refl)
 
   -- every choice meets row 6, or is mutual
-  decided : (g : ℕ → ℕ) → Choice n.points g → (w ss js : List ℕ) → Space w ss js → (acceptance (with_prevs g n.points bytes) w ss js ≡ outcome.Refused Loose) ⊎ Inverse n.points (next_of v) g
+  decided : (g : ℕ → ℕ) → Choice n.points g → (w ss js : List ℕ) → Space w ss js → (acceptance (with_prevs g n.points bytes) w ss js ≡ Err Loose) ⊎ Inverse n.points (next_of v) g
   decided g c w ss js s = go (loose_link r.words) refl
     where
       r : ReadToo (with_prevs g n.points bytes) g w ss js n v ts ks
@@ -123,7 +120,7 @@ module _ (bytes w₀ ss₀ js₀ : List ℕ) (n : Job) (v ts ks : List ℕ) (b :
       b' : Base (with_prevs g n.points bytes) w ss js n r.words r.segments r.joins
       b' = base_too bytes w₀ ss₀ js₀ n v ts ks b (with_prevs g n.points bytes) g w ss js s c r
 
-      go : (x : Bool) → loose_link r.words ≡ x → (acceptance (with_prevs g n.points bytes) w ss js ≡ outcome.Refused Loose) ⊎ Inverse n.points (next_of v) g
+      go : (x : Bool) → loose_link r.words ≡ x → (acceptance (with_prevs g n.points bytes) w ss js ≡ Err Loose) ⊎ Inverse n.points (next_of v) g
       go true e = inl (meets_six (with_prevs g n.points bytes) w ss js n r.words r.segments r.joins b' e)
       go false e = inr (mutual_of bytes w₀ ss₀ js₀ n v ts ks b (with_prevs g n.points bytes) g w ss js s c r e)
 
@@ -145,13 +142,13 @@ module _ (bytes w₀ ss₀ js₀ : List ℕ) (n : Job) (v ts ks : List ℕ) (b :
         only = λ g c w ss js s e. passing g w ss js e (other g (choice_of g c w ss js s e) w ss js (decided g (choice_of g c w ss js s e) w ss js s));
       }
     where
-      other : (g : ℕ → ℕ) → Choice n.points g → (w ss js : List ℕ) → (acceptance (with_prevs g n.points bytes) w ss js ≡ outcome.Refused Loose) ⊎ Inverse n.points (next_of v) g
-          → (acceptance (with_prevs g n.points bytes) w ss js ≡ outcome.Refused Loose) ⊎ (with_prevs g n.points bytes ≡ with_prevs (before_of v) n.points bytes)
+      other : (g : ℕ → ℕ) → Choice n.points g → (w ss js : List ℕ) → (acceptance (with_prevs g n.points bytes) w ss js ≡ Err Loose) ⊎ Inverse n.points (next_of v) g
+          → (acceptance (with_prevs g n.points bytes) w ss js ≡ Err Loose) ⊎ (with_prevs g n.points bytes ≡ with_prevs (before_of v) n.points bytes)
       other g c w ss js (inl e) = inl e
       other g c w ss js (inr m) = inr (prevs_same g (before_of v) n.points bytes (mutual_before g c m))
 
       passing : (g : ℕ → ℕ) (w ss js : List ℕ) → passes_rows 6 (acceptance (with_prevs g n.points bytes) w ss js) ≡ true
-          → (acceptance (with_prevs g n.points bytes) w ss js ≡ outcome.Refused Loose) ⊎ (with_prevs g n.points bytes ≡ with_prevs (before_of v) n.points bytes)
+          → (acceptance (with_prevs g n.points bytes) w ss js ≡ Err Loose) ⊎ (with_prevs g n.points bytes ≡ with_prevs (before_of v) n.points bytes)
           → with_prevs g n.points bytes ≡ with_prevs (before_of v) n.points bytes
       passing g w ss js e (inl d) = absurd (not_past Loose (omega arith) (sym (ap (passes_rows 6) d) ∙ e))
       passing g w ss js e (inr d) = d
@@ -159,7 +156,7 @@ module _ (bytes w₀ ss₀ js₀ : List ℕ) (n : Job) (v ts ks : List ℕ) (b :
   none_would : past_mending v ≡ true → NoneWould n.points bytes
   none_would h = record { none = λ g c w ss js s. go g c w ss js (decided g c w ss js s); never = λ g c w ss js s. never g c w ss js s (passes_rows 6 (acceptance (with_prevs g n.points bytes) w ss js)) refl }
     where
-      go : (g : ℕ → ℕ) → Choice n.points g → (w ss js : List ℕ) → (acceptance (with_prevs g n.points bytes) w ss js ≡ outcome.Refused Loose) ⊎ Inverse n.points (next_of v) g → acceptance (with_prevs g n.points bytes) w ss js ≡ outcome.Refused Loose
+      go : (g : ℕ → ℕ) → Choice n.points g → (w ss js : List ℕ) → (acceptance (with_prevs g n.points bytes) w ss js ≡ Err Loose) ⊎ Inverse n.points (next_of v) g → acceptance (with_prevs g n.points bytes) w ss js ≡ Err Loose
       go g c w ss js (inl e) = e
       go g c w ss js (inr m) = absurd (true≢false (sym h ∙ mutual_once g c m))
 
@@ -211,7 +208,7 @@ module _ (bytes : List ℕ) where
       here = read_too bytes bytes own n.points (similar_self n.points bytes) n v ts ks refl w w ss ss js js s s b.reads
 
       same : here.words ≡ v
-      same = let z : end (outcome.Ok n) here.words here.segments here.joins ≡ end (outcome.Ok n) v ts ks = sym here.reads ∙ b.reads in cc (z)
+      same = let z : end (Ok n) here.words here.segments here.joins ≡ end (Ok n) v ts ks = sym here.reads ∙ b.reads in cc (z)
 
       prev_is : (k : ℕ) → k < n.points → prev_of v k ≡ own k
       prev_is k h = subst (λ (x : List ℕ). prev_of x k ≡ own k) same (here.agree.prev k h)
@@ -235,18 +232,18 @@ module _ (bytes : List ℕ) where
       passed : Passes bytes (replicate BLOCK 0) there.words
       passed = record { job = n; segments = there.segments; joins = there.joins; reads = there.reads; four = b₀.four; five = b₀.five }
 
-      untouched : mend_of bytes ≡ mended Done bytes
+      untouched : mend_of bytes ≡ mended (Ok tt) bytes
       unfolding mend_of fix_of
       untouched =
           ap (after_rows bytes) (passed_checked bytes (replicate BLOCK 0) there.words passed)
-          ∙ ap (λ (x : Bool). cond x (mended (Refused PastMending) bytes) (mended Done (with_prevs (before_of there.words) (points_of there.words) bytes))) (mutual_once bytes (replicate BLOCK 0) (replicate limit.SEGMENTS 0) (replicate (2 * limit.JOINS) 0) n there.words there.segments there.joins b₀ own named fits₀)
-          ∙ ap (λ (x : ℕ). mended Done (with_prevs (before_of there.words) x bytes)) (points_are bytes (replicate BLOCK 0) (replicate limit.SEGMENTS 0) (replicate (2 * limit.JOINS) 0) n there.words there.segments there.joins b₀)
-          ∙ ap (mended Done) (prevs_same (before_of there.words) own n.points bytes (λ k h. sym (mutual_before bytes (replicate BLOCK 0) (replicate limit.SEGMENTS 0) (replicate (2 * limit.JOINS) 0) n there.words there.segments there.joins b₀ own named fits₀ k h)) ∙ again small n.points)
+          ∙ ap (λ (x : Bool). cond x (mended (Err PastMending) bytes) (mended (Ok tt) (with_prevs (before_of there.words) (points_of there.words) bytes))) (mutual_once bytes (replicate BLOCK 0) (replicate limit.SEGMENTS 0) (replicate (2 * limit.JOINS) 0) n there.words there.segments there.joins b₀ own named fits₀)
+          ∙ ap (λ (x : ℕ). mended (Ok tt) (with_prevs (before_of there.words) x bytes)) (points_are bytes (replicate BLOCK 0) (replicate limit.SEGMENTS 0) (replicate (2 * limit.JOINS) 0) n there.words there.segments there.joins b₀)
+          ∙ ap (mended (Ok tt)) (prevs_same (before_of there.words) own n.points bytes (λ k h. sym (mutual_before bytes (replicate BLOCK 0) (replicate limit.SEGMENTS 0) (replicate (2 * limit.JOINS) 0) n there.words there.segments there.joins b₀ own named fits₀ k h)) ∙ again small n.points)
 
-    pub unaltered_of : passes_rows 6 (acceptance bytes w ss js) ≡ true → mend_of bytes ≡ mended Done bytes
+    pub unaltered_of : passes_rows 6 (acceptance bytes w ss js) ≡ true → mend_of bytes ≡ mended (Ok tt) bytes
     unfolding accept_of
     unaltered_of e = by (read_of bytes w ss js) refl e
       where
-        by : (T : ReadEnd) → read_of bytes w ss js ≡ T → passes_rows 6 (outcome_of (judged T)) ≡ true → mend_of bytes ≡ mended Done bytes
-        by (end (outcome.Ok n) v ts ks) q g = let x = six_base bytes w ss js s n v ts ks q e in untouched n v ts ks x.0 x.1
-        by (end (outcome.Refused x) v ts ks) q g = absurd (not_past x (omega (arith, read_low bytes w ss js x v ts ks q)) g)
+        by : (T : ReadEnd) → read_of bytes w ss js ≡ T → passes_rows 6 (outcome_of (judged T)) ≡ true → mend_of bytes ≡ mended (Ok tt) bytes
+        by (end (Ok n) v ts ks) q g = let x = six_base bytes w ss js s n v ts ks q e in untouched n v ts ks x.0 x.1
+        by (end (Err x) v ts ks) q g = absurd (not_past x (omega (arith, read_low bytes w ss js x v ts ks q)) g)

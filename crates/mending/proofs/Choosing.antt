@@ -8,6 +8,7 @@ use native.Mathlib.Omega.{arith}
 use native.Mathlib.Decide.{ℕ_discrete}
 use lib.Dec.{eqb}
 use lib.ListN.{length, get_or}
+use Rattle.std.proofs.Common.{Ok, Err}
 use Rattle.numbers.specs.Bytes.{le}
 use Rattle.numbers.specs.Written.{put_le}
 use Rattle.numbers.proofs.Written as written
@@ -20,7 +21,6 @@ use Rattle.store.specs.Field.{ct, SETTINGS, POINTS, RECORDS}
 use Rattle.store.specs.Words.{Store, view, Write, write}
 use Rattle.store.specs.Stores.{on_store}
 use Rattle.store.proofs.Storing.{view_writes}
-use Rattle.reading.specs.declared.fill.Outcome.TheVariants.{Ok, Refused}
 use Rattle.reading.specs.Fill.{ReadEnd, end, run, fill_of}
 use Rattle.reading.specs.Needs.{Space}
 use Rattle.reading.specs.Read.{counted, with_counts, read_of}
@@ -108,9 +108,9 @@ module _ (bytes bytes' : List ℕ) (f : ℕ → ℕ) (N : ℕ) (sim : Similar by
   fill_both : (n : Job) (u ts ks : List ℕ) → n.points ≡ N → (w w' ss ss' js js' : List ℕ) → Space w ss js → Space w' ss' js' → fill_of bytes w ss js ≡ end (Ok n) u ts ks → Inverted (fill_of bytes' w' ss' js') n u ts ks
   unfolding fill_of
   fill_both n u ts ks t w w' ss ss' js js' s s' e =
-      subst (λ (l : ℕ). Inverted (cond (eqb l 0) (end (Refused Strange) w' ss' js') (run (suc l) bytes' fresh w' ss' js')) n u ts ks) (sym sim.long) (by (eqb (length bytes) 0) e)
+      subst (λ (l : ℕ). Inverted (cond (eqb l 0) (end (Err Strange) w' ss' js') (run (suc l) bytes' fresh w' ss' js')) n u ts ks) (sym sim.long) (by (eqb (length bytes) 0) e)
     where
-      by : (b : Bool) → cond b (end (Refused Strange) w ss js) (run (suc (length bytes)) bytes fresh w ss js) ≡ end (Ok n) u ts ks → Inverted (cond b (end (Refused Strange) w' ss' js') (run (suc (length bytes)) bytes' fresh w' ss' js')) n u ts ks
+      by : (b : Bool) → cond b (end (Err Strange) w ss js) (run (suc (length bytes)) bytes fresh w ss js) ≡ end (Ok n) u ts ks → Inverted (cond b (end (Err Strange) w' ss' js') (run (suc (length bytes)) bytes' fresh w' ss' js')) n u ts ks
       by true d = absurd (let z : ◌≡◌ {A = ℕ} 0 1 = cc in omega arith)
       by false d = invert (run (suc (length bytes)) bytes fresh w ss js) (run (suc (length bytes)) bytes' fresh w' ss' js') n u ts ks (run_both bytes bytes' f N sim n u ts ks t (suc (length bytes)) fresh w w' ss ss' js js' (blank w w' ss ss' js js' s s') d) d
 

@@ -9,21 +9,20 @@ use lib.Dec.{eqb}
 use lib.ListN.{length, take, replicate}
 use lib.Seq.{take-take}
 use borrow.Author.Tests.{eqb-true, eq-eqb, le-ltb, not-false}
+use Rattle.std.specs.Prelude.{Result, Ok, Err}
 use Rattle.rings.specs.Count.{one}
 use Rattle.rings.proofs.Counting.{sum_same}
 use Rattle.job.specs.Limits as limit
 use Rattle.job.specs.Refusal.{number_of}
+use Rattle.job.specs.declared.Job.{Job}
 use Rattle.job.specs.declared.refusal.Refusal.{Refusal}
 use Rattle.job.specs.declared.refusal.Refusal.TheVariants.{PastMending}
 use Rattle.store.specs.Field.{BLOCK}
 use Rattle.store.specs.Named.{points_of, next_of}
-use Rattle.reading.specs.declared.fill.Outcome.TheVariants as outcome
 use Rattle.reading.specs.Needs.{Space}
 use Rattle.reading.specs.Read.{read_of}
 use Rattle.reading.proofs.Standing.{standing}
 use Rattle.audit.specs.Tests.{any_below}
-use Rattle.audit.specs.declared.Verdict.TheVariants as verdict
-use Rattle.audit.specs.declared.Reply.TheVariants.{Done, Refused}
 use Rattle.audit.proofs.Saying.{none_of, all_none}
 use Rattle.prefix.specs.Decides.{LONGEST, DECIDES}
 use Rattle.prefix.proofs.Alike.{fill_same, fill_longest}
@@ -35,36 +34,36 @@ use Rattle.mending.proofs.Choices.{own_points, own_count, own_well, own_none}
 
 -- ---- the three ways that it ends
 pub data Answered (bytes : List ℕ) : Type 0 where
-  early : (r : Refusal) (v : List ℕ) → checked_of bytes (replicate BLOCK 0) ≡ checked (verdict.Refused r) v → mend_of bytes ≡ mended (Refused r) bytes → Answered bytes
-  late : (v : List ℕ) → Passes bytes (replicate BLOCK 0) v → past_mending v ≡ true → mend_of bytes ≡ mended (Refused PastMending) bytes → Answered bytes
-  fixed : (v : List ℕ) → Passes bytes (replicate BLOCK 0) v → past_mending v ≡ false → mend_of bytes ≡ mended Done (with_prevs (before_of v) (points_of v) bytes) → Answered bytes
+  early : (r : Refusal) (v : List ℕ) → checked_of bytes (replicate BLOCK 0) ≡ checked (Err r) v → mend_of bytes ≡ mended (Err r) bytes → Answered bytes
+  late : (v : List ℕ) → Passes bytes (replicate BLOCK 0) v → past_mending v ≡ true → mend_of bytes ≡ mended (Err PastMending) bytes → Answered bytes
+  fixed : (v : List ℕ) → Passes bytes (replicate BLOCK 0) v → past_mending v ≡ false → mend_of bytes ≡ mended (Ok tt) (with_prevs (before_of v) (points_of v) bytes) → Answered bytes
 
 pub answered : (bytes : List ℕ) → Answered bytes
 unfolding mend_of fix_of
 answered bytes = by (checked_of bytes (replicate BLOCK 0)) refl
   where
-    row : (v : List ℕ) → checked_of bytes (replicate BLOCK 0) ≡ checked verdict.Passed v → (x : Bool) → past_mending v ≡ x → Answered bytes
-    row v a true h = late v (passes bytes (replicate BLOCK 0) v a) h (ap (after_rows bytes) a ∙ ap (λ (x : Bool). cond x (mended (Refused PastMending) bytes) (mended Done (with_prevs (before_of v) (points_of v) bytes))) h)
-    row v a false h = fixed v (passes bytes (replicate BLOCK 0) v a) h (ap (after_rows bytes) a ∙ ap (λ (x : Bool). cond x (mended (Refused PastMending) bytes) (mended Done (with_prevs (before_of v) (points_of v) bytes))) h)
+    row : (v : List ℕ) → checked_of bytes (replicate BLOCK 0) ≡ checked (Ok tt) v → (x : Bool) → past_mending v ≡ x → Answered bytes
+    row v a true h = late v (passes bytes (replicate BLOCK 0) v a) h (ap (after_rows bytes) a ∙ ap (λ (x : Bool). cond x (mended (Err PastMending) bytes) (mended (Ok tt) (with_prevs (before_of v) (points_of v) bytes))) h)
+    row v a false h = fixed v (passes bytes (replicate BLOCK 0) v a) h (ap (after_rows bytes) a ∙ ap (λ (x : Bool). cond x (mended (Err PastMending) bytes) (mended (Ok tt) (with_prevs (before_of v) (points_of v) bytes))) h)
 
     by : (S : Checked) → checked_of bytes (replicate BLOCK 0) ≡ S → Answered bytes
-    by (checked verdict.Passed v) a = row v a (past_mending v) refl
-    by (checked (verdict.Refused r) v) a = early r v a (ap (after_rows bytes) a)
+    by (checked (Ok _) v) a = row v a (past_mending v) refl
+    by (checked (Err r) v) a = early r v a (ap (after_rows bytes) a)
 
-not_done : {A : Type 0} (r : Refusal) → Done ≡ Refused r → A
+not_done : {A : Type 0} (r : Refusal) → Ok (tt {0}) ≡ Err r → A
 not_done r e = absurd (let z : ◌≡◌ {A = ℕ} 0 1 = cc in omega arith)
 
-same_refusal : (r x : Refusal) → Refused r ≡ Refused x → r ≡ x
+same_refusal : (r x : Refusal) → ◌≡◌ {A = Result (Unit {0}) Refusal} (Err r) (Err x) → r ≡ x
 same_refusal r x e = cc
 
 -- no row up to 5 is 17
 not_late : {A : Type 0} (r : Refusal) → number_of r ≤ 5 → r ≡ PastMending → A
 not_late r h e = absurd (let z : number_of PastMending ≤ 5 = subst (λ (x : Refusal). number_of x ≤ 5) e h in omega arith)
 
-not_passed : {A : Type 0} (r : Refusal) → number_of r ≤ 5 → passes_rows 5 (outcome.Refused r) ≡ true → A
+not_passed : {A : Type 0} (r : Refusal) → number_of r ≤ 5 → passes_rows 5 (Err r) ≡ true → A
 not_passed r h e = absurd (true≢false (sym e ∙ le-ltb 5 (number_of r) h))
 
-same_outcome : (r x : Refusal) → outcome.Refused r ≡ outcome.Refused x → r ≡ x
+same_outcome : (r x : Refusal) → ◌≡◌ {A = Result Job Refusal} (Err r) (Err x) → r ≡ x
 same_outcome r x e = cc
 
 -- ---- "the next of exactly one point", by the bytes
@@ -113,69 +112,69 @@ module _ (bytes v : List ℕ) (p : Passes bytes (replicate BLOCK 0) v) where
 
 -- ---- the answers
 module _ (bytes : List ℕ) where
-  pub one_five : (r : Refusal) → number_of r ≤ 5 → (w ss js : List ℕ) → Space w ss js → ((mend_of bytes).answer ≡ Refused r) ↔ (acceptance bytes w ss js ≡ outcome.Refused r)
+  pub one_five : (r : Refusal) → number_of r ≤ 5 → (w ss js : List ℕ) → Space w ss js → ((mend_of bytes).answer ≡ Err r) ↔ (acceptance bytes w ss js ≡ Err r)
   one_five r h w ss js s = (λ e. there (answered bytes) e, λ e. back (answered bytes) e)
     where
-      there : Answered bytes → (mend_of bytes).answer ≡ Refused r → acceptance bytes w ss js ≡ outcome.Refused r
-      there (early x v c m) e = five_refused bytes x v c w ss js s ∙ ap outcome.Refused (same_refusal x r (sym (ap (λ (l : Mended). l.answer) m) ∙ e))
+      there : Answered bytes → (mend_of bytes).answer ≡ Err r → acceptance bytes w ss js ≡ Err r
+      there (early x v c m) e = five_refused bytes x v c w ss js s ∙ ap Err (same_refusal x r (sym (ap (λ (l : Mended). l.answer) m) ∙ e))
       there (late v p b m) e = not_late r h (sym (same_refusal PastMending r (sym (ap (λ (l : Mended). l.answer) m) ∙ e)))
       there (fixed v p b m) e = not_done r (sym (ap (λ (l : Mended). l.answer) m) ∙ e)
 
-      back : Answered bytes → acceptance bytes w ss js ≡ outcome.Refused r → (mend_of bytes).answer ≡ Refused r
-      back (early x v c m) e = ap (λ (l : Mended). l.answer) m ∙ ap (λ (y : Refusal). Refused y) (same_outcome x r (sym (five_refused bytes x v c w ss js s) ∙ e))
+      back : Answered bytes → acceptance bytes w ss js ≡ Err r → (mend_of bytes).answer ≡ Err r
+      back (early x v c m) e = ap (λ (l : Mended). l.answer) m ∙ ap Err (same_outcome x r (sym (five_refused bytes x v c w ss js s) ∙ e))
       back (late v p b m) e = not_passed r h (sym (ap (passes_rows 5) e) ∙ five_passed bytes v p w ss js s)
       back (fixed v p b m) e = not_passed r h (sym (ap (passes_rows 5) e) ∙ five_passed bytes v p w ss js s)
 
-  pub mended_exactly : (w ss js : List ℕ) → Space w ss js → ((mend_of bytes).answer ≡ Done) ↔ ((passes_rows 5 (acceptance bytes w ss js) ≡ true) × EachOnce bytes)
+  pub mended_exactly : (w ss js : List ℕ) → Space w ss js → ((mend_of bytes).answer ≡ Ok tt) ↔ ((passes_rows 5 (acceptance bytes w ss js) ≡ true) × EachOnce bytes)
   mended_exactly w ss js s = (λ e. there (answered bytes) e, λ e. back (answered bytes) e.0 e.1)
     where
-      there : Answered bytes → (mend_of bytes).answer ≡ Done → (passes_rows 5 (acceptance bytes w ss js) ≡ true) × EachOnce bytes
+      there : Answered bytes → (mend_of bytes).answer ≡ Ok tt → (passes_rows 5 (acceptance bytes w ss js) ≡ true) × EachOnce bytes
       there (early x v c m) e = not_done x (sym e ∙ ap (λ (l : Mended). l.answer) m)
       there (late v p b m) e = not_done PastMending (sym e ∙ ap (λ (l : Mended). l.answer) m)
       there (fixed v p b m) e = (five_passed bytes v p w ss js s, each_once bytes v p b)
 
-      back : Answered bytes → passes_rows 5 (acceptance bytes w ss js) ≡ true → EachOnce bytes → (mend_of bytes).answer ≡ Done
+      back : Answered bytes → passes_rows 5 (acceptance bytes w ss js) ≡ true → EachOnce bytes → (mend_of bytes).answer ≡ Ok tt
       back (early x v c m) e o = not_passed x (five_low bytes x v c) (sym (ap (passes_rows 5) (five_refused bytes x v c w ss js s)) ∙ e)
       back (late v p b m) e o = absurd (true≢false (sym b ∙ once_each bytes v p o))
       back (fixed v p b m) e o = ap (λ (l : Mended). l.answer) m
 
-  pub seventeen_exactly : (w ss js : List ℕ) → Space w ss js → ((mend_of bytes).answer ≡ Refused PastMending) ↔ ((passes_rows 5 (acceptance bytes w ss js) ≡ true) × SomeNotOnce bytes)
+  pub seventeen_exactly : (w ss js : List ℕ) → Space w ss js → ((mend_of bytes).answer ≡ Err PastMending) ↔ ((passes_rows 5 (acceptance bytes w ss js) ≡ true) × SomeNotOnce bytes)
   seventeen_exactly w ss js s = (λ e. there (answered bytes) e, λ e. back (answered bytes) e.0 e.1)
     where
-      there : Answered bytes → (mend_of bytes).answer ≡ Refused PastMending → (passes_rows 5 (acceptance bytes w ss js) ≡ true) × SomeNotOnce bytes
+      there : Answered bytes → (mend_of bytes).answer ≡ Err PastMending → (passes_rows 5 (acceptance bytes w ss js) ≡ true) × SomeNotOnce bytes
       there (early x v c m) e = not_late x (five_low bytes x v c) (same_refusal x PastMending (sym (ap (λ (l : Mended). l.answer) m) ∙ e))
       there (late v p b m) e = (five_passed bytes v p w ss js s, some_not bytes v p b)
       there (fixed v p b m) e = not_done PastMending (sym (ap (λ (l : Mended). l.answer) m) ∙ e)
 
-      back : Answered bytes → passes_rows 5 (acceptance bytes w ss js) ≡ true → SomeNotOnce bytes → (mend_of bytes).answer ≡ Refused PastMending
+      back : Answered bytes → passes_rows 5 (acceptance bytes w ss js) ≡ true → SomeNotOnce bytes → (mend_of bytes).answer ≡ Err PastMending
       back (early x v c m) e o = not_passed x (five_low bytes x v c) (sym (ap (passes_rows 5) (five_refused bytes x v c w ss js s)) ∙ e)
       back (late v p b m) e o = ap (λ (l : Mended). l.answer) m
       back (fixed v p b m) e o = absurd (o.none_or_more (each_once bytes v p b o.point o.low))
 
-  pub refused_of : (r : Refusal) → (mend_of bytes).answer ≡ Refused r → (mend_of bytes).bytes ≡ bytes
+  pub refused_of : (r : Refusal) → (mend_of bytes).answer ≡ Err r → (mend_of bytes).bytes ≡ bytes
   refused_of r = by (answered bytes)
     where
-      by : Answered bytes → (mend_of bytes).answer ≡ Refused r → (mend_of bytes).bytes ≡ bytes
+      by : Answered bytes → (mend_of bytes).answer ≡ Err r → (mend_of bytes).bytes ≡ bytes
       by (early x v c m) e = ap (λ (l : Mended). l.bytes) m
       by (late v p b m) e = ap (λ (l : Mended). l.bytes) m
       by (fixed v p b m) e = not_done r (sym (ap (λ (l : Mended). l.answer) m) ∙ e)
 
-  pub past_of : (mend_of bytes).answer ≡ Refused PastMending → NoneWould (job_points bytes) bytes
+  pub past_of : (mend_of bytes).answer ≡ Err PastMending → NoneWould (job_points bytes) bytes
   past_of = by (answered bytes)
     where
-      by : Answered bytes → (mend_of bytes).answer ≡ Refused PastMending → NoneWould (job_points bytes) bytes
+      by : Answered bytes → (mend_of bytes).answer ≡ Err PastMending → NoneWould (job_points bytes) bytes
       by (early x v c m) e = not_late x (five_low bytes x v c) (same_refusal x PastMending (sym (ap (λ (l : Mended). l.answer) m) ∙ e))
       by (late v p b m) e = own_none bytes v p b
       by (fixed v p b m) e = not_done PastMending (sym (ap (λ (l : Mended). l.answer) m) ∙ e)
 
-  module _ (done : (mend_of bytes).answer ≡ Done) where
-    pub is_mended : mend_of bytes ≡ mended Done (mend_of bytes).bytes
+  module _ (done : (mend_of bytes).answer ≡ Ok tt) where
+    pub is_mended : mend_of bytes ≡ mended (Ok tt) (mend_of bytes).bytes
     is_mended = by (answered bytes)
       where
-        by : Answered bytes → mend_of bytes ≡ mended Done (mend_of bytes).bytes
+        by : Answered bytes → mend_of bytes ≡ mended (Ok tt) (mend_of bytes).bytes
         by (early x v c m) = not_done x (sym done ∙ ap (λ (l : Mended). l.answer) m)
         by (late v p b m) = not_done PastMending (sym done ∙ ap (λ (l : Mended). l.answer) m)
-        by (fixed v p b m) = m ∙ ap (mended Done) (sym (ap (λ (l : Mended). l.bytes) m))
+        by (fixed v p b m) = m ∙ ap (mended (Ok tt)) (sym (ap (λ (l : Mended). l.bytes) m))
 
     pub done_well : MendedWell (job_points bytes) bytes (mend_of bytes).bytes
     done_well = by (answered bytes)
@@ -204,10 +203,10 @@ module _ (bytes : List ℕ) where
   unfolding mend_of fix_of
   decided_of = ap (λ (S : Checked). (after_rows (take DECIDES bytes) S).answer) checked_same ∙ by (checked_of bytes (replicate BLOCK 0))
     where
-      fix : (v : List ℕ) (x : Bool) → (cond x (mended (Refused PastMending) (take DECIDES bytes)) (mended Done (with_prevs (before_of v) (points_of v) (take DECIDES bytes)))).answer ≡ (cond x (mended (Refused PastMending) bytes) (mended Done (with_prevs (before_of v) (points_of v) bytes))).answer
+      fix : (v : List ℕ) (x : Bool) → (cond x (mended (Err PastMending) (take DECIDES bytes)) (mended (Ok tt) (with_prevs (before_of v) (points_of v) (take DECIDES bytes)))).answer ≡ (cond x (mended (Err PastMending) bytes) (mended (Ok tt) (with_prevs (before_of v) (points_of v) bytes))).answer
       fix v true = refl
       fix v false = refl
 
       by : (S : Checked) → (after_rows (take DECIDES bytes) S).answer ≡ (after_rows bytes S).answer
-      by (checked verdict.Passed v) = fix v (past_mending v)
-      by (checked (verdict.Refused r) v) = refl
+      by (checked (Ok _) v) = fix v (past_mending v)
+      by (checked (Err r) v) = refl

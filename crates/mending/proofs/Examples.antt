@@ -2,15 +2,15 @@
 use mathlib.Core.Path.{◌≡◌, refl}
 use mathlib.Core.List.{List, [], ◌∷◌, ◌++◌, map}
 use Prim.Native.Nat.{ℕ}
+use Rattle.std.specs.Prelude.{Result, Ok, Err}
 use Rattle.numbers.specs.Bytes.{le}
 use Rattle.job.specs.Field.{body_of, field_of}
+use Rattle.job.specs.declared.refusal.Refusal.{Refusal}
 use Rattle.store.specs.Words.{cell, put}
 use Rattle.audit.specs.Tests.{any_below}
 use Rattle.reading.specs.Fill.{turn_of, run, fill_of}
 use Rattle.reading.specs.Read.{read_of}
 use Rattle.job.specs.Refusal.{number_of}
-use Rattle.audit.specs.declared.Reply.{Reply}
-use Rattle.audit.specs.declared.Reply.TheVariants.{Done, Refused}
 use Rattle.mending.specs.Mend.{Mended, mended, prev_at, past_mending, before_of, checked_of, fix_of, mend_of}
 
 abbrev settings : List ℕ
@@ -24,9 +24,9 @@ at x nx pv r = 2 ∷ 18 ∷ 0 ∷ x ∷ 0 ∷ 0 ∷ 0 ∷ 0 ∷ 0 ∷ 0 ∷ 0 �
 abbrev closed : List ℕ
 closed = 3 ∷ 5 ∷ 0 ∷ 0 ∷ 255 ∷ 255 ∷ 0 ∷ 0 ∷ []
 
-abbrev number : Reply → ℕ
-number Done = 0
-number (Refused r) = number_of r
+abbrev number : Result (Unit {0}) Refusal → ℕ
+number (Ok _) = 0
+number (Err r) = number_of r
 
 -- the answer's number, and the first three prevs
 abbrev said : Mended → List ℕ
@@ -58,6 +58,6 @@ unfolding mend_of checked_of fix_of past_mending before_of read_of fill_of run t
 answers = refl
 
 -- every byte of it
-whole : mend_of bad ≡ mended Done good
+whole : mend_of bad ≡ mended (Ok tt) good
 unfolding mend_of checked_of fix_of past_mending before_of read_of fill_of run turn_of field_of body_of cell put any_below
 whole = refl

@@ -7,17 +7,17 @@ use Prim.Native.Nat.{ℕ, ◌+◌, ◌*◌, ◌<◌, ◌≤◌}
 use native.Mathlib.Omega.{arith}
 use lib.Dec.{leb}
 use lib.ListN.{length, get_or}
+use Rattle.std.proofs.Common.{Ok, Err}
 use Rattle.rings.specs.Count.{sum_to, one}
 use Rattle.job.specs.Limits as limit
 use Rattle.job.specs.declared.Job.{Job}
 use Rattle.job.specs.declared.refusal.Refusal.TheVariants.{Loose, Muddled, OpenEdge}
 use Rattle.store.specs.Named.{points_of, records_of, next_of, prev_of, rec_of, owner_of, first_of}
-use Rattle.reading.specs.declared.fill.Outcome.TheVariants.{Ok, Refused}
 use Rattle.reading.specs.Fill.{end}
 use Rattle.reading.specs.Needs.{Space}
 use Rattle.reading.specs.Read.{read_of}
 use Rattle.audit.specs.Tests.{any_below, off_table, no_such, no_such_of, names_nothing, loose}
-use Rattle.audit.specs.declared.Verdict.TheVariants as verdict
+use Rattle.std.specs.declared.result.Result.TheVariants as result
 use Rattle.audit.proofs.Saying.{none_of, all_none, on_table, table_on, such, such_not, Tied, tied, tied_not}
 use Rattle.rows.specs.Rows.{off_the_table, unnamed, no_such_number, loose_link, muddled, open_edge, rows_of}
 use Rattle.audit.proofs.Testing.{or_left, or_right}
@@ -170,7 +170,7 @@ module _ (bytes w₀ ss₀ js₀ : List ℕ) (n : Job) (v ts ks : List ℕ) (b :
   unfolding accept_of
   acceptance_is = rw b.reads
 
-  pub meets_six : loose_link v ≡ true → acceptance bytes w₀ ss₀ js₀ ≡ Refused Loose
+  pub meets_six : loose_link v ≡ true → acceptance bytes w₀ ss₀ js₀ ≡ Err Loose
   unfolding rows_of
   meets_six e = acceptance_is ∙ rw (b.four, b.five, e)
 
@@ -178,7 +178,7 @@ module _ (bytes w₀ ss₀ js₀ : List ℕ) (n : Job) (v ts ks : List ℕ) (b :
   unfolding rows_of
   avoids_six e = ap (passes_rows 6) acceptance_is ∙ rw (b.four, b.five, e) (go (muddled v) (open_edge v ts n.segments ks n.joins))
     where
-      go : (a c : Bool) → passes_rows 6 (answer (cond a (verdict.Refused Muddled) (cond c (verdict.Refused OpenEdge) verdict.Passed)) n) ≡ true
+      go : (a c : Bool) → passes_rows 6 (answer (cond a (result.Err Muddled) (cond c (result.Err OpenEdge) (result.Ok tt))) n) ≡ true
       go true c = refl
       go false true = refl
       go false false = refl

@@ -7,6 +7,7 @@ use native.Mathlib.Omega.{arith}
 use lib.Dec.{eqb, ltb}
 use lib.ListN.{length, drop, length-drop}
 use borrow.Author.Tests.{ltb-false}
+use Rattle.std.proofs.Common.{Result, Ok, Err}
 use Rattle.job.specs.Field.{HEADER, tag_of, length_of, value_of, kind_of, size_of, field_in, body_of, field_of}
 use Rattle.job.specs.Job.{fresh, past}
 use Rattle.job.specs.declared.Job.{Job}
@@ -14,18 +15,16 @@ use Rattle.job.specs.declared.field.Kind.{Kind}
 use Rattle.job.specs.declared.field.Kind.TheVariants as kind
 use Rattle.job.specs.declared.field.Field.{Field}
 use Rattle.job.specs.declared.field.Field.TheVariants.{Settings, Point, Record, Segment, Join}
-use Rattle.job.specs.declared.field.Reading.{Reading}
-use Rattle.job.specs.declared.field.Reading.TheVariants as reading
+use Rattle.job.specs.declared.refusal.Refusal.{Refusal}
 use Rattle.job.specs.declared.refusal.Refusal.TheVariants.{Strange}
-use Rattle.reading.specs.declared.fill.Outcome.TheVariants.{Ok, Refused}
 use Rattle.reading.specs.Fill.{ReadEnd, end, placed, taken, turn_of, follow, run, fill_of}
 use Rattle.mending.proofs.Once.{neither}
 use Rattle.reading.proofs.Standing.{tag_is, Tagged, ReadAs, read_as, Lay, lay_fresh, tag_of_lem, lay_past}
 
 -- a field that passes its tests is read
-pub as_read : (j : Job) (s : List ℕ) (f : Field) (n : ℕ) (k : Kind) → ReadAs j s f n k → field_of j s ≡ reading.Read f n
+pub as_read : (j : Job) (s : List ℕ) (f : Field) (n : ℕ) (k : Kind) → ReadAs j s f n k → field_of j s ≡ Ok (f, n)
 unfolding field_of body_of
-as_read j s f n k r = rw (r.header, r.tag, r.kind_is, r.whole, r.bits, r.room) (ap (λ (g : Field). reading.Read g (HEADER + size_of k)) (sym r.is) ∙ ap (reading.Read f) (sym r.size))
+as_read j s f n k r = rw (r.header, r.tag, r.kind_is, r.whole, r.bits, r.room) (ap (λ (g : Field). Ok (g, HEADER + size_of k)) (sym r.is) ∙ ap (λ (m : ℕ). Ok (f, m)) (sym r.size))
 
 -- further by the field's length, no point lost; after a record's field no point comes
 pub record Past (j m : Job) (n : ℕ) : Type 0 where
@@ -63,7 +62,7 @@ placed_state (Join a b) n j w ss js m u us ls e = cc
 pub record Turned (bytes : List ℕ) (j : Job) (w ss js : List ℕ) (m : Job) (u us ls : List ℕ) : Type 0 where
   pub field : Field
   pub long : ℕ
-  pub reads : field_of j (drop j.at bytes) ≡ reading.Read field long
+  pub reads : field_of j (drop j.at bytes) ≡ Ok (field, long)
   pub puts : placed field long j w ss js ≡ end (Ok m) u us ls
   pub state : past field long j ≡ m
 
@@ -71,9 +70,9 @@ pub turned : (bytes : List ℕ) (j : Job) (w ss js : List ℕ) (m : Job) (u us l
 unfolding turn_of
 turned bytes j w ss js m u us ls e = go (field_of j (drop j.at bytes)) refl e
   where
-    go : (r : Reading) → field_of j (drop j.at bytes) ≡ r → taken r j w ss js ≡ end (Ok m) u us ls → Turned bytes j w ss js m u us ls
-    go (reading.Read f n) h g = record { field = f; long = n; reads = h; puts = g; state = placed_state f n j w ss js m u us ls g }
-    go (reading.Refused x) h g = absurd (let z : ◌≡◌ {A = ℕ} 0 1 = cc in omega arith)
+    go : (r : Result (Field × ℕ) Refusal) → field_of j (drop j.at bytes) ≡ r → taken r j w ss js ≡ end (Ok m) u us ls → Turned bytes j w ss js m u us ls
+    go (Ok (f, n)) h g = record { field = f; long = n; reads = h; puts = g; state = placed_state f n j w ss js m u us ls g }
+    go (Err x) h g = absurd (let z : ◌≡◌ {A = ℕ} 0 1 = cc in omega arith)
 
 pub in_part : (j : Job) (bytes : List ℕ) (f : Field) (n : ℕ) (k : Kind) → j.at ≤ length bytes → ReadAs j (drop j.at bytes) f n k → j.at + n ≤ length bytes
 in_part j bytes f n k h r =
@@ -98,7 +97,7 @@ module _ (bytes : List ℕ) (n : Job) (v ts ks : List ℕ) where
       on : (T : ReadEnd) → turn_of bytes j w ss js ≡ T → follow (run k bytes) T ≡ end (Ok n) v ts ks
           → ((m : Job) (u us ls : List ℕ) → Lay m → m.at ≤ length bytes → run k bytes m u us ls ≡ end (Ok n) v ts ks → Laid bytes m n) → Laid bytes j n
       on (end (Ok m) u us ls) a d f = step_laid j w ss js m u us ls l h a (λ y i. f m u us ls y i d)
-      on (end (Refused x) u us ls) a d f = absurd (let z : ◌≡◌ {A = ℕ} 0 1 = cc in omega arith)
+      on (end (Err x) u us ls) a d f = absurd (let z : ◌≡◌ {A = ℕ} 0 1 = cc in omega arith)
 
       stay : j ≡ n → Laid bytes j n
       stay a = subst (Laid bytes j) a (record { lay = l; inside = h; more = omega arith; over = λ g. refl })
@@ -112,6 +111,6 @@ module _ (bytes : List ℕ) (n : Job) (v ts ks : List ℕ) where
   unfolding fill_of
   fill_laid w ss js e = by (eqb (length bytes) 0) e
     where
-      by : (t : Bool) → cond t (end (Refused Strange) w ss js) (run (suc (length bytes)) bytes fresh w ss js) ≡ end (Ok n) v ts ks → Laid bytes fresh n
+      by : (t : Bool) → cond t (end (Err Strange) w ss js) (run (suc (length bytes)) bytes fresh w ss js) ≡ end (Ok n) v ts ks → Laid bytes fresh n
       by true d = absurd (let z : ◌≡◌ {A = ℕ} 0 1 = cc in omega arith)
       by false d = run_laid (suc (length bytes)) fresh w ss js lay_fresh (omega arith) d

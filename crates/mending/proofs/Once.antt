@@ -10,6 +10,7 @@ use lib.Dec.{eqb}
 use lib.ListN.{length, get_or, set, replicate, length-replicate, length-set, get_or-replicate}
 use lib.Seq.{get_or-set_same, get_or-set_other}
 use borrow.Author.Tests.{eqb-true, eqb-false, eq-eqb, ne_eqb, not-false}
+use Rattle.std.specs.Prelude.{Ok, Err}
 use Rattle.numbers.specs.Written.{put_le}
 use Rattle.rings.specs.Count.{sum_to, one}
 use Rattle.rings.proofs.Counting.{one_here, one_else, sum_change, sum_two}
@@ -18,7 +19,6 @@ use Rattle.job.specs.Limits.{NONE}
 use Rattle.store.specs.Named.{points_of, next_of}
 use Rattle.audit.specs.Tests.{any_below}
 use Rattle.audit.proofs.Saying.{none_of, all_none}
-use Rattle.audit.specs.declared.Reply.TheVariants.{Done, Refused}
 use Rattle.job.specs.declared.refusal.Refusal.TheVariants.{PastMending}
 use Rattle.mending.specs.Mend.{mended, prev_at, with_prevs, times_next, past_mending, last_before, before_of, fix_of}
 use Rattle.mending.specs.Needs.{table_of, table_at, spoilt, Roomy, Fixable}
@@ -171,13 +171,13 @@ prevs_same f g zero s h = refl
 prevs_same f g (suc n) s h = ap (λ (v : ℕ). put_le 2 (prev_at n) v (with_prevs f n s)) (h n (omega arith)) ∙ ap (put_le 2 (prev_at n) (g n)) (prevs_same f g n s (λ k l. h k (omega arith)))
 
 module _ (bytes w t : List ℕ) (b : Bool) (x : Fixable bytes w) (e : t ≡ table_of (next_of w) (points_of w) (replicate limit.POINTS NONE)) (a : b ≡ any_below (points_of w) (spoilt w t)) where
-  pub fix_stop : b ≡ true → mended (Refused PastMending) bytes ≡ fix_of bytes w
+  pub fix_stop : b ≡ true → mended (Err PastMending) bytes ≡ fix_of bytes w
   unfolding fix_of
   fix_stop h = rw (← tested bytes w x t e, ← a, h)
 
-  pub fix_done : b ≡ false → (n : ℕ) (s : List ℕ) → n ≡ points_of w → s ≡ with_prevs (table_at t) n bytes → mended Done s ≡ fix_of bytes w
+  pub fix_done : b ≡ false → (n : ℕ) (s : List ℕ) → n ≡ points_of w → s ≡ with_prevs (table_at t) n bytes → mended (Ok tt) s ≡ fix_of bytes w
   unfolding fix_of before_of
-  fix_done h n s g i = rw (← tested bytes w x t e, ← a, h) (ap (mended Done) (i ∙ ap (λ (m : ℕ). with_prevs (table_at t) m bytes) g ∙ prevs_same (table_at t) (λ k. last_before (next_of w) (points_of w) k) (points_of w) bytes (λ k l. entry bytes w x t e k (omega (arith, l, x.roomy.few)))))
+  fix_done h n s g i = rw (← tested bytes w x t e, ← a, h) (ap (mended (Ok tt)) (i ∙ ap (λ (m : ℕ). with_prevs (table_at t) m bytes) g ∙ prevs_same (table_at t) (λ k. last_before (next_of w) (points_of w) k) (points_of w) bytes (λ k l. entry bytes w x t e k (omega (arith, l, x.roomy.few)))))
 
 pub fix_room : (bytes w : List ℕ) (n : ℕ) → Fixable bytes w → n ≡ points_of w → Roomy bytes n
 fix_room bytes w n x e = subst (Roomy bytes) (sym e) x.roomy

@@ -6,25 +6,12 @@ use Prim.Native.Nat.{ℕ, zero, suc, ◌+◌, ◌<◌, ◌≤◌}
 use native.Mathlib.Omega.{arith}
 use native.Mathlib.Numerals.{add-one}
 use lib.Dec.{eqb}
-use lib.ListN.{length, get_or, set, get_or-eq_default}
+use lib.ListN.{length, set}
 use Rattle.numbers.specs.Written.{put_le}
 use Rattle.job.specs.Limits.{NONE}
 use Rattle.store.specs.Named.{next_of}
 use Rattle.mending.specs.Mend.{prev_at, with_prevs}
 use Rattle.mending.specs.Needs.{table_of, spoilt, table_at, Roomy}
-
-same_in : (t : List ℕ) (r d e : ℕ) → r < length t → get_or t r d ≡ get_or t r e
-same_in [] r d e h = absurd (omega arith)
-same_in (x ∷ t) zero d e h = refl
-same_in (x ∷ t) (suc r) d e h = same_in t r d e (omega arith)
-
-pub at_in : (t : List ℕ) (r n : ℕ) → r < length t → n ≡ get_or t r 0 → n ≡ table_at t r
-unfolding table_at
-at_in t r n h e = e ∙ same_in t r 0 NONE h
-
-pub at_out : (t : List ℕ) (r : ℕ) → length t ≤ r → NONE ≡ table_at t r
-unfolding table_at
-at_out t r h = sym (get_or-eq_default t NONE {n = r} h)
 
 -- ---- the loops of `tabulate` and `write_prevs`
 pub table_more : (next : ℕ → ℕ) (k p : ℕ) (t₀ t t' : List ℕ) → t ≡ table_of next k t₀ → p ≡ next k → t' ≡ set t p k → t' ≡ table_of next (k + 1) t₀
@@ -34,8 +21,8 @@ pub prevs_more : (f : ℕ → ℕ) (k i p : ℕ) (s₀ s s' : List ℕ) → s �
 prevs_more f k i p s₀ s s' a b c d = d ∙ ap (λ (z : ℕ). put_le 2 z p s) b ∙ ap (λ (z : ℕ). put_le 2 (prev_at k) z s) c ∙ ap (put_le 2 (prev_at k) (f k)) a ∙ ap (λ (z : ℕ). with_prevs f z s₀) (sym (add-one k))
 
 -- ---- `is_spoilt`
-pub spoilt_is : (w t : List ℕ) (k p a b c : ℕ) → a ≡ table_at t k → p ≡ next_of w k → b ≡ table_at t p → c ≡ b → (eqb a NONE || not (eqb c k)) ≡ spoilt w t k
-spoilt_is w t k p a b c e f g h = rw (e, h, g, f)
+pub spoilt_is : (w t : List ℕ) (k p a b : ℕ) → a ≡ table_at t k → p ≡ next_of w k → b ≡ table_at t p → (eqb a NONE || not (eqb b k)) ≡ spoilt w t k
+spoilt_is w t k p a b e f g = rw (e, g, f)
 
 pub table_whole : (next : ℕ → ℕ) (n m k : ℕ) (t₀ t : List ℕ) → m ≡ n → m ≤ k → k ≤ n → t ≡ table_of next k t₀ → t ≡ table_of next n t₀
 table_whole next n m k t₀ t e h g a = let z : k ≡ n = omega arith in a ∙ ap (λ (i : ℕ). table_of next i t₀) z

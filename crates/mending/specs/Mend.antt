@@ -1,32 +1,28 @@
 -- Document 02, Ask 14, "Mend the backward links": the mender, on a job's bytes. "The mender works on a job that passes everything up to 5. If every point is the next of exactly one point, it sets each prev to that
 -- point. All other bytes are kept."
-use Rattle.std.specs.Prelude.{ℕ, zero, suc, ◌+◌, ◌*◌, Bool, cond, not, List, eqb, replicate}
+use Rattle.std.specs.Prelude.{ℕ, zero, suc, ◌+◌, ◌*◌, Bool, cond, not, List, eqb, replicate, Result, Ok, Err}
 use Rattle.numbers.specs.Written.{put_le}
 use Rattle.rings.specs.Count.{sum_to, one}
 use Rattle.job.specs.Limits as limit
 use Rattle.job.specs.Limits.{NONE}
 use Rattle.job.specs.Field.{PREV_AT}
+use Rattle.job.specs.declared.refusal.Refusal.{Refusal}
 use Rattle.job.specs.declared.refusal.Refusal.TheVariants.{PastMending}
 use Rattle.store.specs.Field.{BLOCK}
 use Rattle.store.specs.Named.{points_of, next_of}
-use Rattle.reading.specs.declared.fill.Outcome.TheVariants as outcome
 use Rattle.reading.specs.Fill as fill
 use Rattle.reading.specs.Read.{read_of}
 use Rattle.reading.specs.Standing.{value_at}
 use Rattle.audit.specs.Tests.{any_below}
-use Rattle.audit.specs.declared.Verdict.{Verdict}
-use Rattle.audit.specs.declared.Verdict.TheVariants as verdict
-use Rattle.audit.specs.declared.Reply.{Reply}
-use Rattle.audit.specs.declared.Reply.TheVariants.{Done, Refused}
 use Rattle.rows.specs.Found.{first_rows}
 
 -- ---- what the mender leaves: its answer, and the job's bytes
 
 pub record Mended : Type 0 where
-  pub answer : Reply
+  pub answer : Result (Unit {0}) Refusal
   pub bytes : List ℕ
 
-abbrev pub mended : Reply → List ℕ → Mended
+abbrev pub mended : Result (Unit {0}) Refusal → List ℕ → Mended
 mended a s = record { answer = a; bytes = s }
 
 -- ---- the bytes
@@ -63,11 +59,11 @@ before_of w k = last_before (next_of w) (points_of w) k
 
 -- the verdict of rows 1 to 5, and the job's words
 pub data Checked : Type 0 where
-  checked : Verdict → List ℕ → Checked
+  checked : Result (Unit {0}) Refusal → List ℕ → Checked
 
 abbrev pub checked_in : fill.ReadEnd → Checked
-checked_in (fill.end (outcome.Ok j) w ss js) = checked (first_rows w ss j.segments js j.joins) w
-checked_in (fill.end (outcome.Refused r) w ss js) = checked (verdict.Refused r) w
+checked_in (fill.end (Ok j) w ss js) = checked (first_rows w ss j.segments js j.joins) w
+checked_in (fill.end (Err r) w ss js) = checked (Err r) w
 
 -- rows 1 to 5, read into words w
 unfoldable pub checked_of : List ℕ → List ℕ → Checked
@@ -75,12 +71,12 @@ checked_of bytes w = checked_in (read_of bytes w (replicate limit.SEGMENTS 0) (r
 
 -- of a job that passes rows 1 to 5
 unfoldable pub fix_of : List ℕ → List ℕ → Mended
-fix_of bytes w = cond (past_mending w) (mended (Refused PastMending) bytes) (mended Done (with_prevs (before_of w) (points_of w) bytes))
+fix_of bytes w = cond (past_mending w) (mended (Err PastMending) bytes) (mended (Ok tt) (with_prevs (before_of w) (points_of w) bytes))
 
 -- "On any refusal of the mender nothing is altered"
 abbrev pub after_rows : List ℕ → Checked → Mended
-after_rows bytes (checked verdict.Passed w) = fix_of bytes w
-after_rows bytes (checked (verdict.Refused r) w) = mended (Refused r) bytes
+after_rows bytes (checked (Ok _) w) = fix_of bytes w
+after_rows bytes (checked (Err r) w) = mended (Err r) bytes
 
 -- the mender. Its words are its own, and no work space is lent
 unfoldable pub mend_of : List ℕ → Mended

@@ -11,11 +11,9 @@ ghost use Rattle.audit.specs.Tests.{any_below};
 ghost use Rattle.mending.specs.Mend.{mended, prev_at, with_prevs, checked, checked_of, fix_of, mend_of};
 ghost use Rattle.mending.specs.Needs.{table_of, table_at, spoilt, Roomy, Fixable};
 
-use audit::{Reply, Verdict};
 use job::Job;
 use job::field::{HEADER, PREV_AT};
 use job::refusal::Refusal;
-use reading::fill::Outcome;
 use store::{BLOCK, Col, NONE, get, read};
 
 // No point.
@@ -45,13 +43,10 @@ fn prev_at(k: usize) -> usize
 fn at(t: &[u32], k: usize) -> u32
     ensures { result ≡ table_at t.now k }
 {
-    if k < t.len() {
-        return t[k];
-    }
-    NOBODY
+    t.get(k).copied().unwrap_or(NOBODY)
 }
 
-// Puts v in place k, if there is such a place.
+// Puts v in place k, if there is such a place. (Not by `get_mut`: of a slice's it is known what the length stays, and of no element, so `set` does not follow.)
 fn put(t: &mut [u32], k: usize, v: usize)
     requires { v < 2 ^ 32 }
     ensures { t.new ≡ set t.old k v }
@@ -66,20 +61,10 @@ fn tabulate(w: &[u32], t: &mut [u32])
     requires { layout.BLOCK ≤ length w.now }
     ensures { t.new ≡ table_of (next_of w.now) (points_of w.now) t.old }
 {
-    let n = get(w, Col::Points, 0);
-    let mut k: usize = 0;
-    while k < n {
+    for k in 0..get(w, Col::Points, 0) {
         let p = read(w, Col::Next, k);
         put(t, p, k);
-        k += 1;
     }
-}
-
-// The same number, wider.
-fn wide(x: u32) -> usize
-    ensures { result ≡ x }
-{
-    x as usize
 }
 
 // Whether point k has none before it, or is not the one before its next.
@@ -88,9 +73,8 @@ fn is_spoilt(w: &[u32], t: &[u32], k: usize) -> bool
     ensures { result ≡ spoilt w.now t.now k }
 {
     let a = at(t, k);
-    let p = read(w, Col::Next, k);
-    let b = wide(at(t, p));
-    (a == NOBODY) | (b != k)
+    let b = at(t, read(w, Col::Next, k));
+    (a == NOBODY) | (b as usize != k)
 }
 
 // Whether any point is so.
@@ -98,16 +82,7 @@ fn any_spoilt(w: &[u32], t: &[u32]) -> bool
     requires { layout.BLOCK ≤ length w.now }
     ensures { result ≡ any_below (points_of w.now) (spoilt w.now t.now) }
 {
-    let n = get(w, Col::Points, 0);
-    let mut k: usize = 0;
-    while k < n {
-        let found = is_spoilt(w, t, k);
-        if found {
-            return true;
-        }
-        k += 1;
-    }
-    false
+    (0..get(w, Col::Points, 0)).any(|k| is_spoilt(w, t, k))
 }
 
 // Sets the prev of each of the first n points by the table.
@@ -115,52 +90,42 @@ fn write_prevs(job: &mut [u8], t: &[u32], n: usize)
     requires { Roomy job.old n }
     ensures { job.new ≡ with_prevs (table_at t.now) n job.old }
 {
-    let mut k: usize = 0;
-    while k < n {
-        let i = prev_at(k);
-        let p = at(t, k);
-        numbers::write_u16(job, i, p);
-        k += 1;
+    for k in 0..n {
+        numbers::write_u16(job, prev_at(k), at(t, k));
     }
 }
 
 // Mends a job that passed rows 1 to 5, from its words.
-fn fix(job: &mut [u8], w: &[u32]) -> Reply
+fn fix(job: &mut [u8], w: &[u32]) -> Result<(), Refusal>
     requires { Fixable job.old w.now }
     ensures { mended result job.new ≡ fix_of job.old w.now }
 {
     let mut t = [NOBODY; Job::POINTS];
     tabulate(w, &mut t);
     if any_spoilt(w, &t) {
-        return Reply::Refused(Refusal::PastMending);
+        return Err(Refusal::PastMending);
     }
     let n = get(w, Col::Points, 0);
     write_prevs(job, &t, n);
-    Reply::Done
+    Ok(())
 }
 
 // Rows 1 to 5; the job's words, for a job that passes them.
-fn check(bytes: &[u8], w: &mut [u32]) -> Verdict
+fn check(bytes: &[u8], w: &mut [u32]) -> Result<(), Refusal>
     requires { layout.BLOCK ≤ length w.old }
     ensures { checked result w.new ≡ checked_of bytes.now w.old }
 {
     let mut segments = [0u32; Job::SEGMENTS];
     let mut joins = [0u32; 2 * Job::JOINS];
-    let o = reading::read_job(bytes, w, &mut segments, &mut joins);
-    match o {
-        Outcome::Ok(j) => rows::first_rows(w, &segments, j.segments, &joins, j.joins),
-        Outcome::Refused(x) => Verdict::Refused(x),
-    }
+    let j = reading::read_job(bytes, w, &mut segments, &mut joins)?;
+    rows::first_rows(w, &segments, j.segments, &joins, j.joins)
 }
 
 // Sets each point's prev to the one point whose next it is; every other byte is kept. A refused job is left as it was. Its words are its own, so it takes some 90 kB of stack.
-pub fn mend(job: &mut [u8]) -> Reply
+pub fn mend(job: &mut [u8]) -> Result<(), Refusal>
     ensures { mended result job.new ≡ mend_of job.old }
 {
     let mut w = [0u32; BLOCK];
-    let v = check(job, &mut w);
-    match v {
-        Verdict::Passed => fix(job, &w),
-        Verdict::Refused(x) => Reply::Refused(x),
-    }
+    check(job, &mut w)?;
+    fix(job, &w)
 }

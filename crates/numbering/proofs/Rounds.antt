@@ -1,6 +1,6 @@
 -- How numbering goes: point by point round a ring, ring by ring over the records.
 use Prim.Native.Nat.{ℕ, zero, suc, ◌+◌, ◌-◌, ◌*◌, ◌≤◌, ◌<◌, ◌^◌}
-use mathlib.Core.Path.{◌≡◌, refl, sym, ap, ◌∙◌}
+use mathlib.Core.Path.{◌≡◌, refl, sym, ap, ◌∙◌, subst}
 use mathlib.Core.Logic.{◌≢◌}
 use mathlib.Core.Bool.{cond}
 use mathlib.Core.List.{List, [], ◌∷◌}
@@ -9,7 +9,7 @@ use native.Mathlib.Omega.{arith}
 use lib.ListN.{length, get_or, set, get_or-eq_default}
 use native.Mathlib.Decide.{ℕ_discrete}
 use lib.Dec.{eqb}
-use lib.ListN.{length, get_or, set, length-set}
+use lib.ListN.{length-set}
 use borrow.Author.Tests.{eq-eqb, ne_eqb}
 use Rattle.rings.specs.Walk.{run}
 use Rattle.job.specs.Limits.{POINTS}
@@ -93,6 +93,12 @@ module _ {w : List ℕ} {a k : ℕ} {t₀ : List ℕ} {n p left : ℕ} {t : List
           long = ap length e ∙ length-set t p n ∙ g.long;
           few = omega (arith, g.few);
         }
+
+-- of a walk of POINTS at most, k are done
+pub numbering_next : {w : List ℕ} {a b : ℕ} {t₀ : List ℕ} {n p k : ℕ} {t : List ℕ} → Numbering w a b t₀ n p (POINTS - k) t → k < POINTS → (x : ℕ) (t' : List ℕ) → t' ≡ set t p n → x ≡ next_of w p → (x ≡ a → ⊥) → Numbering w a b t₀ (n + 1) x (POINTS - (k + 1)) t'
+numbering_next {w} {a} {b} {t₀} {n} {k = k} g h x t' e d y =
+    let z : POINTS - k - 1 ≡ POINTS - (k + 1) = omega arith in
+    subst (λ (j : ℕ). Numbering w a b t₀ (n + 1) x j t') z (numbering_on g (omega arith) x t' e d y)
 
 -- a record without points, and one with
 pub ringless_numbered : (w : List ℕ) (i a k : ℕ) (t : List ℕ) → a ≡ first_of w i → a ≡ NONE → numbered_to k t ≡ number_on (ring_at (view w) i) k t

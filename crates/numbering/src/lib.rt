@@ -15,13 +15,10 @@ use store::{Col, NONE, get, read};
 pub fn number_of(numbers: &[usize], p: usize) -> usize
     ensures { result ≡ get_or numbers.now p 0 }
 {
-    if p < numbers.len() {
-        return numbers[p];
-    }
-    0
+    numbers.get(p).copied().unwrap_or(0)
 }
 
-// Point p is number k.
+// Point p is number k. (Not by `get_mut`: of a slice's it is known what the length stays, and of no element, so `set` does not follow.)
 fn set_number(numbers: &mut [usize], p: usize, k: usize)
     ensures { numbers.new ≡ set numbers.old p k }
 {
@@ -37,15 +34,13 @@ fn number_ring(w: &[u32], a: usize, k: usize, numbers: &mut [usize]) -> usize
 {
     let mut n = k;
     let mut p = a;
-    let mut left: usize = Job::POINTS;
-    while 0 < left {
+    for _ in 0..Job::POINTS {
         set_number(numbers, p, n);
         n += 1;
         p = read(w, Col::Next, p);
         if p == a {
             return n;
         }
-        left -= 1;
     }
     n
 }
@@ -67,12 +62,9 @@ pub fn number_rings(w: &[u32], numbers: &mut [usize]) -> usize
     requires { BLOCK ≤ length w.now }
     ensures { numbered_to result numbers.new ≡ number_to (view w.now) (records_of w.now) numbers.old }
 {
-    let n = get(w, Col::Records, 0);
     let mut k: usize = 0;
-    let mut i: usize = 0;
-    while i < n {
+    for i in 0..get(w, Col::Records, 0) {
         k = number_record(w, i, k, numbers);
-        i += 1;
     }
     k
 }

@@ -6,22 +6,18 @@ ghost use Rattle.std.specs.Prelude.{◌≤◌, length};
 ghost use Rattle.store.specs.Field.{BLOCK};
 
 use job::refusal::Refusal;
-use opening::open::{Opened, open};
+use opening::open::open;
 use std::io;
 use store::{Col, LENGTH, NONE, read};
 use streams::fill;
 use test_text::ring::{TEXT, put_ring};
 use test_text::{first, from, further, number_at};
 
-fn print<R: Print>(rt: &R, n: usize) -> io::Result<()> {
-    rt.print(n)
-}
-
 fn print_owner<R: Print>(rt: &R, o: usize) -> io::Result<()> {
     if o == NONE {
         return print!(rt; "-");
     }
-    print(rt, o)
+    rt.print(o)
 }
 
 // The ring from a record's first point on, each point by its number and value.
@@ -47,11 +43,8 @@ fn print_record<R: Print>(rt: &R, w: &[u32], i: usize) -> io::Result<()>
 fn print_records<R: Print>(rt: &R, w: &[u32]) -> io::Result<()>
     requires { BLOCK ≤ length w.now }
 {
-    let n = read(w, Col::Records, 0);
-    let mut i: usize = 0;
-    while i < n {
+    for i in 0..read(w, Col::Records, 0) {
         print_record(rt, w, i)?;
-        i += 1;
     }
     Ok(())
 }
@@ -72,13 +65,12 @@ fn print_refusal<R: Print>(rt: &R, r: Refusal) -> io::Result<()> {
 fn open_one<R: Print>(rt: &R, job: &[u8], w: &mut [u32]) -> io::Result<()>
     requires { BLOCK ≤ length w.old }
 {
-    let a = open(job, w);
-    match a {
-        Opened::Accepted => {
+    match open(job, w) {
+        Ok(()) => {
             print_counts(rt, w)?;
             print_records(rt, w)
         }
-        Opened::Refused(r) => print_refusal(rt, r),
+        Err(r) => print_refusal(rt, r),
     }
 }
 
@@ -86,8 +78,7 @@ fn run<R: Print>(rt: &R, s: &[u8], w: &mut [u32]) -> io::Result<()>
     requires { BLOCK ≤ length w.old }
 {
     let mut at: usize = 0;
-    let mut left: u32 = 1000;
-    while 0 < left {
+    for _ in 0..1000 {
         let n = number_at(s, at);
         if n == 0 {
             return Ok(());
@@ -95,7 +86,6 @@ fn run<R: Print>(rt: &R, s: &[u8], w: &mut [u32]) -> io::Result<()>
         at = further(at, 4);
         open_one(rt, first(from(s, at), n), w)?;
         at = further(at, n);
-        left -= 1;
     }
     Ok(())
 }

@@ -8,27 +8,25 @@ use lib.Dec.{ltb}
 use lib.ListN.{length, get_or, drop, replicate, length-append, length-drop, length-replicate, get_or-append}
 use lib.Seq.{get_or-drop}
 use borrow.Author.Tests.{ltb-false}
+use Rattle.std.proofs.Common.{Some, None, Ok, Err}
 use Rattle.job.specs.Limits as limit
 use Rattle.job.specs.declared.refusal.Refusal.TheVariants as refusal
-use Rattle.store.specs.Field.{RECORDS, BLOCK, STATES, KEPT, LENGTH}
+use Rattle.store.specs.Field.{BLOCK, STATES, KEPT, LENGTH}
 use Rattle.store.specs.States.{is_name, name_at, Apart}
 use Rattle.store.specs.Named.{first_of, records_of}
 use Rattle.store.specs.Boxes.{Boxed}
 use Rattle.bounds.proofs.Beside.{behind_all, set_boxed}
 use Rattle.handed.proofs.Handing.{usable_handed}
-use Rattle.reading.specs.declared.fill.Outcome.TheVariants as outcome
+use Rattle.joins.specs.declared.JoinError.TheVariants.{Knot, Full}
 use Rattle.reading.specs.Fill as fill
 use Rattle.accepting.specs.Accept.{accept_of}
-use Rattle.joins.specs.declared.Joined.TheVariants as joined
 use Rattle.joins.specs.Join as join
 use Rattle.joins.specs.Join.{process_horz_joins}
 use Rattle.joins.specs.Needs as goal
 use Rattle.joins.specs.Resolved.{Ready}
 use Rattle.joins.proofs.Turns.{words}
-use Rattle.converting.specs.declared.pairs.Converted.TheVariants as converted
 use Rattle.converting.specs.Make.{Made, made, convert_horz_segs_to_joins}
 use Rattle.converting.specs.Needs.{Converting}
-use Rattle.opening.specs.declared.open.Opened.TheVariants.{Accepted, Refused}
 use Rattle.opening.specs.Start.{start_writes, start_ring, start_to, start_rings}
 use Rattle.opening.specs.Open.{JOIN_POINTS, End, end, after_joins, after_segments, after_rows, stages_of, settled, cleared, open_of}
 use Rattle.opening.specs.After.{OpenedOver}
@@ -67,38 +65,38 @@ module _ (rest : List ℕ) where
   by_joins k js w g z = go (process_horz_joins k js w) refl (list_behind rest k 0 k js w g (omega arith) z)
     where
       go : (T : join.JoinEnd) → T ≡ process_horz_joins k js w → RestSame rest (words T) → EndBehind (after_joins T)
-      go (join.end joined.Done x) e q = started x (made_ready k js w x joined.Done g e) q
-      go (join.end joined.Knot x) e q = q
-      go (join.end joined.Full x) e q = q
+      go (join.end (Ok tt) x) e q = started x (made_ready k js w x (Ok tt) g e) q
+      go (join.end (Err Knot) x) e q = q
+      go (join.end (Err Full) x) e q = q
 
   by_segments : (w ss : List ℕ) (m : ℕ) (js : List ℕ) (n : ℕ) → Converting w ss m js n → RestSame rest w → EndBehind (after_segments (convert_horz_segs_to_joins w m ss js n))
   by_segments w ss m js n g z = go (convert_horz_segs_to_joins w m ss js n) refl (convert_behind rest w ss m js n g z)
     where
       go : (T : Made) → T ≡ convert_horz_segs_to_joins w m ss js n → MadeBehind rest T → EndBehind (after_segments T)
-      go (made (converted.Joins k) x ks) e q = by_joins k ks x (may_join w ss m js n (converted.Joins k) k x ks g e refl) q
-      go (made converted.Full x ks) e q = q
+      go (made (Some k) x ks) e q = by_joins k ks x (may_join w ss m js n (Some k) k x ks g e refl) q
+      go (made None x ks) e q = q
 
   by_rows : (bytes w : List ℕ) → BLOCK ≤ length w → RestSame rest w → EndBehind (stages_of bytes w)
   unfolding stages_of
   by_rows bytes w l z = go (accept_of bytes w (replicate limit.SEGMENTS 0) (replicate JOIN_POINTS 0)) refl (accept_behind rest bytes w (replicate limit.SEGMENTS 0) (replicate JOIN_POINTS 0) z)
     where
       go : (T : fill.ReadEnd) → accept_of bytes w (replicate limit.SEGMENTS 0) (replicate JOIN_POINTS 0) ≡ T → FilledBehind rest T → EndBehind (after_rows T)
-      go (fill.end (outcome.Ok j) v ts ks) e q = by_segments v ts j.segments ks j.joins (converting bytes w v ts ks j l e) q
-      go (fill.end (outcome.Refused x) v ts ks) e q = q
+      go (fill.end (Ok j) v ts ks) e q = by_segments v ts j.segments ks j.joins (converting bytes w v ts ks j l e) q
+      go (fill.end (Err x) v ts ks) e q = q
 
   -- ---- opening
 
-  settles : (n : ℕ) (T : End) (w : List ℕ) → EndBehind T → settled n T ≡ end Accepted w → RestSame rest w
-  settles n (end Accepted u) w q e = let f : u ≡ w = cc in subst (RestSame rest) f q
-  settles n (end (Refused r) u) w q e = absurd (let z : ◌≡◌ {A = ℕ} 0 1 = cc in omega arith)
+  settles : (n : ℕ) (T : End) (w : List ℕ) → EndBehind T → settled n T ≡ end (Ok tt) w → RestSame rest w
+  settles n (end (Ok tt) u) w q e = let f : u ≡ w = cc in subst (RestSame rest) f q
+  settles n (end (Err r) u) w q e = absurd (let z : ◌≡◌ {A = ℕ} 0 1 = cc in omega arith)
 
 -- THE LAW, of an accepted job
-module _ (bytes lent w : List ℕ) (e : open_of bytes lent ≡ end Accepted w) where
+module _ (bytes lent w : List ℕ) (e : open_of bytes lent ≡ end (Ok tt) w) where
   pub open_behind : drop BLOCK w ≡ drop BLOCK (cleared lent)
   unfolding open_of
   open_behind = by (ltb (length lent) LENGTH) refl e
     where
-      by : (t : Bool) → ltb (length lent) LENGTH ≡ t → cond t (end (Refused refusal.Full) (replicate (length lent) 0)) (settled (length lent) (stages_of bytes (cleared lent))) ≡ end Accepted w → drop BLOCK w ≡ drop BLOCK (cleared lent)
+      by : (t : Bool) → ltb (length lent) LENGTH ≡ t → cond t (end (Err refusal.Full) (replicate (length lent) 0)) (settled (length lent) (stages_of bytes (cleared lent))) ≡ end (Ok tt) w → drop BLOCK w ≡ drop BLOCK (cleared lent)
       by true h f = absurd (let z : ◌≡◌ {A = ℕ} 0 1 = cc in omega arith)
       by false h f = settles (drop BLOCK (cleared lent)) (length lent) (stages_of bytes (cleared lent)) w (by_rows (drop BLOCK (cleared lent)) bytes (cleared lent) (cleared_live lent h) refl) f
 
@@ -106,7 +104,7 @@ module _ (bytes lent w : List ℕ) (e : open_of bytes lent ≡ end Accepted w) w
   unfolding open_of
   lent_long = by (ltb (length lent) LENGTH) refl e
     where
-      by : (t : Bool) → ltb (length lent) LENGTH ≡ t → cond t (end (Refused refusal.Full) (replicate (length lent) 0)) (settled (length lent) (stages_of bytes (cleared lent))) ≡ end Accepted w → LENGTH ≤ length lent
+      by : (t : Bool) → ltb (length lent) LENGTH ≡ t → cond t (end (Err refusal.Full) (replicate (length lent) 0)) (settled (length lent) (stages_of bytes (cleared lent))) ≡ end (Ok tt) w → LENGTH ≤ length lent
       by true h f = absurd (let z : ◌≡◌ {A = ℕ} 0 1 = cc in omega arith)
       by false h f = ltb-false (length lent) LENGTH h
 

@@ -7,22 +7,22 @@ use native.Mathlib.Omega.{arith}
 use lib.Dec.{ltb, eqb}
 use lib.ListN.{get_or}
 use borrow.Author.Tests.{ltb-true, eqb-true, eqb-false}
+use Rattle.std.proofs.Common.{Ok, Err}
 use Rattle.job.specs.Limits as limit
 use Rattle.rings.specs.Links.{All}
 use Rattle.rings.proofs.Counting.{all_in}
 use Rattle.rings.proofs.Walking.{ring_is}
-use Rattle.store.specs.Field.{pt, REC, POINTS, RECORDS, NONE}
+use Rattle.store.specs.Field.{pt, REC, NONE}
 use Rattle.store.specs.Words.{view, on_words}
 use Rattle.store.specs.Named.{next_of, prev_of, rec_of, first_of, records_of, set_rec, ring_of}
 use Rattle.store.specs.Sound.{ring_at}
-use Rattle.joins.specs.declared.Joined.TheVariants as joined
+use Rattle.joins.specs.declared.JoinError.TheVariants.{Knot, Full}
 use Rattle.joins.specs.Join as join
 use Rattle.joins.specs.Join.{relink_writes, made_writes, empty_writes, first_writes, relink_of, new_out_rec, name_all, fix_outrec_pts, move_first, split_ring, split_of, merge_of, by_records, join_of, joins_from}
 use Rattle.joins.specs.Needs as goal
 use Rattle.joins.specs.Needs.{Points, Four, Ringed, Unknotted}
 use Rattle.joins.specs.Resolve.{home_of}
 use Rattle.joins.proofs.Turns.{Still, words, pair_four, pair_low_one, pair_low_two, pair_same, points_pair, split_ring_new, join_kept}
-use Rattle.opening.specs.Open.{end}
 use Rattle.opening.proofs.BehindReading.{RestSame, put_behind, writes_behind}
 
 -- the words behind the live block are `rest`
@@ -77,7 +77,7 @@ module _ (rest : List ℕ) where
   unfolding split_of
   split_behind w a c i t z = go (ltb (records_of w) limit.RECORDS) refl
     where
-      go : (b : Bool) → ltb (records_of w) limit.RECORDS ≡ b → RestSame rest (words (cond b (join.end joined.Done (split_ring w a c i (records_of w))) (join.end joined.Full w)))
+      go : (b : Bool) → ltb (records_of w) limit.RECORDS ≡ b → RestSame rest (words (cond b (join.end (Ok tt) (split_ring w a c i (records_of w))) (join.end (Err Full) w)))
       go true e = split_ring_behind w a c i (records_of w) t refl (ltb-true _ _ e) z
       go false e = z
 
@@ -91,7 +91,7 @@ module _ (rest : List ℕ) where
   unfolding by_records
   by_behind w a c i j t z = go (eqb i j) refl
     where
-      go : (b : Bool) → eqb i j ≡ b → RestSame rest (words (cond b (split_of w a c i) (join.end joined.Done (merge_of w a c i j))))
+      go : (b : Bool) → eqb i j ≡ b → RestSame rest (words (cond b (split_of w a c i) (join.end (Ok tt) (merge_of w a c i j))))
       go true e = split_behind w a c i (pair_same w a c i j t (eqb-true i j e)) z
       go false e = merge_behind w a c i j t z
 
@@ -99,14 +99,14 @@ module _ (rest : List ℕ) where
   unfolding join_of
   join_behind w a c t z = go (eqb (next_of w a) c) refl
     where
-      go : (b : Bool) → eqb (next_of w a) c ≡ b → RestSame rest (words (cond b (join.end joined.Knot w) (by_records w a c (home_of w a) (home_of w c))))
+      go : (b : Bool) → eqb (next_of w a) c ≡ b → RestSame rest (words (cond b (join.end (Err Knot) w) (by_records w a c (home_of w a) (home_of w c))))
       go true e = z
       go false e = by_behind w a c (home_of w a) (home_of w c) (points_pair w a c t (next_of w a) (home_of w a) (home_of w c) refl (eqb-false (next_of w a) c e) refl refl) z
 
   follow_behind : (g : List ℕ → join.JoinEnd) (w : List ℕ) (e : join.JoinEnd) → Still w (words e) → RestSame rest (words e) → ((x : List ℕ) → Still w x → RestSame rest x → RestSame rest (words (g x))) → RestSame rest (words (join.follow g e))
-  follow_behind g w (join.end joined.Done x) s z f = f x s z
-  follow_behind g w (join.end joined.Knot x) s z f = z
-  follow_behind g w (join.end joined.Full x) s z f = z
+  follow_behind g w (join.end (Ok tt) x) s z f = f x s z
+  follow_behind g w (join.end (Err Knot) x) s z f = z
+  follow_behind g w (join.end (Err Full) x) s z f = z
 
   pub list_behind : (f i n : ℕ) (js w : List ℕ) → goal.Joins w n js → i + f ≡ n → RestSame rest w → RestSame rest (words (joins_from f i js w))
   unfolding joins_from

@@ -7,27 +7,24 @@ use native.Mathlib.Omega.{arith}
 use lib.Dec.{ltb, eqb}
 use lib.ListN.{length, drop}
 use lib.Seq.{drop-set-lt}
+use Rattle.std.proofs.Common.{Result, Ok, Err}
 use Rattle.job.specs.Field.{field_of}
 use Rattle.job.specs.Job.{fresh}
 use Rattle.job.specs.declared.Job.{Job}
 use Rattle.job.specs.declared.refusal.Refusal.TheVariants as refusal
 use Rattle.job.specs.declared.field.Field as job
 use Rattle.job.specs.declared.field.Field.TheVariants.{Settings, Point, Record, Segment, Join}
-use Rattle.job.specs.declared.field.Reading.{Reading}
-use Rattle.job.specs.declared.field.Reading.TheVariants as reading
+use Rattle.job.specs.declared.refusal.Refusal.{Refusal}
 use Rattle.job.proofs.Accepted.{accepted}
 use Rattle.store.specs.Field.{Field, pt, ct, X, Y, Z, NEXT, PREV, REC, SETTINGS, POINTS, RECORDS, size, base, BLOCK}
 use Rattle.store.specs.Words.{Write, write, put, on_words}
 use Rattle.store.specs.Stores.{Within}
-use Rattle.primitives.specs.Primitive.{taken}
 use Rattle.store.proofs.Storing.{ends}
-use Rattle.reading.specs.declared.fill.Outcome.TheVariants as outcome
 use Rattle.reading.specs.Fill as fill
 use Rattle.reading.specs.Read.{with_counts, read_of}
 use Rattle.reading.specs.Needs.{Room}
 use Rattle.reading.proofs.Placing.{has_room}
 use Rattle.accepting.specs.Accept.{judged, accept_of}
-use Rattle.opening.specs.declared.open.Opened.TheVariants.{Refused}
 use Rattle.opening.specs.Open.{end}
 
 -- the words behind the live block are `rest`
@@ -60,9 +57,9 @@ module _ (rest : List ℕ) where
     placed_behind (Segment p) n h = z
     placed_behind (Join a b) n h = z
 
-    taken_behind : (part : List ℕ) (r : Reading) → field_of j part ≡ r → FilledBehind (fill.taken r j w ss js)
-    taken_behind part (reading.Read f n) e = placed_behind f n (has_room j part f n (accepted j part f n e))
-    taken_behind part (reading.Refused x) e = z
+    taken_behind : (part : List ℕ) (r : Result (job.Field × ℕ) Refusal) → field_of j part ≡ r → FilledBehind (fill.taken r j w ss js)
+    taken_behind part (Ok (f, n)) e = placed_behind f n (has_room j part f n (accepted j part f n e))
+    taken_behind part (Err x) e = z
 
     turn_behind : (bytes : List ℕ) → FilledBehind (fill.turn_of bytes j w ss js)
     unfolding fill.turn_of
@@ -74,10 +71,10 @@ module _ (rest : List ℕ) where
   run_behind (suc k) bytes j w ss js z = by (ltb j.at (length bytes)) (fill.turn_of bytes j w ss js) (turn_behind j w ss js z bytes) (λ m u us ls q. run_behind k bytes m u us ls q)
     where
       on : (T : fill.ReadEnd) → FilledBehind T → ((m : Job) (u us ls : List ℕ) → RestSame u → FilledBehind (fill.run k bytes m u us ls)) → FilledBehind (fill.follow (fill.run k bytes) T)
-      on (fill.end (outcome.Ok m) u us ls) q f = f m u us ls q
-      on (fill.end (outcome.Refused x) u us ls) q f = q
+      on (fill.end (Ok m) u us ls) q f = f m u us ls q
+      on (fill.end (Err x) u us ls) q f = q
 
-      by : (t : Bool) (T : fill.ReadEnd) → FilledBehind T → ((m : Job) (u us ls : List ℕ) → RestSame u → FilledBehind (fill.run k bytes m u us ls)) → FilledBehind (cond t (fill.follow (fill.run k bytes) T) (fill.end (outcome.Ok j) w ss js))
+      by : (t : Bool) (T : fill.ReadEnd) → FilledBehind T → ((m : Job) (u us ls : List ℕ) → RestSame u → FilledBehind (fill.run k bytes m u us ls)) → FilledBehind (cond t (fill.follow (fill.run k bytes) T) (fill.end (Ok j) w ss js))
       by true T q f = on T q f
       by false T q f = z
 
@@ -86,7 +83,7 @@ module _ (rest : List ℕ) where
     unfolding fill.fill_of
     fill_behind = by (eqb (length bytes) 0)
       where
-        by : (t : Bool) → FilledBehind (cond t (fill.end (outcome.Refused refusal.Strange) w ss js) (fill.run (suc (length bytes)) bytes fresh w ss js))
+        by : (t : Bool) → FilledBehind (cond t (fill.end (Err refusal.Strange) w ss js) (fill.run (suc (length bytes)) bytes fresh w ss js))
         by true = z
         by false = run_behind (suc (length bytes)) bytes fresh w ss js z
 
@@ -95,6 +92,6 @@ module _ (rest : List ℕ) where
     accept_behind = go (fill.fill_of bytes w ss js) fill_behind
       where
         go : (T : fill.ReadEnd) → FilledBehind T → FilledBehind (judged (with_counts T))
-        go (fill.end (outcome.Ok j) u us ls) q =
+        go (fill.end (Ok j) u us ls) q =
             writes_behind u (write (ct SETTINGS) 0 j.bits ∷ write (ct POINTS) 0 j.points ∷ write (ct RECORDS) 0 j.records ∷ []) (omega arith, (omega arith, (omega arith, tt))) q
-        go (fill.end (outcome.Refused x) u us ls) q = q
+        go (fill.end (Err x) u us ls) q = q

@@ -1,13 +1,12 @@
--- Zeros in front of a list: one more, and what is behind them; how far the loops are that look for them, and that write them there or further on.
-use Prim.Native.Nat.{ℕ, suc, ◌+◌, ◌-◌, ◌≤◌, ◌<◌}
+-- Zeros in front of a list: one more, and what is behind them; how far the loop is that looks for them, and the one that writes blocks of them.
+use Prim.Native.Nat.{ℕ, ◌+◌, ◌-◌, ◌≤◌, ◌<◌}
 use mathlib.Core.Path.{◌≡◌, refl, ap, ◌∙◌, sym, subst}
 use mathlib.Core.Bool.{Bool, true, false, not, ◌||◌}
-use mathlib.Core.List.{List, [], ◌∷◌, ◌++◌, append-nil, append_assoc}
+use mathlib.Core.List.{List, ◌++◌, append-nil, append_assoc}
 use native.Mathlib.Omega.{arith}
-use native.Mathlib.Numerals.{add-one}
 use lib.Dec.{eqb}
-use lib.ListN.{length, get_or, set, take, drop, replicate, length-append, length-replicate, length-set, take-append-drop, replicate-append-replicate}
-use lib.Seq.{set-get_or, drop-append-add, drop-drop, drop-length, take_at, drop_at, drop-cons, set_at, length-take-le}
+use lib.ListN.{length, get_or, set, take, drop, replicate, length-replicate, replicate-append-replicate}
+use lib.Seq.{set-get_or, drop-append-add, drop-drop, drop-length, take_at, drop_at}
 use borrow.Author.Fill.{fill_more}
 use borrow.Author.Tests.{eqb-true, not-true}
 use Rattle.opening.specs.Blank.{CHUNK, ZeroTo, IsBlank}
@@ -51,53 +50,6 @@ module _ (t : List ℕ) (a : ℕ) (found : Bool) (k : ℕ) (L : Looking t a foun
 
   pub looked : CHUNK ≤ k → IsBlank a t (not found)
   looked h = let e : k ≡ CHUNK = omega (arith, L.far) in record { blank = λ f. subst (λ (n : ℕ). ZeroTo (a + n) t) e (L.zeros (not-true found f)) }
-
--- ---- zeros are written
-
--- one more, behind m that stand from a on
-middle_more : (a m k : ℕ) (t : List ℕ) → k ≡ a + m → k < length t → set (take a t ++ (replicate m 0 ++ drop k t)) k 0 ≡ take a t ++ (replicate (m + 1) 0 ++ drop (k + 1) t)
-middle_more a m k t e h =
-    let l : length (take a t ++ replicate m 0) ≡ k = omega (arith, length-append (take a t) (replicate m 0), length-take-le a t (omega arith), length-replicate {A = ℕ} m 0) in
-    ap (λ (x : List ℕ). set (take a t ++ (replicate m 0 ++ x)) k 0) (drop-cons t k 0 h)
-    ∙ ap (λ (x : List ℕ). set x k 0) (sym (append_assoc (take a t) (replicate m 0) (get_or t k 0 ∷ drop (suc k) t)))
-    ∙ set_at (take a t ++ replicate m 0) (get_or t k 0) (drop (suc k) t) 0 k l
-    ∙ append_assoc (take a t) (replicate m 0) (0 ∷ drop (suc k) t)
-    ∙ ap (λ (x : List ℕ). take a t ++ x)
-    (sym (append_assoc (replicate m 0) (0 ∷ []) (drop (suc k) t)) ∙ ap (λ (x : List ℕ). x ++ drop (suc k) t) (replicate-append-replicate {A = ℕ} m 1 0)
-    ∙ ap (λ (n : ℕ). replicate (m + 1) 0 ++ drop n t) (sym (add-one k)))
-
--- from a on up to k
-pub record Zeroing (t₀ : List ℕ) (a to : ℕ) (t : List ℕ) (k : ℕ) : Type 0 where
-  pub many : ℕ
-  pub here : k ≡ a + many
-  pub far : k ≤ to
-  pub end : to ≤ length t₀
-  pub size : length t ≡ length t₀
-  pub is : t ≡ take a t₀ ++ (replicate many 0 ++ drop k t₀)
-
-pub write_begun : (t : List ℕ) (a to : ℕ) → a ≤ to → to ≤ length t → Zeroing t a to t a
-write_begun t a to l h = record { many = 0; here = omega arith; far = l; end = h; size = refl; is = sym (take-append-drop a t) }
-
-module _ (t₀ : List ℕ) (a to : ℕ) (t : List ℕ) (k : ℕ) (W : Zeroing t₀ a to t k) where
-  pub write_room : k < to → k < length t
-  write_room h = omega (arith, W.end, W.size)
-
-  pub write_on : k < to → Zeroing t₀ a to (set t k 0) (k + 1)
-  write_on h =
-      record {
-        many = W.many + 1;
-        here = omega (arith, W.here);
-        far = omega arith;
-        end = W.end;
-        size = length-set t k 0 ∙ W.size;
-        is = ap (λ (l : List ℕ). set l k 0) W.is ∙ middle_more a W.many k t₀ W.here (omega (arith, W.end));
-      }
-
-  pub written : to ≤ k → t ≡ take a t₀ ++ (replicate (to - a) 0 ++ drop to t₀)
-  written h =
-      let e : W.many ≡ to - a = omega (arith, W.here, W.far) in
-      let f : k ≡ to = omega (arith, W.far) in
-      W.is ∙ ap (λ (n : ℕ). take a t₀ ++ (replicate n 0 ++ drop k t₀)) e ∙ ap (λ (n : ℕ). take a t₀ ++ (replicate (to - a) 0 ++ drop n t₀)) f
 
 -- behind zeros
 module _ (t : List ℕ) (a to : ℕ) (z : ZeroTo a t) (l : a ≤ to) where

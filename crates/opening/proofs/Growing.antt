@@ -8,6 +8,8 @@ use lib.Dec.{eqb, leb, ltb}
 use native.Mathlib.Numerals.{add-one}
 use lib.ListN.{length, get_or, set, take, drop, replicate, length-set, get_or-append}
 use lib.Seq.{set-append_left, take-length}
+use Rattle.std.specs.Prelude.{Result}
+use Rattle.std.proofs.Common.{Ok, Err}
 use Rattle.job.specs.Limits as limit
 use Rattle.job.specs.Field.{field_of}
 use Rattle.job.specs.Job.{fresh, past}
@@ -15,10 +17,9 @@ use Rattle.job.specs.declared.Job.{Job}
 use Rattle.job.proofs.Accepted.{accepted}
 use Rattle.job.specs.declared.field.Field.{Field}
 use Rattle.job.specs.declared.field.Field.TheVariants.{Settings, Point, Record, Segment, Join}
-use Rattle.job.specs.declared.field.Reading.{Reading}
-use Rattle.job.specs.declared.field.Reading.TheVariants as reading
+use Rattle.job.specs.declared.refusal.Refusal.{Refusal}
+use Rattle.joins.specs.declared.JoinError.TheVariants.{Knot, Full}
 use Rattle.store.specs.Named.{points_of}
-use Rattle.reading.specs.declared.fill.Outcome.TheVariants.{Ok, Refused}
 use Rattle.reading.specs.Fill.{ReadEnd, end, put_join, placed, taken, turn_of, follow, run, fill_of}
 use Rattle.reading.specs.Needs.{Room}
 use Rattle.reading.specs.Read.{counted, with_counts, read_of}
@@ -27,9 +28,8 @@ use Rattle.reading.proofs.Counted.{filled}
 use Rattle.audit.specs.Tests.{any_below}
 use Rattle.rows.specs.Rows.{rows_of, unnamed, on_open}
 use Rattle.accepting.specs.Accept.{answer, judged, accept_of}
-use Rattle.audit.specs.declared.Verdict.{Verdict}
+use Rattle.job.specs.declared.refusal.Refusal.{Refusal}
 use Rattle.job.specs.declared.refusal.Refusal.TheVariants.{Strange}
-use Rattle.joins.specs.declared.Joined.TheVariants.{Done, Knot, Full}
 use Rattle.opening.specs.Open.{JOIN_POINTS}
 use Rattle.joins.specs.Join as join
 use Rattle.joins.specs.Join.{join_of, joins_from, process_horz_joins}
@@ -60,9 +60,9 @@ module _ (z : List ℕ) where
     unfolding turn_of
     turn_grown bytes = by (field_of j (drop j.at bytes)) refl
       where
-        by : (r : Reading) → field_of j (drop j.at bytes) ≡ r → taken r j w ss (js ++ z) ≡ grow z (taken r j w ss js)
-        by (reading.Read f n) e = placed_grown f n (has_room j (drop j.at bytes) f n (accepted j (drop j.at bytes) f n e))
-        by (reading.Refused x) e = refl
+        by : (r : Result (Field × ℕ) Refusal) → field_of j (drop j.at bytes) ≡ r → taken r j w ss (js ++ z) ≡ grow z (taken r j w ss js)
+        by (Ok (f, n)) e = placed_grown f n (has_room j (drop j.at bytes) f n (accepted j (drop j.at bytes) f n e))
+        by (Err x) e = refl
 
   -- the list is as long after a turn
   abbrev JoinsAs : ℕ → ReadEnd → Type 0
@@ -72,13 +72,13 @@ module _ (z : List ℕ) where
   unfolding turn_of
   turn_long bytes j w ss js = by (field_of j (drop j.at bytes))
     where
-      by : (r : Reading) → JoinsAs (length js) (taken r j w ss js)
-      by (reading.Read (Settings b) n) = refl
-      by (reading.Read (Point x y nx pv rec z) n) = refl
-      by (reading.Read (Record f o p) n) = refl
-      by (reading.Read (Segment p) n) = refl
-      by (reading.Read (Join a b) n) = length-set (set js (2 * j.joins) a) (2 * j.joins + 1) b ∙ length-set js (2 * j.joins) a
-      by (reading.Refused x) = refl
+      by : (r : Result (Field × ℕ) Refusal) → JoinsAs (length js) (taken r j w ss js)
+      by (Ok (Settings b, n)) = refl
+      by (Ok (Point x y nx pv rec z, n)) = refl
+      by (Ok (Record f o p, n)) = refl
+      by (Ok (Segment p, n)) = refl
+      by (Ok (Join a b, n)) = length-set (set js (2 * j.joins) a) (2 * j.joins + 1) b ∙ length-set js (2 * j.joins) a
+      by (Err x) = refl
 
   run_grown : (k : ℕ) (bytes : List ℕ) (j : Job) (w ss js : List ℕ) → 2 * limit.JOINS ≤ length js → run k bytes j w ss (js ++ z) ≡ grow z (run k bytes j w ss js)
   unfolding run
@@ -90,14 +90,14 @@ module _ (z : List ℕ) where
       by : (t : Bool) (T : ReadEnd) → JoinsAs (length js) T → ((m : Job) (u us ls : List ℕ) → 2 * limit.JOINS ≤ length ls → run k bytes m u us (ls ++ z) ≡ grow z (run k bytes m u us ls))
           → cond t (follow (run k bytes) (grow z T)) (end (Ok j) w ss (js ++ z)) ≡ grow z (cond t (follow (run k bytes) T) (end (Ok j) w ss js))
       by true (end (Ok m) u us ls) l f = f m u us ls (omega arith)
-      by true (end (Refused x) u us ls) l f = refl
+      by true (end (Err x) u us ls) l f = refl
       by false T l f = refl
 
   fill_grown : (bytes w ss js : List ℕ) → 2 * limit.JOINS ≤ length js → fill_of bytes w ss (js ++ z) ≡ grow z (fill_of bytes w ss js)
   unfolding fill_of
   fill_grown bytes w ss js h = by (eqb (length bytes) 0) _ _ (run_grown (suc (length bytes)) bytes fresh w ss js h)
     where
-      by : (t : Bool) (A B : ReadEnd) → A ≡ grow z B → cond t (end (Refused Strange) w ss (js ++ z)) A ≡ grow z (cond t (end (Refused Strange) w ss js) B)
+      by : (t : Bool) (A B : ReadEnd) → A ≡ grow z B → cond t (end (Err Strange) w ss (js ++ z)) A ≡ grow z (cond t (end (Err Strange) w ss js) B)
       by true A B e = refl
       by false A B e = e
 
@@ -117,8 +117,8 @@ module _ (z : List ℕ) where
       by : (T : ReadEnd) → fill_of bytes w ss js ≡ T → judged (with_counts (grow z T)) ≡ grow z (judged (with_counts T))
       by (end (Ok j) v ts ks) e =
           let t = filled bytes j v ts ks w ss js e in
-          ap (λ (x : Verdict). end (answer x j) (counted j v) ts (ks ++ z)) (rows_grown ks j.joins (omega (arith, t.joins, t.within.joins)) (counted j v) ts j.segments)
-      by (end (Refused x) v ts ks) e = refl
+          ap (λ (x : Result (Unit {0}) Refusal). end (answer x j) (counted j v) ts (ks ++ z)) (rows_grown ks j.joins (omega (arith, t.joins, t.within.joins)) (counted j v) ts j.segments)
+      by (end (Err x) v ts ks) e = refl
 
   -- ---- the joins
   joins_from_lem : (f i : ℕ) (js w : List ℕ) → 2 * (i + f) ≤ length js → joins_from f i (js ++ z) w ≡ joins_from f i js w
@@ -130,9 +130,9 @@ module _ (z : List ℕ) where
       ∙ by (join_of w (get_or js (2 * i) 0) (get_or js (2 * i + 1) 0)) (λ x. joins_from_lem f (i + 1) js x (omega arith))
     where
       by : (T : join.JoinEnd) → ((x : List ℕ) → joins_from f (i + 1) (js ++ z) x ≡ joins_from f (i + 1) js x) → join.follow (joins_from f (i + 1) (js ++ z)) T ≡ join.follow (joins_from f (i + 1) js) T
-      by (join.end Done x) r = r x
-      by (join.end Knot x) r = refl
-      by (join.end Full x) r = refl
+      by (join.end (Ok tt) x) r = r x
+      by (join.end (Err Knot) x) r = refl
+      by (join.end (Err Full) x) r = refl
 
   pub joins_grown : (n : ℕ) (js w : List ℕ) → 2 * n ≤ length js → process_horz_joins n (js ++ z) w ≡ process_horz_joins n js w
   joins_grown n js w h = joins_from_lem n 0 js w (omega arith)

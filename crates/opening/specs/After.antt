@@ -1,5 +1,5 @@
 -- What holds after an accepted opening.
-use Rattle.std.specs.Prelude.{ℕ, ◌≤◌, ◌<◌, ◌≡◌, true, false, List, ◌++◌, length, drop, replicate}
+use Rattle.std.specs.Prelude.{ℕ, ◌≤◌, ◌<◌, ◌≡◌, true, false, List, ◌++◌, length, drop, replicate, Ok}
 use Rattle.store.specs.Field.{pt, rc, X, Y, Z, FLAGS, START, BLOCK, STATES, KEPT}
 use Rattle.store.specs.Words.{Store, view}
 use Rattle.store.specs.Named.{progress_of, present_of, first_of, records_of}
@@ -7,7 +7,6 @@ use Rattle.store.specs.Sound.{pts, recs, ring_at, is_open}
 use Rattle.store.specs.Good.{Sound}
 use Rattle.store.specs.Boxes.{sides_at, sides_of, ring_box}
 use Rattle.store.specs.States.{is_name, name_at}
-use Rattle.audit.specs.declared.Verdict.TheVariants as audit
 use Rattle.handed.specs.Handed.{handed_of}
 use Rattle.joins.specs.Resolved.{Ready}
 use Rattle.acts.specs.Opened.{Fresh}
@@ -36,7 +35,7 @@ pub record OpenedOver (lent w : List ℕ) : Type 0 where
   -- "A newly opened job has no name kept, whatever the work space held before"
   pub no_name : (p : ℕ) → p < STATES → is_name (name_at w p) ≡ false
   -- "a work space that came from opening .. passes all these tests", the names' too
-  pub tests : handed_of w ≡ audit.Passed
+  pub tests : handed_of w ≡ Ok tt
 
 -- of the job's open rings, s being the store as the job was read and u as it is left: they are as given, point for point, and no record made since is open
 pub record OpenAsGiven (s u : Store) : Type 0 where

@@ -9,16 +9,14 @@ use store::{BOXES, KEPT, NAMES};
 // How many words are looked at together.
 const CHUNK: usize = 128;
 
-// Whether the block at `at` has only zeros, as all words before it.
+// Whether the block at `at` has only zeros, as all words before it. (No `all`: it stops at the first word that is not zero, so a block isn't read many words at once.)
 fn is_blank(t: &[u32], at: usize) -> bool
     requires { (at + CHUNK ≤ length t.now) × ZeroTo at t.now }
     ensures { IsBlank at t.now result }
 {
     let mut found = false;
-    let mut k: usize = 0;
-    while k < CHUNK {
-        found = found | (t[at + k] != 0);
-        k += 1;
+    for k in 0..CHUNK {
+        found |= t[at + k] != 0;
     }
     !found
 }
@@ -28,11 +26,7 @@ fn write_zeros(t: &mut [u32], at: usize, to: usize)
     requires { (at ≤ to) × (to ≤ length t.old) }
     ensures { t.new ≡ take at t.old ++ (replicate (to - at) 0 ++ drop to t.old) }
 {
-    let mut k = at;
-    while k < to {
-        t[k] = 0;
-        k += 1;
-    }
+    t[at..to].fill(0);
 }
 
 // Makes the block at `at` zeros; the words before it are zero already.
@@ -40,8 +34,7 @@ fn clear_block(t: &mut [u32], at: usize)
     requires { (at + CHUNK ≤ length t.old) × ZeroTo at t.old }
     ensures { t.new ≡ replicate (at + CHUNK) 0 ++ drop (at + CHUNK) t.old }
 {
-    let blank = is_blank(t, at);
-    if blank {
+    if is_blank(t, at) {
         return;
     }
     write_zeros(t, at, at + CHUNK);
@@ -52,12 +45,11 @@ fn clear_to(work: &mut [u32], n: usize)
     requires { n ≤ length work.old }
     ensures { work.new ≡ replicate n 0 ++ drop n work.old }
 {
-    let mut i: usize = 0;
-    while CHUNK <= n - i {
-        clear_block(work, i);
-        i += CHUNK;
+    let blocks = n / CHUNK;
+    for k in 0..blocks {
+        clear_block(work, k * CHUNK);
     }
-    write_zeros(work, i, n);
+    write_zeros(work, blocks * CHUNK, n);
 }
 
 // Every word is zero.

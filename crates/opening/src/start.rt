@@ -24,10 +24,7 @@ pub(crate) fn start_rings(w: &mut [u32])
     requires { (BLOCK ≤ length w.old) × (records_of w.old ≤ limit.RECORDS) }
     ensures { w.new ≡ start_to (records_of w.old) w.old }
 {
-    let n = get(w, Col::Records, 0);
-    let mut i: usize = 0;
-    while i < n {
+    for i in 0..get(w, Col::Records, 0) {
         start_ring(w, i);
-        i += 1;
     }
 }

@@ -1,6 +1,6 @@
 -- Jobs with joins and level segments as rows of one table: a job, and what opening answers. The answers are the real Rust's, by the oracle;
 -- program `opened_cases` runs the same jobs.
-use Rattle.std.specs.Prelude.{ℕ, suc, ◌+◌, ◌-◌, ◌%◌, ◌/◌, ◌≡◌, List, [], ◌∷◌, ◌++◌, map, pos, length, replicate, take, drop}
+use Rattle.std.specs.Prelude.{ℕ, suc, ◌+◌, ◌-◌, ◌%◌, ◌/◌, ◌≡◌, List, [], ◌∷◌, ◌++◌, map, pos, length, replicate, take, drop, Ok, Err}
 use Rattle.rings.specs.Count.{table}
 use Rattle.job.specs.Refusal.{number_of}
 use Rattle.geometry.specs.declared.Point.{Point}
@@ -9,7 +9,6 @@ use Rattle.store.specs.Words.{Store, view}
 use Rattle.store.specs.Named.{points_of, records_of}
 use Rattle.store.specs.Sound.{ring_at}
 use Rattle.store.specs.Value.{point_at}
-use Rattle.opening.specs.declared.open.Opened.TheVariants.{Accepted, Refused}
 use Rattle.opening.specs.Open.{End, end, open_of}
 
 -- ---- a job's bytes
@@ -97,8 +96,8 @@ abbrev pub left_at : Store → ℕ → Left
 left_at s i = left (s (rc FLAGS) i) (s (rc OWNER) i) (map (λ (k : ℕ). record { number = k; value = point_at s k }) (ring_at s i))
 
 abbrev pub answer_of : End → Answer
-answer_of (end Accepted w) = opened (points_of w) (table (left_at (view w)) 0 (records_of w))
-answer_of (end (Refused r) w) = refused (number_of r)
+answer_of (end (Ok tt) w) = opened (points_of w) (table (left_at (view w)) 0 (records_of w))
+answer_of (end (Err r) w) = refused (number_of r)
 
 -- ---- the table
 

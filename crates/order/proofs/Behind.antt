@@ -8,7 +8,9 @@ use lib.Dec.{eqb, ltb}
 use lib.ListN.{length, set, take, drop, length-append, length-drop, get_or-append}
 use lib.Seq.{take-append-le, drop-append-le, set-append_left, paste, length-paste}
 use borrow.Author.Tests.{le-ltb, ltb-true}
+use Rattle.std.specs.Prelude.{Result, Ok, Err}
 use Rattle.job.specs.Limits as limit
+use Rattle.job.specs.declared.refusal.Refusal.{Refusal}
 use Rattle.job.specs.declared.refusal.Refusal.TheVariants.{OutOfTurn, Crowded, OffTheTable, NoSuch, Loose, Muddled, UnknownName, NoPlace}
 use Rattle.store.specs.Field.{pt, rc, ct, X, Y, NEXT, PREV, REC, OWNER, FIRST, MARK, PRESENT, REASON, TAKER, POINTS, RECORDS, BLOCK, STATES, NAMES, LENGTH}
 use Rattle.store.specs.States.{word_of_name, is_name, name_at, same_name, copy_at, kept_block}
@@ -18,8 +20,6 @@ use Rattle.store.specs.declared.boxed.Sides.{Sides}
 use Rattle.store.specs.Words.{Store, view}
 use Rattle.store.specs.Named.{records_of}
 use Rattle.store.specs.Boxes.{side_at, sides_at, rect_of, ring_box, differs, misboxed}
-use Rattle.audit.specs.declared.Verdict.{Verdict}
-use Rattle.audit.specs.declared.Verdict.TheVariants as verdict
 use Rattle.audit.specs.Tests.{is_in, any_below, reach, reached_by, names_nothing, tests_of}
 use Rattle.handed.specs.Handed.{any_misboxed, boxes_tested, kept_twice, names_tested, tested_of, handed_of}
 use Rattle.audit.proofs.Agreeing.{passed_sound}
@@ -28,18 +28,14 @@ use Rattle.laying.specs.Lay.{lay_of}
 use Rattle.laying.proofs.Deciding.{lay_more, lay_second_lem, lay_behind}
 use Rattle.acts.proofs.Beyond.{view_more}
 use Rattle.acts.specs.Step.{answer_s}
-use Rattle.paths.specs.declared.Written.TheVariants as written
 use Rattle.paths.specs.Wrote.{wrote, build_paths64}
 use Rattle.turns.specs.Form.{raised, geometry_of}
-use Rattle.audit.specs.declared.Reply.{Reply}
-use Rattle.audit.specs.declared.Reply.TheVariants.{Done, Refused}
 use Rattle.audit.specs.Left.{Left, left}
 use Rattle.boxed_steps.specs.Leaves.{step_leaves}
 use Rattle.finishing.specs.Step.{stepped_as, step_by, step_of}
 use Rattle.steps.specs.Live.{any_live}
 use Rattle.finishing.specs.Write.{write_by, write_of}
 use Rattle.opening.proofs.Behind.{open_rest}
-use Rattle.telling.specs.declared.Told.TheVariants as told
 use Rattle.telling.specs.Telling.{reason_at, reason_by, reason_of}
 use Rattle.finishing.proofs.Entering.{handed_step, handed_write}
 use Rattle.finishing.proofs.Blocks.{leaves_more, call_behind}
@@ -62,15 +58,15 @@ reached_same w v e zero = refl
 reached_same w v e (suc i) = ap (λ (s : Store). further s (reached_by w i) i) e ∙ ap (λ (l : List ℕ). further (view v) l i) (reached_same w v e i)
 
 -- the tests, by the store and the points reached
-abbrev tests_in : Store → (ℕ → List ℕ) → Verdict
+abbrev tests_in : Store → (ℕ → List ℕ) → Result (Unit {0}) Refusal
 tests_in s reached =
     let any : (ℕ → Bool) → Bool = λ (q : ℕ → Bool). any_below (s (ct POINTS) 0) (λ (k : ℕ). is_in k (reached (s (ct RECORDS) 0)) && q k) in
     let every : (ℕ → Bool) → Bool = λ (q : ℕ → Bool). any_below (s (ct RECORDS) 0) q in
-    cond (ltb limit.POINTS (s (ct POINTS) 0) || ltb limit.RECORDS (s (ct RECORDS) 0)) (verdict.Refused Crowded)
-    (cond (any (λ (k : ℕ). ltb (2 * limit.COORDINATE) (s (pt X) k) || ltb (2 * limit.COORDINATE) (s (pt Y) k))) (verdict.Refused OffTheTable)
-    (cond (any (λ (k : ℕ). not (ltb (s (pt NEXT) k) (s (ct POINTS) 0)) || (not (ltb (s (pt PREV) k) (s (ct POINTS) 0)) || not (ltb (s (pt REC) k) (s (ct RECORDS) 0)))) || (every (λ (i : ℕ). names_nothing (s (ct RECORDS) 0) (s (rc OWNER) i) || names_nothing (s (ct POINTS) 0) (s (rc FIRST) i)) || every (λ (i : ℕ). ringless s i && (eqb (s (rc REASON) i) JOINED && not (ltb (s (rc TAKER) i) (s (ct RECORDS) 0)))))) (verdict.Refused NoSuch)
-    (cond (any (λ (k : ℕ). not (eqb (s (pt NEXT) (s (pt PREV) k)) k) || not (eqb (s (pt PREV) (s (pt NEXT) k)) k))) (verdict.Refused Loose)
-    (cond (every (λ (i : ℕ). is_in (s (rc FIRST) i) (reached i)) || (every (λ (i : ℕ). not (ringless s i) && not (is_open s i) && (ltb 4 (s (rc MARK) i) || (ltb (s (rc MARK) i) 4 && not (is_in (s (rc PRESENT) i) (ring_at s i))))) || every (λ (i : ℕ). ringless s i && not (is_kept (s (rc REASON) i))))) (verdict.Refused Muddled) verdict.Passed))))
+    cond (ltb limit.POINTS (s (ct POINTS) 0) || ltb limit.RECORDS (s (ct RECORDS) 0)) (Err Crowded)
+    (cond (any (λ (k : ℕ). ltb (2 * limit.COORDINATE) (s (pt X) k) || ltb (2 * limit.COORDINATE) (s (pt Y) k))) (Err OffTheTable)
+    (cond (any (λ (k : ℕ). not (ltb (s (pt NEXT) k) (s (ct POINTS) 0)) || (not (ltb (s (pt PREV) k) (s (ct POINTS) 0)) || not (ltb (s (pt REC) k) (s (ct RECORDS) 0)))) || (every (λ (i : ℕ). names_nothing (s (ct RECORDS) 0) (s (rc OWNER) i) || names_nothing (s (ct POINTS) 0) (s (rc FIRST) i)) || every (λ (i : ℕ). ringless s i && (eqb (s (rc REASON) i) JOINED && not (ltb (s (rc TAKER) i) (s (ct RECORDS) 0)))))) (Err NoSuch)
+    (cond (any (λ (k : ℕ). not (eqb (s (pt NEXT) (s (pt PREV) k)) k) || not (eqb (s (pt PREV) (s (pt NEXT) k)) k))) (Err Loose)
+    (cond (every (λ (i : ℕ). is_in (s (rc FIRST) i) (reached i)) || (every (λ (i : ℕ). not (ringless s i) && not (is_open s i) && (ltb 4 (s (rc MARK) i) || (ltb (s (rc MARK) i) 4 && not (is_in (s (rc PRESENT) i) (ring_at s i))))) || every (λ (i : ℕ). ringless s i && not (is_kept (s (rc REASON) i))))) (Err Muddled) (Ok tt)))))
 
 tests_are : (w : List ℕ) → tests_of w ≡ tests_in (view w) (reached_by w)
 unfolding tests_of
@@ -110,9 +106,9 @@ module _ (v m : List ℕ) (n : length v ≡ LENGTH) where
       (λ q h. any_same q (λ p. same_name (v ++ m) p q) (λ p. same_name v p q)
       (λ p l. ap (λ (x : ℕ). is_name x && eqb x (name_at (v ++ m) q)) (same_name_lem p (omega arith)) ∙ ap (λ (x : ℕ). is_name (name_at v p) && eqb (name_at v p) x) (same_name_lem q h)))
 
-  names_same : (x : Verdict) → names_tested (v ++ m) x ≡ names_tested v x
-  names_same (verdict.Refused r) = refl
-  names_same verdict.Passed = ap (λ (b : Bool). cond b (verdict.Refused Muddled) verdict.Passed) same_twice
+  names_same : (x : Result (Unit {0}) Refusal) → names_tested (v ++ m) x ≡ names_tested v x
+  names_same (Err r) = refl
+  names_same (Ok _) = ap (λ (b : Bool). cond b (Err Muddled) (Ok tt)) same_twice
 
   -- the boxes
   same_sides : (i : ℕ) → i < limit.RECORDS → sides_at (v ++ m) i ≡ sides_at v i
@@ -126,15 +122,15 @@ module _ (v m : List ℕ) (n : length v ≡ LENGTH) where
       ∙ any_same (records_of v) (λ (i : ℕ). differs (ring_box (view v) i) (rect_of (sides_at (v ++ m) i))) (λ (i : ℕ). differs (ring_box (view v) i) (rect_of (sides_at v i)))
       (λ i l. ap (λ (b : Sides). differs (ring_box (view v) i) (rect_of b)) (same_sides i (omega arith)))
 
-  boxes_same : (x : Verdict) → tests_of v ≡ x → boxes_tested (v ++ m) x ≡ boxes_tested v x
-  boxes_same (verdict.Refused r) e = refl
-  boxes_same verdict.Passed e = ap (λ (b : Bool). cond b (verdict.Refused Muddled) verdict.Passed) (same_boxes (passed_sound v e).few_records)
+  boxes_same : (x : Result (Unit {0}) Refusal) → tests_of v ≡ x → boxes_tested (v ++ m) x ≡ boxes_tested v x
+  boxes_same (Err r) e = refl
+  boxes_same (Ok _) e = ap (λ (b : Bool). cond b (Err Muddled) (Ok tt)) (same_boxes (passed_sound v e).few_records)
 
   same_tested : tested_of (v ++ m) ≡ tested_of v
   unfolding tested_of
   same_tested =
       names_same (boxes_tested (v ++ m) (tests_of (v ++ m)))
-      ∙ ap (λ (x : Verdict). names_tested v (boxes_tested (v ++ m) x)) (tests_same (v ++ m) v (view_more m v block_long))
+      ∙ ap (λ (x : Result (Unit {0}) Refusal). names_tested v (boxes_tested (v ++ m) x)) (tests_same (v ++ m) v (view_more m v block_long))
       ∙ ap (names_tested v) (boxes_same (tests_of v) refl)
 
   same_handed : handed_of (v ++ m) ≡ handed_of v
@@ -147,9 +143,9 @@ module _ (v m : List ℕ) (n : length v ≡ LENGTH) where
       ∙ by (handed_of v) refl
       ∙ ap (λ (l : Left). left l.answer (l.words ++ m)) (sym (handed_step v i (handed_of v) refl))
     where
-      by : (t : Verdict) → handed_of v ≡ t → step_by t (v ++ m) i ≡ left (step_by t v i).answer ((step_by t v i).words ++ m)
-      by (verdict.Refused r) e = refl
-      by verdict.Passed e =
+      by : (t : Result (Unit {0}) Refusal) → handed_of v ≡ t → step_by t (v ++ m) i ≡ left (step_by t v i).answer ((step_by t v i).words ++ m)
+      by (Err r) e = refl
+      by (Ok _) e =
           ap (λ (s : Store). left (stepped_as (answer_s (geometry_of s) raised s i)) (step_leaves (answer_s (geometry_of s) raised s i) (v ++ m) i)) (view_more m v block_long)
           ∙ ap (left (stepped_as (answer_s (geometry_of (view v)) raised (view v) i))) (leaves_more v block_long (handed_sound v e).sound i m (answer_s (geometry_of (view v)) raised (view v) i))
 
@@ -159,17 +155,17 @@ module _ (v m : List ℕ) (n : length v ≡ LENGTH) where
       ∙ by (handed_of v)
       ∙ sym (handed_write v t (handed_of v) refl)
     where
-      by : (x : Verdict) → write_by x (v ++ m) t ≡ write_by x v t
-      by (verdict.Refused r) = refl
-      by verdict.Passed = ap (λ (s : Store). cond (any_live s) (wrote (written.Refused OutOfTurn) t) (build_paths64 s t)) (view_more m v block_long)
+      by : (x : Result (Unit {0}) Refusal) → write_by x (v ++ m) t ≡ write_by x v t
+      by (Err r) = refl
+      by (Ok _) = ap (λ (s : Store). cond (any_live s) (wrote (Err OutOfTurn) t) (build_paths64 s t)) (view_more m v block_long)
 
   reasons : (i : ℕ) → reason_of (v ++ m) i ≡ reason_of v i
   unfolding reason_of
-  reasons i = ap (λ (x : Verdict). reason_by x (v ++ m) i) same_handed ∙ by (handed_of v)
+  reasons i = ap (λ (x : Result (Unit {0}) Refusal). reason_by x (v ++ m) i) same_handed ∙ by (handed_of v)
     where
-      by : (x : Verdict) → reason_by x (v ++ m) i ≡ reason_by x v i
-      by (verdict.Refused r) = refl
-      by verdict.Passed = ap (λ (s : Store). cond (not (ltb i (recs s)) || any_live s) (told.Refused OutOfTurn) (told.Because (reason_at s i))) (view_more m v block_long)
+      by : (x : Result (Unit {0}) Refusal) → reason_by x (v ++ m) i ≡ reason_by x v i
+      by (Err r) = refl
+      by (Ok _) = ap (λ (s : Store). cond (not (ltb i (recs s)) || any_live s) (Err OutOfTurn) (Ok (reason_at s i))) (view_more m v block_long)
 
   -- ---- the three calls on kept states
 
@@ -205,34 +201,34 @@ module _ (v m : List ℕ) (n : length v ≡ LENGTH) where
   freed_more p h = set-append_left v m (NAMES + p) 0 (omega arith)
 
   -- at a place, or refused
-  at_place : (p : ℕ) (f : List ℕ → List ℕ) (r : Reply) → (p < STATES → f (v ++ m) ≡ f v ++ m) → (b : Bool) → ltb p STATES ≡ b
-      → cond b (left Done (f (v ++ m))) (left r (v ++ m)) ≡ left (cond b (left Done (f v)) (left r v)).answer ((cond b (left Done (f v)) (left r v)).words ++ m)
-  at_place p f r h true e = ap (left Done) (h (ltb-true p STATES e))
+  at_place : (p : ℕ) (f : List ℕ → List ℕ) (r : Result (Unit {0}) Refusal) → (p < STATES → f (v ++ m) ≡ f v ++ m) → (b : Bool) → ltb p STATES ≡ b
+      → cond b (left (Ok tt) (f (v ++ m))) (left r (v ++ m)) ≡ left (cond b (left (Ok tt) (f v)) (left r v)).answer ((cond b (left (Ok tt) (f v)) (left r v)).words ++ m)
+  at_place p f r h true e = ap (left (Ok tt)) (h (ltb-true p STATES e))
   at_place p f r h false e = refl
 
   keepings : (k : ℕ) → keep_of (v ++ m) k ≡ left (keep_of v k).answer ((keep_of v k).words ++ m)
   unfolding keep_of
-  keepings k = ap (λ (x : Verdict). keep_by x (v ++ m) k) same_handed ∙ by (handed_of v)
+  keepings k = ap (λ (x : Result (Unit {0}) Refusal). keep_by x (v ++ m) k) same_handed ∙ by (handed_of v)
     where
-      by : (x : Verdict) → keep_by x (v ++ m) k ≡ left (keep_by x v k).answer ((keep_by x v k).words ++ m)
-      by (verdict.Refused r) = refl
-      by verdict.Passed = ap (λ (p : ℕ). keep_at (v ++ m) p k) (same_keep k) ∙ at_place (keep_place v k) (λ u. stored u (keep_place v k) k) (Refused NoPlace) (stored_more k (keep_place v k)) (ltb (keep_place v k) STATES) refl
+      by : (x : Result (Unit {0}) Refusal) → keep_by x (v ++ m) k ≡ left (keep_by x v k).answer ((keep_by x v k).words ++ m)
+      by (Err r) = refl
+      by (Ok _) = ap (λ (p : ℕ). keep_at (v ++ m) p k) (same_keep k) ∙ at_place (keep_place v k) (λ u. stored u (keep_place v k) k) (Err NoPlace) (stored_more k (keep_place v k)) (ltb (keep_place v k) STATES) refl
 
   returns : (k : ℕ) → go_back_of (v ++ m) k ≡ left (go_back_of v k).answer ((go_back_of v k).words ++ m)
   unfolding go_back_of
-  returns k = ap (λ (x : Verdict). back_by x (v ++ m) k) same_handed ∙ by (handed_of v)
+  returns k = ap (λ (x : Result (Unit {0}) Refusal). back_by x (v ++ m) k) same_handed ∙ by (handed_of v)
     where
-      by : (x : Verdict) → back_by x (v ++ m) k ≡ left (back_by x v k).answer ((back_by x v k).words ++ m)
-      by (verdict.Refused r) = refl
-      by verdict.Passed = ap (back_at (v ++ m)) (same_place k) ∙ at_place (place_of v k) (λ u. restored u (place_of v k)) (Refused UnknownName) (restored_more (place_of v k)) (ltb (place_of v k) STATES) refl
+      by : (x : Result (Unit {0}) Refusal) → back_by x (v ++ m) k ≡ left (back_by x v k).answer ((back_by x v k).words ++ m)
+      by (Err r) = refl
+      by (Ok _) = ap (back_at (v ++ m)) (same_place k) ∙ at_place (place_of v k) (λ u. restored u (place_of v k)) (Err UnknownName) (restored_more (place_of v k)) (ltb (place_of v k) STATES) refl
 
   droppings : (k : ℕ) → drop_of (v ++ m) k ≡ left (drop_of v k).answer ((drop_of v k).words ++ m)
   unfolding drop_of
-  droppings k = ap (λ (x : Verdict). drop_by x (v ++ m) k) same_handed ∙ by (handed_of v)
+  droppings k = ap (λ (x : Result (Unit {0}) Refusal). drop_by x (v ++ m) k) same_handed ∙ by (handed_of v)
     where
-      by : (x : Verdict) → drop_by x (v ++ m) k ≡ left (drop_by x v k).answer ((drop_by x v k).words ++ m)
-      by (verdict.Refused r) = refl
-      by verdict.Passed = ap (drop_at (v ++ m)) (same_place k) ∙ at_place (place_of v k) (λ u. freed u (place_of v k)) (Refused UnknownName) (freed_more (place_of v k)) (ltb (place_of v k) STATES) refl
+      by : (x : Result (Unit {0}) Refusal) → drop_by x (v ++ m) k ≡ left (drop_by x v k).answer ((drop_by x v k).words ++ m)
+      by (Err r) = refl
+      by (Ok _) = ap (drop_at (v ++ m)) (same_place k) ∙ at_place (place_of v k) (λ u. freed u (place_of v k)) (Err UnknownName) (freed_more (place_of v k)) (ltb (place_of v k) STATES) refl
 
   -- ---- laying together
 

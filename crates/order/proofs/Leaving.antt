@@ -4,6 +4,7 @@ use mathlib.Core.Path.{◌≡◌, refl, ◌∙◌, sym, subst}
 use mathlib.Core.List.{List, ◌++◌}
 use native.Mathlib.Omega.{arith}
 use lib.ListN.{length, drop, replicate}
+use Rattle.std.proofs.Common.{Ok, Err}
 use Rattle.job.specs.Limits.{POINTS, RECORDS}
 use Rattle.job.specs.declared.refusal.Refusal.{Refusal}
 use Rattle.lone.specs.Lone.{Geo}
@@ -21,12 +22,12 @@ use Rattle.acts.specs.Laws.{Laws}
 use Rattle.acts.specs.Step.{Outcome, outcome, answer_s, step_w}
 use Rattle.acts.proofs.Finishing.{words_of}
 use Rattle.acts.proofs.Stepping.{length_step, step_w_sound}
+use Rattle.std.specs.Prelude.{Result}
+use Rattle.paths.specs.Wrote.{ok_paths}
 use Rattle.paths.specs.declared.Written.{Written}
-use Rattle.paths.specs.declared.Written.TheVariants as written
 use Rattle.paths.specs.Wrote.{build_paths64}
 use Rattle.turns.specs.Form.{raised, geometry_of}
 use Rattle.turns.proofs.Ready.{laws}
-use Rattle.opening.specs.declared.open.Opened.TheVariants.{Accepted, Refused}
 use Rattle.opening.specs.Open.{End, end, open_of}
 use Rattle.opening.proofs.Accepted.{after_opening_lem}
 use Rattle.opening.proofs.Behind.{open_rest}
@@ -85,24 +86,24 @@ rings_clean rest w c = boxed_clean rest (finish_w (geometry_of (view w)) raised 
 -- ---- writing out, and the whole
 
 module _ (c o : ℕ) where
-  never : {A : Type 0} (x : Refusal) → written.Refused x ≡ written.Paths c o → A
+  never : {A : Type 0} (x : Refusal) → Err x ≡ ok_paths c o → A
   never x e = absurd (let z : ◌≡◌ {A = ℕ} 0 1 = cc in omega arith)
 
-  by_writing : (rest w : List ℕ) → Clean rest w → (a : Written) (t : List ℕ) → (after_writing w a t).answer ≡ written.Paths c o → drop BLOCK (after_writing w a t).words ≡ rest
-  by_writing rest w k (written.Paths a b) t e = k.behind
-  by_writing rest w k (written.Refused x) t e = never x e
+  by_writing : (rest w : List ℕ) → Clean rest w → (a : Result Written Refusal) (t : List ℕ) → (after_writing w a t).answer ≡ ok_paths c o → drop BLOCK (after_writing w a t).words ≡ rest
+  by_writing rest w k (Ok p) t e = k.behind
+  by_writing rest w k (Err x) t e = never x e
 
-  by_steps : (rest : List ℕ) (T : RingsEnd) → EndClean rest T → (t : List ℕ) → (after_steps T t).answer ≡ written.Paths c o → drop BLOCK (after_steps T t).words ≡ rest
+  by_steps : (rest : List ℕ) (T : RingsEnd) → EndClean rest T → (t : List ℕ) → (after_steps T t).answer ≡ ok_paths c o → drop BLOCK (after_steps T t).words ≡ rest
   by_steps rest (rings_done w) k t e = by_writing rest w k (build_paths64 (view w) t).answer (build_paths64 (view w) t).tray e
   by_steps rest (rings_full w) k t e = never _ e
 
 -- THE LAW
-pub finish_rest : (bytes lent t : List ℕ) (c o : ℕ) → (finish_of bytes lent t).answer ≡ written.Paths c o → drop BLOCK (finish_of bytes lent t).words ≡ replicate STATES 0 ++ drop KEPT lent
+pub finish_rest : (bytes lent t : List ℕ) (c o : ℕ) → (finish_of bytes lent t).answer ≡ ok_paths c o → drop BLOCK (finish_of bytes lent t).words ≡ replicate STATES 0 ++ drop KEPT lent
 unfolding finish_of
 finish_rest bytes lent t c o e = go (open_of bytes lent) refl e
   where
-    go : (T : End) → open_of bytes lent ≡ T → (after_opening T t).answer ≡ written.Paths c o → drop BLOCK (after_opening T t).words ≡ replicate STATES 0 ++ drop KEPT lent
-    go (end Accepted w) f h =
+    go : (T : End) → open_of bytes lent ≡ T → (after_opening T t).answer ≡ ok_paths c o → drop BLOCK (after_opening T t).words ≡ replicate STATES 0 ++ drop KEPT lent
+    go (end (Ok _) w) f h =
         let a = after_opening_lem w bytes lent f in
         by_steps c o (drop BLOCK w) (finish_rings w) (rings_clean (drop BLOCK w) w (record { long = a.ready.long; sound = a.sound; behind = refl })) t h ∙ open_rest bytes lent w f
-    go (end (Refused x) w) f h = never c o x h
+    go (end (Err x) w) f h = never c o x h

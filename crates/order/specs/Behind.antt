@@ -1,12 +1,11 @@
 -- Words behind the live block, and past the fixed length, for callers who lend more than they must. No call on an opened work space reads or writes the words past it; of those before it a step, going back and laying
 -- together write the live block only; opening an accepted job, and finishing it in one call, free the names and leave the words from the copies of kept states on as they found them. (A refused job leaves zeros everywhere: `settled`,
 -- `refused`.) What keeping and dropping leave: `history`, Others.
-use Rattle.std.specs.Prelude.{ℕ, ◌≡◌, List, ◌++◌, length, drop, replicate}
+use Rattle.std.specs.Prelude.{ℕ, ◌≡◌, List, ◌++◌, length, drop, replicate, Ok}
 use Rattle.store.specs.Field.{BLOCK, STATES, KEPT, LENGTH}
 use Rattle.audit.specs.Left.{left}
 use Rattle.laying.specs.Lay.{lay_of}
-use Rattle.paths.specs.declared.Written.TheVariants.{Paths}
-use Rattle.opening.specs.declared.open.Opened.TheVariants.{Accepted}
+use Rattle.paths.specs.Wrote.{ok_paths}
 use Rattle.opening.specs.Open.{end, open_of}
 use Rattle.telling.specs.Telling.{reason_of}
 use Rattle.finishing.specs.InOneCall.{finish_of}
@@ -30,5 +29,5 @@ pub record Behind : Type 0 where
   pub by_returns : (w : List ℕ) (n : ℕ) → drop BLOCK (go_back_of w n).words ≡ drop BLOCK w
   pub by_layings : (w v : List ℕ) → drop BLOCK (lay_of w v).words ≡ drop BLOCK w
   -- behind the live block opening, and finishing in one call, leave every place free, and then what was found there
-  pub openings : (bytes lent w : List ℕ) → open_of bytes lent ≡ end Accepted w → drop BLOCK w ≡ replicate STATES 0 ++ drop KEPT lent
-  pub finishings : (bytes lent t : List ℕ) (c o : ℕ) → (finish_of bytes lent t).answer ≡ Paths c o → drop BLOCK (finish_of bytes lent t).words ≡ replicate STATES 0 ++ drop KEPT lent
+  pub openings : (bytes lent w : List ℕ) → open_of bytes lent ≡ end (Ok tt) w → drop BLOCK w ≡ replicate STATES 0 ++ drop KEPT lent
+  pub finishings : (bytes lent t : List ℕ) (c o : ℕ) → (finish_of bytes lent t).answer ≡ ok_paths c o → drop BLOCK (finish_of bytes lent t).words ≡ replicate STATES 0 ++ drop KEPT lent

@@ -3,9 +3,9 @@ use mathlib.Core.Path.{◌≡◌, refl, sym, ap, subst, ◌∙◌}
 use mathlib.Core.Bool.{Bool, true, false, not}
 use mathlib.Core.Logic.{◌≢◌}
 use mathlib.Core.List.{List}
-use Prim.Native.Nat.{ℕ, zero, suc, ◌+◌, ◌-◌, ◌^◌, ◌<◌, ◌≤◌}
+use Prim.Native.Nat.{ℕ, zero, suc, ◌+◌, ◌^◌, ◌<◌, ◌≤◌}
 use native.Mathlib.Omega.{arith}
-use native.Mathlib.Numerals.{sub-one}
+use native.Mathlib.Numerals.{add-one}
 use lib.Dec.{leb}
 use lib.ListN.{set, replicate}
 use borrow.Author.Tests.{eq-eqb, ne_eqb, le-leb, lt-leb, leb-true, leb-false}
@@ -133,13 +133,13 @@ module _ {w : List ℕ} {q d : ℕ} (g : Noting w q d) (z : 0 < d) where
         known = known_set (Long w) ls q d t.known (g.ahead z);
       })
 
-  pub noting_on : (o : ℕ) → o ≡ owner_of w q → Noting w o (d - 1)
-  noting_on o e = rw e (record { few = omega (arith, g.few); ahead = λ k. on d k (g.ahead z) })
+  -- n owners to go after this one
+  pub noting_on : (n o : ℕ) → d ≡ n + 1 → o ≡ owner_of w q → Noting w o n
+  noting_on n o s e = rw e (record { few = omega (arith, g.few); ahead = λ k. on n k (subst (Long w q) (s ∙ add-one n) (g.ahead z)) })
     where
-      on : (n : ℕ) → 0 < n - 1 → Long w q n → Long w (owner_of w q) (n - 1)
+      on : (m : ℕ) → 0 < m → Long w q (suc m) → Long w (owner_of w q) m
       on zero k l = absurd (omega arith)
-      on (suc zero) k l = absurd (omega arith)
-      on (suc (suc n)) k l = rw sub-one (long_back w q n l)
+      on (suc m) k l = long_back w q m l
 
 -- the loop over the records
 module _ {w : List ℕ} {i m : ℕ} (g : Followed w i m) where

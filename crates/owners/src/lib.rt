@@ -21,16 +21,14 @@ fn follow(w: &[u32], lengths: &[u32], i: usize) -> usize
     ensures { Followed w.now i result }
 {
     let mut q = i;
-    let mut h: usize = 0;
-    while h < Job::RECORDS {
+    for h in 0..Job::RECORDS {
         let d = at(lengths, q);
         if d != UNKNOWN {
             return h + d;
         }
         q = read(w, Col::Owner, q);
-        h += 1;
         if q == NONE {
-            return h;
+            return h + 1;
         }
     }
     Job::RECORDS + 1
@@ -42,15 +40,12 @@ fn note(w: &[u32], lengths: &mut [u32], i: usize, n: usize)
     ensures { Lengths w.now lengths.new }
 {
     let mut q = i;
-    let mut d = n;
-    while 0 < d {
-        let known = at(lengths, q);
-        if known != UNKNOWN {
+    for k in 0..n {
+        if at(lengths, q) != UNKNOWN {
             return;
         }
-        put(lengths, q, d);
+        put(lengths, q, n - k);
         q = read(w, Col::Owner, q);
-        d -= 1;
     }
 }
 
@@ -59,16 +54,13 @@ pub fn any_circle(w: &[u32]) -> bool
     requires { BLOCK ≤ length w.now }
     ensures { result ≡ any_below (records_of w.now) (circles w.now) }
 {
-    let n = get(w, Col::Records, 0);
     let mut lengths = [BLANK; Job::RECORDS];
-    let mut i: usize = 0;
-    while i < n {
+    for i in 0..get(w, Col::Records, 0) {
         let m = follow(w, &lengths, i);
         if Job::RECORDS < m {
             return true;
         }
         note(w, &mut lengths, i, m);
-        i += 1;
     }
     false
 }
@@ -88,14 +80,5 @@ pub fn any_chained(w: &[u32]) -> bool
     requires { BLOCK ≤ length w.now }
     ensures { result ≡ any_below (records_of w.now) (chained w.now) }
 {
-    let n = get(w, Col::Records, 0);
-    let mut i: usize = 0;
-    while i < n {
-        let found = is_chained(w, i);
-        if found {
-            return true;
-        }
-        i += 1;
-    }
-    false
+    (0..get(w, Col::Records, 0)).any(|i| is_chained(w, i))
 }

@@ -12,13 +12,10 @@ pub const BLANK: u32 = UNKNOWN as u32;
 pub fn at(t: &[u32], r: usize) -> usize
     ensures { (result ≡ entry t.now r) × (result < 2 ^ 32) }
 {
-    if r < t.len() {
-        return t[r] as usize;
-    }
-    UNKNOWN
+    t.get(r).map_or(UNKNOWN, |n| *n as usize)
 }
 
-// Sets the number of record r, if it has one.
+// Sets the number of record r, if it has one. (By `get_mut` the proof didn't close: nothing is known of the table where it answers none.)
 pub fn put(t: &mut [u32], r: usize, n: usize)
     requires { n < 2 ^ 32 }
     ensures { t.new ≡ set t.old r n }

@@ -16,8 +16,10 @@ use Rattle.store.specs.Words.{Store, view}
 use Rattle.store.specs.Sound.{pts, recs, ring_at, is_open}
 use Rattle.store.specs.Good.{Sound, SoundWords}
 use Rattle.store.specs.Value.{reverse_solution}
+use Rattle.std.specs.Prelude.{Result, Err}
+use Rattle.job.specs.declared.refusal.Refusal.{Refusal}
+use Rattle.paths.specs.Wrote.{ok_paths}
 use Rattle.paths.specs.declared.Written.{Written}
-use Rattle.paths.specs.declared.Written.TheVariants.{Paths, Refused}
 use Rattle.paths.specs.Path.{path_if, closed_paths, open_paths, size_of}
 use Rattle.paths.specs.Tray.{POINT, tag_of, fields, fields_of, padded, TRAY}
 use Rattle.paths.specs.Walking.{Directed}
@@ -102,7 +104,7 @@ module _ (s : Store) where
   always_suffice o = omega (arith, length_fields_of, all_fields (recs s), rings_few o, o.few_points, o.few_records)
 
   -- so a tray of that length is never too small
-  pub never_small : Sound s → (t : List ℕ) → TRAY ≤ length t → build_paths64 s t ≡ wrote (Paths (length (closed_paths s)) (length (open_paths s))) (padded (length t) (fields_of s))
+  pub never_small : Sound s → (t : List ℕ) → TRAY ≤ length t → build_paths64 s t ≡ wrote (ok_paths (length (closed_paths s)) (length (open_paths s))) (padded (length t) (fields_of s))
   unfolding build_paths64
   never_small o t h = rw (le-leb (length (fields_of s)) (length t) (omega (arith, always_suffice o)))
 
@@ -127,10 +129,10 @@ module _ (w : List ℕ) (r : SoundWords w) (t : List ℕ) (b : Bool) (e : b ≡ 
   pub tray_fits : (rev : Bool) → rev ≡ reverse_solution (view w) → b ≡ false → AllFit w rev t
   tray_fits rev g h = record { directed = record { ready = r; direction = g }; room = ltb-false (length t) (length (fields_of (view w))) (sym e ∙ h) }
 
-  pub tray_small : b ≡ true → wrote (Refused SmallTray) t ≡ build_paths64 (view w) t
+  pub tray_small : b ≡ true → wrote (Err SmallTray) t ≡ build_paths64 (view w) t
   unfolding build_paths64
   tray_small h = rw (lt-leb (length (fields_of (view w))) (length t) (ltb-true (length t) (length (fields_of (view w))) (sym e ∙ h)))
 
-  pub all_written : (a : Written) (u : List ℕ) → b ≡ false → wrote a u ≡ wrote (Paths (length (closed_paths (view w))) (length (open_paths (view w)))) (padded (length t) (fields_of (view w))) → wrote a u ≡ build_paths64 (view w) t
+  pub all_written : (a : Result Written Refusal) (u : List ℕ) → b ≡ false → wrote a u ≡ wrote (ok_paths (length (closed_paths (view w))) (length (open_paths (view w)))) (padded (length t) (fields_of (view w))) → wrote a u ≡ build_paths64 (view w) t
   unfolding build_paths64
   all_written a u h g = g ∙ rw (le-leb (length (fields_of (view w))) (length t) (ltb-false (length t) (length (fields_of (view w))) (sym e ∙ h)))

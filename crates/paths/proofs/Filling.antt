@@ -9,7 +9,7 @@ use lib.ListN.{length, take, drop, replicate, length-append, length-drop}
 use borrow.Rule.Slice.PartMut.{put_mid}
 use Rattle.store.specs.Words.{Store, view}
 use Rattle.store.specs.Sound.{recs}
-use Rattle.paths.specs.declared.Written.TheVariants.{Paths}
+use Rattle.paths.specs.Wrote.{ok_paths}
 use Rattle.paths.specs.Count.{need_of}
 use Rattle.paths.specs.Wrote.{wrote}
 use Rattle.paths.specs.Path.{path_if, listed, paths_below, closed_paths, open_paths}
@@ -151,6 +151,6 @@ module _ (w : List ℕ) (rev : Bool) (t : List ℕ) (p : AllFit w rev t) where
       used_at = omega (arith, used_is, fits, tray_length (A ++ B) t v (c + k) used_is v_is fits)
 
       pub filled_all : (a b : ℕ) → a ≡ (need_of (view w) false).paths → b ≡ (need_of (view w) true).paths → (zs : List ℕ) → zs ≡ replicate (length (take (length v - (c + k)) (drop (c + k) v))) 0
-          → wrote (Paths a b) (put_mid (c + k) (length v - (c + k)) v zs) ≡ wrote (Paths (length (closed_paths (view w))) (length (open_paths (view w)))) (padded (length t) (fields_of (view w)))
+          → wrote (ok_paths a b) (put_mid (c + k) (length v - (c + k)) v zs) ≡ wrote (ok_paths (length (closed_paths (view w))) (length (open_paths (view w)))) (padded (length t) (fields_of (view w)))
       unfolding need_of
-      filled_all a b ea eb zs z = rw (ea, eb) (ap (wrote (Paths (length (closed_paths (view w))) (length (open_paths (view w))))) (part_clear (A ++ B) t v (c + k) used_is v_is fits zs z ∙ ap (padded (length t)) (sym all_is)))
+      filled_all a b ea eb zs z = rw (ea, eb) (ap (wrote (ok_paths (length (closed_paths (view w))) (length (open_paths (view w))))) (part_clear (A ++ B) t v (c + k) used_is v_is fits zs z ∙ ap (padded (length t)) (sym all_is)))

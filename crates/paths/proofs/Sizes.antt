@@ -27,8 +27,10 @@ use Rattle.store.specs.Words.{Store, view}
 use Rattle.store.specs.Sound.{pts, ring_at, is_open}
 use Rattle.store.specs.Good.{PointIn}
 use Rattle.store.specs.Value.{preserve_collinear, reverse_solution}
-use Rattle.paths.specs.declared.PathEnd.{PathEnd}
-use Rattle.paths.specs.declared.PathEnd.TheVariants.{Short, Small, Points}
+use Rattle.std.specs.Prelude.{Result, Ok, Err}
+use Rattle.std.specs.Result.{result_unwrap_or}
+use Rattle.paths.specs.declared.NoPath.{NoPath}
+use Rattle.paths.specs.declared.NoPath.TheVariants.{Short, Small}
 use Rattle.paths.specs.Path.{point_at, points_at, path_by, path_at, path_if, size_of, small_by, end_by, path_end}
 use Rattle.paths.specs.Walking.{start_from, round_from, Readable, Round, Known, Asked, ThreeOrMore, Sized, path_round}
 use Rattle.paths.proofs.Walks.{others_of, walk_is, round_here}
@@ -163,22 +165,22 @@ module _ (G : Geo Point) (rev o : Bool) (c : List Point) where
   abbrev small : Bool
   small = not o && eqb (length (without_equals G (in_order rev c))) 3 && is_small_ring G (cond rev c (turn c))
 
-  pub end_short : leb (length c) (cond o 1 2) ≡ true → Short ≡ end_by small (build_path64_from_outpt G rev o c)
+  pub end_short : leb (length c) (cond o 1 2) ≡ true → Err Short ≡ end_by small (build_path64_from_outpt G rev o c)
   unfolding build_path64_from_outpt
   end_short e = rw e (go o e)
     where
       -- a ring too short has no path of three points
-      go : (o : Bool) → leb (length c) (cond o 1 2) ≡ true → Short ≡ end_by (not o && eqb (length (without_equals G (in_order rev c))) 3 && is_small_ring G (cond rev c (turn c))) none
+      go : (o : Bool) → leb (length c) (cond o 1 2) ≡ true → Err Short ≡ end_by (not o && eqb (length (without_equals G (in_order rev c))) 3 && is_small_ring G (cond rev c (turn c))) none
       go true e = refl
       go false e = rw (ne_eqb (length (without_equals G (in_order rev c))) 3 (λ z. omega (arith, z, path_le G (in_order rev c), length_in_order rev c, leb-true (length c) 2 e)))
 
   module _ (e : leb (length c) (cond o 1 2) ≡ false) where
-    pub end_small : small ≡ true → Small ≡ end_by small (build_path64_from_outpt G rev o c)
+    pub end_small : small ≡ true → Err Small ≡ end_by small (build_path64_from_outpt G rev o c)
     unfolding build_path64_from_outpt
     end_small f = rw (e, f)
 
     module _ (f : small ≡ false) where
-      pub end_few : length (without_equals G (in_order rev c)) < 2 → Short ≡ end_by small (build_path64_from_outpt G rev o c)
+      pub end_few : length (without_equals G (in_order rev c)) < 2 → Err Short ≡ end_by small (build_path64_from_outpt G rev o c)
       unfolding build_path64_from_outpt
       end_few h = rw (e, f, lt-leb 2 (length (without_equals G (in_order rev c))) h)
 
@@ -190,7 +192,7 @@ module _ (G : Geo Point) (rev o : Bool) (c : List Point) where
 -- ---- a record of a work space
 
 module _ (w : List ℕ) (rev o : Bool) (i : ℕ) (k : Known w i) (f : ℕ) (e : f ≡ view w (rc FIRST) i) where
-  pub none_end : f ≡ 65535 → Short ≡ path_end (view w) rev o i
+  pub none_end : f ≡ 65535 → Err Short ≡ path_end (view w) rev o i
   unfolding path_end
   none_end d = end_short (plane (preserve_collinear (view w))) rev o (points_at (view w) i) (rw (eq-eqb (view w (rc FIRST) i) 65535 (sym e ∙ d)) (all o))
     where
@@ -208,7 +210,7 @@ module _ (w : List ℕ) (rev o : Bool) (i : ℕ) (k : Known w i) (f : ℕ) (e : 
     length_first : length (round_from (view w) false f) ≡ length (points_at (view w) i)
     length_first = rw e (ap length on.first_is ∙ sym (length-map (ring_at (view w) i) (point_at (view w))))
 
-    pub short_end : (t : Bool) → t ≡ leb (length (round_from (view w) false f)) (cond o 1 2) → t ≡ true → Short ≡ path_end (view w) rev o i
+    pub short_end : (t : Bool) → t ≡ leb (length (round_from (view w) false f)) (cond o 1 2) → t ≡ true → Err Short ≡ path_end (view w) rev o i
     unfolding path_end
     short_end t g h = end_short (plane (preserve_collinear (view w))) rev o (points_at (view w) i) (ap (λ (n : ℕ). leb n (cond o 1 2)) (sym length_first) ∙ sym g ∙ h)
 
@@ -261,11 +263,11 @@ module _ (w : List ℕ) (rev o : Bool) (i : ℕ) (k : Known w i) (f : ℕ) (e : 
           small_of : (not o && eqb (length (without_equals (plane (preserve_collinear (view w))) (in_order rev (points_at (view w) i)))) 3 && is_small_ring (plane (preserve_collinear (view w))) (cond rev (points_at (view w) i) (turn (points_at (view w) i)))) ≡ u
           small_of = sym (x ∙ rw (h, path_is_of, ahead_of))
 
-          pub small_end : u ≡ true → Small ≡ path_end (view w) rev o i
+          pub small_end : u ≡ true → Err Small ≡ path_end (view w) rev o i
           unfolding path_end
           small_end y = end_small (plane (preserve_collinear (view w))) rev o (points_at (view w) i) long_is (small_of ∙ y)
 
-          pub few_end : u ≡ false → n < 2 → Short ≡ path_end (view w) rev o i
+          pub few_end : u ≡ false → n < 2 → Err Short ≡ path_end (view w) rev o i
           unfolding path_end
           few_end y z = end_few (plane (preserve_collinear (view w))) rev o (points_at (view w) i) long_is (small_of ∙ y) (omega (arith, h, ap length path_is_of))
 
@@ -273,9 +275,9 @@ module _ (w : List ℕ) (rev o : Bool) (i : ℕ) (k : Known w i) (f : ℕ) (e : 
           pub path_there : u ≡ false → 2 ≤ n → path_by (view w) rev o i ≡ some (path_round (view w) rev a)
           path_there y z = rw path_is_of (built (plane (preserve_collinear (view w))) rev o (points_at (view w) i) long_is (small_of ∙ y) (omega (arith, h, ap length path_is_of)))
 
-          pub all_end : u ≡ false → 2 ≤ n → Points n ≡ path_end (view w) rev o i
+          pub all_end : u ≡ false → 2 ≤ n → Ok n ≡ path_end (view w) rev o i
           unfolding path_end
-          all_end y z = ap Points h ∙ sym (ap (end_by (small_by (view w) rev o i)) (path_there y z))
+          all_end y z = ap Ok h ∙ sym (ap (end_by (small_by (view w) rev o i)) (path_there y z))
 
       -- a path of four points or more is there
       module _ (four : 4 ≤ length (path_round (view w) rev a)) where
@@ -313,29 +315,11 @@ long_some w rev opened i q o eo t et h f ef d a ea r er y z =
 
 -- ---- how many points, by how building ends
 
-module _ (s : Store) (rev o : Bool) (i : ℕ) (e : PathEnd) (h : e ≡ path_end s rev o i) where
-  size_by : PathEnd → ℕ
-  size_by Short = 0
-  size_by Small = 0
-  size_by (Points n) = n
-
-  size_is : size_by e ≡ size_of (path_by s rev o i)
-  unfolding path_end size_by
-  size_is = ap size_by h ∙ go (small_by s rev o i) (path_by s rev o i)
-    where
-      go : (small : Bool) (x : Option (List Point)) → size_by (end_by small x) ≡ size_of x
-      go small (some path) = refl
-      go true none = refl
-      go false none = refl
-
-  pub short_none : e ≡ Short → 0 ≡ size_of (path_by s rev o i)
-  unfolding size_by
-  short_none k = sym (ap size_by k) ∙ size_is
-
-  pub small_none : e ≡ Small → 0 ≡ size_of (path_by s rev o i)
-  unfolding size_by
-  small_none k = sym (ap size_by k) ∙ size_is
-
-  pub points_size : (n : ℕ) → e ≡ Points n → n ≡ size_of (path_by s rev o i)
-  unfolding size_by
-  points_size n k = sym (ap size_by k) ∙ size_is
+pub size_or_none : (s : Store) (rev o : Bool) (i k : ℕ) (e : Result ℕ NoPath) → e ≡ path_end s rev o i → k ≡ result_unwrap_or e 0 → k ≡ size_of (path_by s rev o i)
+unfolding path_end
+size_or_none s rev o i k e h f = f ∙ ap (λ (x : Result ℕ NoPath). result_unwrap_or x 0) h ∙ go (small_by s rev o i) (path_by s rev o i)
+  where
+    go : (small : Bool) (x : Option (List Point)) → result_unwrap_or (end_by small x) 0 ≡ size_of x
+    go small (some path) = refl
+    go true none = refl
+    go false none = refl

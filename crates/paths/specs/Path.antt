@@ -10,8 +10,9 @@ use Rattle.store.specs.Value as value
 use Rattle.store.specs.Sound.{recs, ring_at, is_open}
 use Rattle.store.specs.Value.{preserve_collinear, reverse_solution}
 use Rattle.lone.specs.Plane.{plane}
-use Rattle.paths.specs.declared.PathEnd.{PathEnd}
-use Rattle.paths.specs.declared.PathEnd.TheVariants.{Short, Small, Points}
+use Rattle.std.specs.Prelude.{Result, Ok, Err}
+use Rattle.paths.specs.declared.NoPath.{NoPath}
+use Rattle.paths.specs.declared.NoPath.TheVariants.{Short, Small}
 
 -- the point of number k, by value: the store's own, which stays folded here until a proof asks for its coordinates
 unfoldable pub point_at : Store → ℕ → Point
@@ -30,12 +31,12 @@ abbrev pub small_by : Store → Bool → Bool → ℕ → Bool
 small_by s rev o i = not o && eqb (length (without_equals (plane (preserve_collinear s)) (in_order rev (points_at s i)))) 3 && is_small_ring (plane (preserve_collinear s)) (cond rev (points_at s i) (turn (points_at s i)))
 
 -- how building it ends, by the small test and by what was built
-abbrev pub end_by : Bool → Option (List Point) → PathEnd
-end_by small (some path) = Points (length path)
-end_by true none = Small
-end_by false none = Short
+abbrev pub end_by : Bool → Option (List Point) → Result ℕ NoPath
+end_by small (some path) = Ok (length path)
+end_by true none = Err Small
+end_by false none = Err Short
 
-unfoldable pub path_end : Store → Bool → Bool → ℕ → PathEnd
+unfoldable pub path_end : Store → Bool → Bool → ℕ → Result ℕ NoPath
 path_end s rev o i = end_by (small_by s rev o i) (path_by s rev o i)
 
 -- as the settings and the record say

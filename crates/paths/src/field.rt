@@ -10,7 +10,7 @@ ghost use Rattle.paths.specs.Filling.{path_points, field_at, lay_over, PointsFit
 ghost use Rattle.paths.specs.Walking.{Asked, laid};
 
 use crate::round::{has_four, write_round};
-use crate::{POINT, is_open, same, size_if, start_from, tag_of};
+use crate::{POINT, is_open, size_if, start_from, tag_of};
 use store::{Col, NONE};
 
 // The tag and the length of a field for k points.
@@ -37,9 +37,7 @@ fn is_long(w: &[u32], rev: bool, opened: bool, i: usize) -> bool
     requires { Asked w.now rev i }
     ensures { result ≡ true → size_of (path_if (view w.now) opened i) ≢ 0 }
 {
-    let o = is_open(w, i);
-    let fits = same(o, opened);
-    if !fits {
+    if is_open(w, i) != opened {
         return false;
     }
     let f = store::get(w, Col::First, i);
@@ -81,8 +79,7 @@ pub fn write_path(w: &[u32], rev: bool, opened: bool, i: usize, t: &mut [u8]) ->
     requires { FieldFits w.now rev opened i t.old }
     ensures { laid result t.new ≡ lay_over (field_at (view w.now) opened i) t.old }
 {
-    let long = is_long(w, rev, opened, i);
-    if long {
+    if is_long(w, rev, opened, i) {
         return write_long(w, rev, opened, i, t);
     }
     write_counted(w, rev, opened, i, t)

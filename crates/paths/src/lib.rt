@@ -4,7 +4,7 @@
 mod field;
 mod round;
 
-ghost use Rattle.std.specs.Prelude.{◌≡◌, ◌+◌, ◌*◌, ◌<◌, ◌≤◌, false, cond, not, ◌&&◌, map, eqb, leb, ltb, length, replicate};
+ghost use Rattle.std.specs.Prelude.{◌≡◌, ◌+◌, ◌*◌, ◌<◌, ◌≤◌, false, cond, not, ◌&&◌, map, eqb, leb, ltb, length, replicate, Ok};
 ghost use Rattle.std.specs.Bool.{beq};
 ghost use Rattle.job.specs.Limits as limit;
 ghost use Rattle.lone.specs.Plane.{plane};
@@ -19,8 +19,7 @@ ghost use Rattle.paths.specs.Count.{path_count, field_size, need_of};
 ghost use Rattle.paths.specs.Tray.{tag_of, fields_of, padded};
 ghost use Rattle.paths.specs.Tray as trays;
 ghost use Rattle.paths.specs.Filling.{fields_below, lay_over, FieldsFit, AllFit};
-ghost use Rattle.paths.specs.declared.Written.TheVariants.{Paths};
-ghost use Rattle.paths.specs.Wrote.{wrote, build_paths64};
+ghost use Rattle.paths.specs.Wrote.{ok_paths, wrote, build_paths64};
 ghost use Rattle.paths.specs.Walking.{start_from, round_from, Known, Directed, Asked, ThreeOrMore, Sized, Round, laid};
 
 use crate::field::write_path;
@@ -40,19 +39,18 @@ fn tray_agrees()
     ensures { (POINT ≡ trays.POINT) × (TRAY ≡ trays.TRAY) }
 {}
 
-// What writing out answers: how many closed and open paths the tray holds, or a refusal.
-#[derive(Clone, Copy)]
-pub enum Written {
-    Paths { closed: usize, open: usize },
-    Refused(Refusal),
+// What was written out: how many closed and open paths the tray holds.
+#[derive(Clone, Copy, PartialEq, Eq)]
+pub struct Written {
+    pub closed: usize,
+    pub open: usize,
 }
 
-// How building a record's path ends: no path, by the small test or by another one, or a path of so many points.
-#[derive(Clone, Copy)]
-pub enum PathEnd {
+// Why a record has no path: by the small test, or by another one.
+#[derive(Clone, Copy, PartialEq, Eq)]
+pub enum NoPath {
     Short,
     Small,
-    Points(usize),
 }
 
 // ---- one record's path
@@ -115,29 +113,27 @@ fn start_from(w: &[u32], rev: bool, f: usize) -> usize
     store::get(w, Col::Next, f)
 }
 
-// How building the path of record i ends.
-pub fn path_end(w: &[u32], rev: bool, opened: bool, i: usize) -> PathEnd
+// How many points the path of record i has, or why there is none.
+pub fn path_end(w: &[u32], rev: bool, opened: bool, i: usize) -> Result<usize, NoPath>
     requires { Known w.now i }
     ensures { result ≡ path_end (view w.now) rev opened i }
 {
     let f = store::get(w, Col::First, i);
     if f == NONE {
-        return PathEnd::Short;
+        return Err(NoPath::Short);
     }
-    let short = too_short(w, opened, f);
-    if short {
-        return PathEnd::Short;
+    if too_short(w, opened, f) {
+        return Err(NoPath::Short);
     }
     let a = start_from(w, rev, f);
     let n = round_size(w, rev, a);
-    let small = is_small(w, opened, a, n);
-    if small {
-        return PathEnd::Small;
+    if is_small(w, opened, a, n) {
+        return Err(NoPath::Small);
     }
     if n < 2 {
-        return PathEnd::Short;
+        return Err(NoPath::Short);
     }
-    PathEnd::Points(n)
+    Ok(n)
 }
 
 // How many points the path of record i has, 0 for none.
@@ -145,12 +141,7 @@ fn path_size(w: &[u32], rev: bool, opened: bool, i: usize) -> usize
     requires { Known w.now i }
     ensures { result ≡ size_of (path_by (view w.now) rev opened i) }
 {
-    let e = path_end(w, rev, opened, i);
-    match e {
-        PathEnd::Short => 0,
-        PathEnd::Small => 0,
-        PathEnd::Points(n) => n,
-    }
+    path_end(w, rev, opened, i).unwrap_or(0)
 }
 
 // Whether record i is open.
@@ -158,8 +149,7 @@ pub fn is_open(w: &[u32], i: usize) -> bool
     requires { (BLOCK ≤ length w.now) × (i < limit.RECORDS) }
     ensures { result ≡ is_open (view w.now) i }
 {
-    let flags = store::get(w, Col::Flags, i);
-    flags % 2 == 1
+    store::get(w, Col::Flags, i) % 2 == 1
 }
 
 // The setting `reverse_solution`.
@@ -167,17 +157,7 @@ pub fn reverse_solution(w: &[u32]) -> bool
     requires { BLOCK ≤ length w.now }
     ensures { result ≡ reverse_solution (view w.now) }
 {
-    let bits = store::get(w, Col::Settings, 0);
-    bits / 2 % 2 == 1
-}
-
-fn same(a: bool, b: bool) -> bool
-    ensures { result ≡ beq a b }
-{
-    if a {
-        return b;
-    }
-    !b
+    store::get(w, Col::Settings, 0) / 2 % 2 == 1
 }
 
 // How many points the path of record i has, if the record is open or closed as asked; 0 if not, and for none.
@@ -186,8 +166,7 @@ fn size_if(w: &[u32], rev: bool, opened: bool, i: usize) -> usize
     ensures { result ≡ size_of (path_if (view w.now) opened i) }
 {
     let o = is_open(w, i);
-    let fits = same(o, opened);
-    if fits {
+    if o == opened {
         return path_size(w, rev, o, i);
     }
     0
@@ -199,12 +178,8 @@ pub fn paths_below(w: &[u32], rev: bool, opened: bool, i: usize) -> usize
     ensures { result ≡ length (paths_below i opened (view w.now)) }
 {
     let mut paths: usize = 0;
-    let mut j: usize = 0;
-    while j < i {
-        let k = size_if(w, rev, opened, j);
-        let one = path_count(k);
-        paths += one;
-        j += 1;
+    for j in 0..i {
+        paths += path_count(size_if(w, rev, opened, j));
     }
     paths
 }
@@ -244,12 +219,8 @@ fn count_bytes(w: &[u32], rev: bool, opened: bool) -> usize
 {
     let n = store::get(w, Col::Records, 0);
     let mut bytes: usize = 0;
-    let mut i: usize = 0;
-    while i < n {
-        let k = size_if(w, rev, opened, i);
-        let size = field_size(k);
-        bytes += size;
-        i += 1;
+    for i in 0..n {
+        bytes += field_size(size_if(w, rev, opened, i));
     }
     bytes
 }
@@ -287,13 +258,10 @@ fn write_paths(w: &[u32], rev: bool, opened: bool, t: &mut [u8]) -> Need
     let n = store::get(w, Col::Records, 0);
     let mut paths: usize = 0;
     let mut used: usize = 0;
-    let mut i: usize = 0;
-    while i < n {
+    for i in 0..n {
         let size = write_path(w, rev, opened, i, &mut t[used..]);
-        let one = path_count(size);
-        paths += one;
+        paths += path_count(size);
         used += size;
-        i += 1;
     }
     Need { paths, bytes: used }
 }
@@ -302,38 +270,33 @@ fn write_paths(w: &[u32], rev: bool, opened: bool, t: &mut [u8]) -> Need
 pub fn clear(t: &mut [u8])
     ensures { t.new ≡ replicate (length t.old) 0 }
 {
-    let mut i: usize = 0;
-    while i < t.len() {
-        t[i] = 0;
-        i += 1;
-    }
+    t.fill(0);
 }
 
 // All fields, and zeros past them; answers how many paths there are.
 fn fill(w: &[u32], rev: bool, t: &mut [u8]) -> Written
     requires { AllFit w.now rev t.old }
-    ensures { wrote result t.new ≡ wrote (Paths (length (closed_paths (view w.now))) (length (open_paths (view w.now)))) (padded (length t.old) (fields_of (view w.now))) }
+    ensures { wrote (Ok result) t.new ≡ wrote (ok_paths (length (closed_paths (view w.now))) (length (open_paths (view w.now)))) (padded (length t.old) (fields_of (view w.now))) }
 {
     let closed = write_paths(w, rev, false, t);
     let at = closed.bytes;
     let opened = write_paths(w, rev, true, &mut t[at..]);
     let used = at + opened.bytes;
     clear(&mut t[used..]);
-    Written::Paths {
+    Written {
         closed: closed.paths,
         open: opened.paths,
     }
 }
 
 // `build_paths64`: all paths into the tray, or a refusal, found before anything is written.
-pub fn build_paths64(w: &[u32], tray: &mut [u8]) -> Written
+pub fn build_paths64(w: &[u32], tray: &mut [u8]) -> Result<Written, Refusal>
     requires { SoundWords w.now }
     ensures { wrote result tray.new ≡ build_paths64 (view w.now) tray.old }
 {
     let rev = reverse_solution(w);
-    let small = too_small(w, rev, tray.len());
-    if small {
-        return Written::Refused(Refusal::SmallTray);
+    if too_small(w, rev, tray.len()) {
+        return Err(Refusal::SmallTray);
     }
-    fill(w, rev, tray)
+    Ok(fill(w, rev, tray))
 }

@@ -1,4 +1,4 @@
-// A ring walked round in a path's direction: its points counted, and laid into a tray, neighbouring equals dropped.
+// A ring walked round in a path's direction, along links, so that no index is counted: its points counted, and laid into a tray, neighbouring equals dropped.
 ghost use Rattle.std.specs.Prelude.{◌≡◌, ◌+◌, ◌*◌, ◌<◌, ◌≤◌, leb, length};
 ghost use Rattle.job.specs.Limits as limit;
 ghost use Rattle.store.specs.Field.{BLOCK};
@@ -41,8 +41,7 @@ fn adds(w: &[u32], b: usize, q: usize) -> usize
 {
     let p = point_at(w, q);
     let last = point_at(w, b);
-    let same = geometry::same_point(p, last);
-    if same {
+    if geometry::same_point(p, last) {
         return 0;
     }
     1

@@ -7,37 +7,37 @@ use native.Mathlib.Omega.{arith}
 use lib.Dec.{leb}
 use lib.ListN.{length, take, drop, length-append, length-drop, length-take}
 use borrow.Author.Tests.{leb-true}
+use Rattle.std.specs.Prelude.{Result, Ok}
+use Rattle.job.specs.declared.refusal.Refusal.{Refusal}
 use Rattle.store.specs.Field.{BLOCK}
 use Rattle.store.specs.Words.{view}
-use Rattle.audit.specs.declared.Verdict.{Verdict}
-use Rattle.audit.specs.declared.Verdict.TheVariants.{Passed}
 use Rattle.audit.specs.Tests.{tests_of}
 use Rattle.audit.proofs.Agreeing.{passed_sound}
+use Rattle.std.specs.Prelude.{Option, Some, None}
+use Rattle.std.specs.Option.{unwrap_or}
+use Rattle.job.specs.declared.refusal.Refusal.{Refusal}
 use Rattle.paths.specs.declared.Written.{Written}
-use Rattle.paths.specs.declared.Written.TheVariants.{Paths}
 use Rattle.paths.specs.Wrote.{wrote, build_paths64}
 use Rattle.store.specs.Good.{SoundWords}
-use Rattle.listing.specs.declared.Listed.{Listed}
-use Rattle.listing.specs.declared.Listed.TheVariants.{Bytes, NoRoom}
 use Rattle.listing.specs.Told.{Told, told, tell}
 use Rattle.listing.specs.Needs.{Listable}
 use Rattle.listing.proofs.Answers.{answer_listable}
 
-pub ready : (w : List ℕ) (v : Verdict) → BLOCK ≤ length w → v ≡ tests_of w → v ≡ Passed → SoundWords w
+pub ready : (w : List ℕ) (v : Result (Unit {0}) Refusal) → BLOCK ≤ length w → v ≡ tests_of w → v ≡ Ok tt → SoundWords w
 ready w v l e f = record { long = l; sound = passed_sound w (sym e ∙ f) }
 
-pub listable : (w : List ℕ) (v : Verdict) (r : Written) (c o : ℕ) (t u : List ℕ) → v ≡ tests_of w → v ≡ Passed → r ≡ Paths c o → wrote r u ≡ build_paths64 (view w) t → Listable c o u
-listable w v r c o t u e f g h = answer_listable (view w) c o t u (passed_sound w (sym e ∙ f)) (ap (λ (x : Written). wrote x u) (sym g) ∙ h)
+pub listable : (w : List ℕ) (v : Result (Unit {0}) Refusal) (r : Result Written Refusal) (p : Written) (t u : List ℕ) → v ≡ tests_of w → v ≡ (Ok tt) → r ≡ Ok p → wrote r u ≡ build_paths64 (view w) t → Listable p.closed p.«open» u
+listable w v r p t u e f g h = answer_listable (view w) p.closed p.«open» t u (passed_sound w (sym e ∙ f)) (ap (λ (x : Result Written Refusal). wrote x u) (sym g) ∙ h)
 
 -- the text ends within the slice
-pub within : (text t u : List ℕ) (r : Listed) (n : ℕ) → r ≡ Bytes n → told r u ≡ tell text t → n ≤ length u
+pub within : (text t u : List ℕ) (r : Option ℕ) (n : ℕ) → r ≡ Some n → told r u ≡ tell text t → n ≤ length u
 unfolding tell
 within text t u r n e f = go (leb (length text) (length t)) refl
   where
     go : (b : Bool) → leb (length text) (length t) ≡ b → n ≤ length u
     go true g =
         let h : length text ≤ length t = leb-true (length text) (length t) g in
-        let a : Bytes n ≡ Bytes (length text) = sym e ∙ ap (λ (x : Told). x.answer) f ∙ rw g in
+        let a : Some n ≡ Some (length text) = sym e ∙ ap (λ (x : Told). x.answer) f ∙ rw g in
         let z : n ≡ length text = cc in
         omega (
           arith,
@@ -47,6 +47,11 @@ within text t u r n e f = go (leb (length text) (length t)) refl
           length-drop (length text) t,
         )
     go false g =
-        let a : Bytes n ≡ NoRoom = sym e ∙ ap (λ (x : Told). x.answer) f ∙ rw g in
+        let a : Some n ≡ None = sym e ∙ ap (λ (x : Told). x.answer) f ∙ rw g in
         let z : ◌≡◌ {A = ℕ} 0 1 = cc in
         absurd (omega arith)
+
+-- so does nothing, where there is no text
+pub within_or : (text t u : List ℕ) (r : Option ℕ) → told r u ≡ tell text t → unwrap_or r 0 ≤ length u
+within_or text t u (Some n) f = within text t u (Some n) n refl f
+within_or text t u None f = omega arith

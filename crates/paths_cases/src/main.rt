@@ -7,10 +7,8 @@ ghost use Rattle.std.specs.Prelude.{◌+◌, ◌*◌, ◌≤◌, ◌<◌, ◌^�
 ghost use Rattle.job.specs.Limits as limit;
 ghost use Rattle.store.specs.Field.{BLOCK};
 
-use audit::Verdict;
 use job::Job;
-use listing::Listed;
-use paths::{TRAY, Written};
+use paths::TRAY;
 use std::io;
 use store::{Col, LENGTH};
 use streams::fill;
@@ -94,10 +92,8 @@ fn set_record(work: &mut [u32; LENGTH], rev: usize, opened: usize, n: usize)
 fn set_points(work: &mut [u32; LENGTH], s: &[u8], at: usize, n: usize)
     requires { (at + 12 * n ≤ length s.now) × (n < limit.POINTS) }
 {
-    let mut k: usize = 0;
-    while k < n {
+    for k in 0..n {
         set_point(work, s, at + 12 * k, k, n);
-        k += 1;
     }
 }
 
@@ -106,17 +102,14 @@ fn list(work: &[u32], tray: &mut [u8], out: &mut [u8]) -> usize
     requires { BLOCK ≤ length work.now }
     ensures { result ≤ length out.new }
 {
-    let Verdict::Passed = audit::tests_of(work) else {
+    let Ok(()) = audit::tests_of(work) else {
         return 0;
     };
-    let Written::Paths { closed, open } = paths::build_paths64(work, tray) else {
+    let Ok(p) = paths::build_paths64(work, tray) else {
         return 0;
     };
     let rev = paths::reverse_solution(work);
-    let Listed::Bytes(n) = listing::listing(tray, closed, open, rev, out) else {
-        return 0;
-    };
-    n
+    listing::listing(tray, p.closed, p.open, rev, out).unwrap_or(0)
 }
 
 // The ring at a place: lists its path, answers where the next ring begins.
@@ -153,13 +146,11 @@ fn run<R: Print>(
     s: &[u8],
 ) -> io::Result<()> {
     let mut at: usize = 0;
-    let mut left: usize = 65536;
-    while 0 < left {
+    for _ in 0..65536 {
         if s.len() < at + 4 {
             return Ok(());
         }
         at = one(rt, work, tray, out, s, at)?;
-        left -= 1;
     }
     Ok(())
 }

@@ -14,7 +14,7 @@ use Rattle.rings.specs.Circle.{last_of}
 use Rattle.geometry.specs.declared.Point.{Point}
 use Rattle.listing.specs.Fields.{point_in, points_in}
 use Rattle.listing.specs.Needs.{Held, Run}
-use Rattle.listing.proofs.Runs.{run_head, run_rest}
+use Rattle.listing.proofs.Runs.{run_head, run_rest, head_at, rest_at, points_at, points_over, from_none}
 use Rattle.polygons.specs.declared.PointInPolygonResult.{PointInPolygonResult}
 use Rattle.polygons.specs.declared.PointInPolygonResult.TheVariants.{IsOutside}
 use Rattle.rays.specs.declared.Way.{Way}
@@ -134,63 +134,63 @@ walk_on pt s p (q ∷ l) h =
 
 -- ---- through a list
 module _ (pt : Point) (t : List ℕ) where
-  pub walking_begins : (before at left : ℕ) (s : Tour) → Held t before → Sided pt s (point_in t before) → Run t left at → Walking pt t before at left s (walk pt s (point_in t before) (points_in t left at))
-  walking_begins before at left s h d r = record { here = h; side = d; rest = r; all = refl }
+  pub walking_begins : (before at left : ℕ) (s : Tour) → Held t before → Sided pt s (point_in t before) → Run t left at → Walking pt t before at (left - 0) s (walk pt s (point_in t before) (points_in t left at))
+  walking_begins before at left s h d r = from_none (λ (k : ℕ). Walking pt t before at k s (walk pt s (point_in t before) (points_in t left at))) left (record { here = h; side = d; rest = r; all = refl })
 
-  module _ (before at left : ℕ) (s total : Tour) (w : Walking pt t before at left s total) where
-    pub walking_head : 0 < left → Held t at
-    walking_head h = run_head t left at w.rest h
+  module _ (before at c i : ℕ) (s total : Tour) (w : Walking pt t before at (c - i) s total) where
+    pub walking_head : i < c → Held t at
+    walking_head h = head_at t c i at w.rest h
 
     pub walking_met : s.on ≡ true → s ≡ total
-    walking_met h = sym (walk_on pt s (point_in t before) (points_in t left at) h) ∙ w.all
+    walking_met h = sym (walk_on pt s (point_in t before) (points_in t (c - i) at) h) ∙ w.all
 
-    pub walking_on : (s' : Tour) → 0 < left → s' ≡ along pt s (point_in t before) (point_in t at) → Walking pt t at (at + POINT) (left - 1) s' total
+    pub walking_on : (s' : Tour) → i < c → s' ≡ along pt s (point_in t before) (point_in t at) → Walking pt t at (at + POINT) (c - (i + 1)) s' total
     walking_on s' h e =
         record {
-          here = run_head t left at w.rest h;
+          here = head_at t c i at w.rest h;
           side = subst (λ (x : Tour). Sided pt x (point_in t at)) (sym e) (along_sided pt (point_in t before) (point_in t at) s);
-          rest = run_rest t left at w.rest h;
+          rest = rest_at t c i at w.rest h;
           all =
-              ap (λ (x : Tour). walk pt x (point_in t at) (points_in t (left - 1) (at + POINT))) e
-              ∙ ap (walk pt s (point_in t before)) (sym (points_next t left at h))
+              ap (λ (x : Tour). walk pt x (point_in t at) (points_in t (c - (i + 1)) (at + POINT))) e
+              ∙ ap (walk pt s (point_in t before)) (sym (points_at t c i at h))
               ∙ w.all;
         }
 
-    pub walking_ends : left ≤ 0 → s ≡ total
-    walking_ends h = ap (walk pt s (point_in t before)) (sym (points_none t left at h)) ∙ w.all
+    pub walking_ends : c ≤ i → s ≡ total
+    walking_ends h = ap (walk pt s (point_in t before)) (sym (points_over t c i at h)) ∙ w.all
 
 -- ---- the vertices on the level
 module _ (pt : Point) (t : List ℕ) where
-  pub leveling_begins : (n at : ℕ) → Run t n at → Leveling pt t n at n (levels pt (points_in t n at))
-  leveling_begins n at r = record { rest = r; few = omega arith; all = omega arith }
+  pub leveling_begins : (n at : ℕ) → Run t n at → Leveling pt t n at (n - 0) (levels pt (points_in t n at))
+  leveling_begins n at r = from_none (λ (k : ℕ). Leveling pt t n at k (levels pt (points_in t n at))) n (record { rest = r; few = omega arith; all = omega arith })
 
-  module _ (n at left total : ℕ) (w : Leveling pt t n at left total) where
-    pub leveling_head : 0 < left → Held t at
-    leveling_head h = run_head t left at w.rest h
+  module _ (c at i total : ℕ) (w : Leveling pt t c at (c - i) total) where
+    pub leveling_head : i < c → Held t at
+    leveling_head h = head_at t c i at w.rest h
 
-    next : 0 < left → (b : Bool) → is_level pt (point_in t at) ≡ b → levels pt (points_in t left at) ≡ cond b (suc (levels pt (points_in t (left - 1) (at + POINT)))) 0
-    next h b e = ap (levels pt) (points_next t left at h) ∙ rw e
+    next : i < c → (b : Bool) → is_level pt (point_in t at) ≡ b → levels pt (points_in t (c - i) at) ≡ cond b (suc (levels pt (points_in t (c - (i + 1)) (at + POINT)))) 0
+    next h b e = ap (levels pt) (points_at t c i at h) ∙ rw e
 
-    pub leveling_found : (q : Point) (off : Bool) → 0 < left → q ≡ point_in t at → off ≡ not (is_level pt q) → off ≡ true → n - left ≡ total
-    leveling_found q off h e f g =
-        let i : is_level pt (point_in t at) ≡ false = flip (is_level pt (point_in t at)) (sym g ∙ f ∙ ap (λ (z : Point). not (is_level pt z)) e) in
-        omega (arith, next h false i, w.all)
+    pub leveling_found : (q : Point) (level : Bool) → i < c → q ≡ point_in t at → level ≡ is_level pt q → not level ≡ true → i ≡ total
+    leveling_found q level h e f g =
+        let z : is_level pt (point_in t at) ≡ false = flip (is_level pt (point_in t at)) (sym g ∙ ap not f ∙ ap (λ (x : Point). not (is_level pt x)) e) in
+        omega (arith, next h false z, w.all)
       where
         flip : (b : Bool) → true ≡ not b → b ≡ false
         flip true z = z
         flip false z = refl
 
-    pub leveling_on : (q : Point) (off : Bool) → 0 < left → q ≡ point_in t at → off ≡ not (is_level pt q) → off ≡ false → Leveling pt t n (at + POINT) (left - 1) total
-    leveling_on q off h e f g =
-        let i : is_level pt (point_in t at) ≡ true = flip (is_level pt (point_in t at)) (sym g ∙ f ∙ ap (λ (z : Point). not (is_level pt z)) e) in
-        record { rest = run_rest t left at w.rest h; few = omega (arith, w.few); all = omega (arith, next h true i, w.all, w.few) }
+    pub leveling_on : (q : Point) (level : Bool) → i < c → q ≡ point_in t at → level ≡ is_level pt q → not level ≡ false → Leveling pt t c (at + POINT) (c - (i + 1)) total
+    leveling_on q level h e f g =
+        let z : is_level pt (point_in t at) ≡ true = flip (is_level pt (point_in t at)) (sym g ∙ ap not f ∙ ap (λ (x : Point). not (is_level pt x)) e) in
+        record { rest = rest_at t c i at w.rest h; few = omega (arith, w.few); all = omega (arith, next h true z, w.all, w.few) }
       where
         flip : (b : Bool) → false ≡ not b → b ≡ true
         flip true z = refl
         flip false z = z
 
-    pub leveling_ends : left ≤ 0 → n ≡ total
-    leveling_ends h = let e : levels pt (points_in t left at) ≡ 0 = ap (levels pt) (points_none t left at h) in omega (arith, w.all, e)
+    pub leveling_ends : c ≤ i → c ≡ total
+    leveling_ends h = let e : levels pt (points_in t (c - i) at) ≡ 0 = ap (levels pt) (points_over t c i at h) in omega (arith, w.all, e)
 
 -- ---- parts of a run
 module _ (t : List ℕ) where

@@ -16,7 +16,7 @@ use paths::POINT;
 use rays::{Way, is_above, is_level, way_of};
 
 // Where a point lies in respect of a closed path.
-#[derive(Clone, Copy)]
+#[derive(Clone, Copy, PartialEq, Eq)]
 pub enum PointInPolygonResult {
     IsOn,
     IsInside,
@@ -31,34 +31,21 @@ struct Tour {
     odd: bool,
 }
 
-// Whether q is off the level of pt.
-fn is_off(pt: Point, q: Point) -> bool
-    ensures { result ≡ not (is_level pt q) }
-{
-    let level = is_level(pt, q);
-    !level
-}
-
 // The tour after an edge that goes so.
 fn after(s: Tour, way: Way) -> Tour
     ensures { result ≡ after s way }
 {
     match way {
-        Way::Touches => Tour {
-            on: true,
-            above: s.above,
-            odd: s.odd,
-        },
+        Way::Touches => Tour { on: true, ..s },
         Way::Stays => s,
         Way::Passes => Tour {
-            on: s.on,
             above: !s.above,
-            odd: s.odd,
+            ..s
         },
         Way::Crosses => Tour {
-            on: s.on,
             above: !s.above,
             odd: !s.odd,
+            ..s
         },
     }
 }
@@ -91,15 +78,13 @@ fn walk(pt: Point, t: &[u8], prev: usize, from: usize, n: usize, s: Tour) -> Tou
     let mut tour = s;
     let mut before = prev;
     let mut at = from;
-    let mut left = n;
-    while 0 < left {
+    for i in 0..n {
         if tour.on {
             return tour;
         }
         tour = along(pt, t, before, at, tour);
         before = at;
         at += POINT;
-        left -= 1;
     }
     tour
 }
@@ -110,15 +95,11 @@ fn levels(pt: Point, t: &[u8], from: usize, n: usize) -> usize
     ensures { result ≡ levels pt (points_in t.now n from) }
 {
     let mut at = from;
-    let mut left = n;
-    while 0 < left {
-        let q = point_in(t, at);
-        let off = is_off(pt, q);
-        if off {
-            return n - left;
+    for i in 0..n {
+        if !is_level(pt, point_in(t, at)) {
+            return i;
         }
         at += POINT;
-        left -= 1;
     }
     n
 }

@@ -38,12 +38,10 @@ fn lay_column(first: &mut [u32], second: &[u32], c: Col, m: usize, n: usize, by:
     requires { (layout.BLOCK ≤ length first.old) × (layout.BLOCK ≤ length second.now) × (m + n ≤ size (column_of c)) × (m + n ≤ limit.POINTS) × (by + of ≤ limit.POINTS) }
     ensures { first.new ≡ lay_column (column_of c) (raise by of) m n second.now first.old }
 {
-    let mut i: usize = 0;
-    while i < n {
+    for i in 0..n {
         let v = get(second, c, i);
         let u = raise(by, of, v);
         set(first, c, m + i, u);
-        i += 1;
     }
 }
 
@@ -114,11 +112,9 @@ fn lay_boxes(first: &mut [u32], second: &[u32], m: usize, n: usize)
     requires { (layout.BLOCK ≤ length first.old) × (layout.BLOCK ≤ length second.now) × (m + n ≤ limit.RECORDS) }
     ensures { first.new ≡ lay_sides m n second.now first.old }
 {
-    let mut i: usize = 0;
-    while i < n {
+    for i in 0..n {
         let b = sides_of(second, i);
         set_sides(first, m + i, b);
-        i += 1;
     }
 }
 

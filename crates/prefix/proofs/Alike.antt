@@ -8,17 +8,16 @@ use native.Mathlib.Decide.{dec_lt}
 use lib.Dec.{ltb, eqb}
 use lib.ListN.{length, take, drop, length-drop}
 use borrow.Author.Tests.{eqb-false, ltb-true, ltb-false}
+use Rattle.std.proofs.Common.{Result, Ok, Err}
 use Rattle.job.specs.declared.Job.{Job}
 use Rattle.job.specs.declared.refusal.Refusal.TheVariants.{Strange}
 use Rattle.job.specs.declared.field.Kind.TheVariants as kind
 use Rattle.job.specs.declared.field.Field.{Field}
 use Rattle.job.specs.declared.field.Field.TheVariants.{Settings, Point, Record, Segment, Join}
-use Rattle.job.specs.declared.field.Reading.{Reading}
-use Rattle.job.specs.declared.field.Reading.TheVariants as reading
+use Rattle.job.specs.declared.refusal.Refusal.{Refusal}
 use Rattle.job.specs.Field.{field_of}
 use Rattle.job.specs.Job.{fresh, past, Within}
 use Rattle.job.proofs.Accepted.{accepted, within_fresh}
-use Rattle.reading.specs.declared.fill.Outcome.TheVariants.{Ok, Refused}
 use Rattle.reading.specs.Fill.{ReadEnd, end, placed, taken, turn_of, follow, run, fill_of}
 use Rattle.reading.proofs.Going.{After, moves}
 use Rattle.prefix.specs.Decides.{whole_of, LONGEST, DECIDES}
@@ -29,12 +28,12 @@ use Rattle.prefix.proofs.Spent.{Spent, first_some, spent_fresh, spent_past, not_
 -- what a turn leaves, if it is no refusal, is counted with its bytes
 abbrev Counted : ReadEnd → Type 0
 Counted (end (Ok n) w ss js) = Spent n
-Counted (end (Refused x) w ss js) = Unit {0}
+Counted (end (Err x) w ss js) = Unit {0}
 
 -- and lies in the job
 abbrev Inside : List ℕ → ReadEnd → Type 0
 Inside bytes (end (Ok n) w ss js) = n.at ≤ length bytes
-Inside bytes (end (Refused x) w ss js) = Unit {0}
+Inside bytes (end (Err x) w ss js) = Unit {0}
 
 module _ (j : Job) (w ss js : List ℕ) (i : Spent j) where
   placed_counted : (f : Field) (n : ℕ) → Spent (past f n j) → Counted (placed f n j w ss js)
@@ -44,9 +43,9 @@ module _ (j : Job) (w ss js : List ℕ) (i : Spent j) where
   placed_counted (Segment p) n h = h
   placed_counted (Join a b) n h = h
 
-  taken_counted : (part : List ℕ) (r : Reading) → field_of j part ≡ r → Counted (taken r j w ss js)
-  taken_counted part (reading.Read f n) e = placed_counted f n (spent_past j part f n i e)
-  taken_counted part (reading.Refused x) e = tt
+  taken_counted : (part : List ℕ) (r : Result (Field × ℕ) Refusal) → field_of j part ≡ r → Counted (taken r j w ss js)
+  taken_counted part (Ok (f, n)) e = placed_counted f n (spent_past j part f n i e)
+  taken_counted part (Err x) e = tt
 
   turn_counted : (bytes : List ℕ) → Counted (turn_of bytes j w ss js)
   unfolding turn_of
@@ -62,7 +61,7 @@ module _ (a b : List ℕ) (e : take DECIDES a ≡ take DECIDES b) where
 
     turn_same : (w ss js : List ℕ) → turn_of a j w ss js ≡ turn_of b j w ss js
     unfolding turn_of
-    turn_same w ss js = ap (λ (r : Reading). taken r j w ss js) (field_same (drop j.at a) (drop j.at b) part_same j)
+    turn_same w ss js = ap (λ (r : Result (Field × ℕ) Refusal). taken r j w ss js) (field_same (drop j.at a) (drop j.at b) part_same j)
 
     end_same : ltb j.at (length a) ≡ ltb j.at (length b)
     end_same = let h = not_past j i l in long_same DECIDES a b e j.at (omega arith)
@@ -81,7 +80,7 @@ module _ (a b : List ℕ) (e : take DECIDES a ≡ take DECIDES b) where
           let y = ltb-true j.at (length a) (end_same j i l ∙ h) in
           let z = d.at in
           again n u us ls c (d.within l) (omega arith) (omega arith) (omega arith) (omega arith)
-      by true h (end (Refused x) u us ls) d c again = refl
+      by true h (end (Err x) u us ls) d c again = refl
       by false h T d c again = refl
 
   pub fill_same : (w ss js : List ℕ) → fill_of a w ss js ≡ fill_of b w ss js
@@ -105,9 +104,9 @@ inside bytes j w ss js l h = go (field_of j (drop j.at bytes)) refl
     places (Segment p) n h = h
     places (Join a b) n h = h
 
-    go : (r : Reading) → field_of j (drop j.at bytes) ≡ r → Inside bytes (taken r j w ss js)
-    go (reading.Read f n) e = places f n (let a = accepted j (drop j.at bytes) f n e in omega (arith, a.here, length-drop j.at bytes))
-    go (reading.Refused x) e = tt
+    go : (r : Result (Field × ℕ) Refusal) → field_of j (drop j.at bytes) ≡ r → Inside bytes (taken r j w ss js)
+    go (Ok (f, n)) e = places f n (let a = accepted j (drop j.at bytes) f n e in omega (arith, a.here, length-drop j.at bytes))
+    go (Err x) e = tt
 
 module _ (bytes : List ℕ) (n : Job) (v ts ks : List ℕ) where
   run_whole : (k : ℕ) (j : Job) (w ss js : List ℕ) → 0 < length bytes → Spent j → Within j → j.at ≤ length bytes → run k bytes j w ss js ≡ end (Ok n) v ts ks → ReadWhole bytes n
@@ -119,7 +118,7 @@ module _ (bytes : List ℕ) (n : Job) (v ts ks : List ℕ) where
       by : (t : Bool) → ltb j.at (length bytes) ≡ t → (T : ReadEnd) → After j T → Counted T → Inside bytes T → cond t (follow (run k bytes) T) (end (Ok j) w ss js) ≡ end (Ok n) v ts ks
           → ((m : Job) (u us ls : List ℕ) → Spent m → Within m → m.at ≤ length bytes → run k bytes m u us ls ≡ end (Ok n) v ts ks → ReadWhole bytes n) → ReadWhole bytes n
       by true h (end (Ok m) u us ls) d c q f again = again m u us ls c (d.within l) q f
-      by true h (end (Refused x) u us ls) d c q f again = absurd (let z : ◌≡◌ {A = ℕ} 0 1 = cc in omega arith)
+      by true h (end (Err x) u us ls) d c q f again = absurd (let z : ◌≡◌ {A = ℕ} 0 1 = cc in omega arith)
       by false h T d c q f again =
           let x = ltb-false j.at (length bytes) h in
           let y : 0 < j.last = go (dec_lt 0 j.last) in
@@ -134,7 +133,7 @@ module _ (bytes : List ℕ) (n : Job) (v ts ks : List ℕ) where
   unfolding fill_of
   fill_whole w ss js e = by (eqb (length bytes) 0) refl e
     where
-      by : (t : Bool) → eqb (length bytes) 0 ≡ t → cond t (end (Refused Strange) w ss js) (run (suc (length bytes)) bytes fresh w ss js) ≡ end (Ok n) v ts ks → ReadWhole bytes n
+      by : (t : Bool) → eqb (length bytes) 0 ≡ t → cond t (end (Err Strange) w ss js) (run (suc (length bytes)) bytes fresh w ss js) ≡ end (Ok n) v ts ks → ReadWhole bytes n
       by true h d = absurd (let z : ◌≡◌ {A = ℕ} 0 1 = cc in omega arith)
       by false h d = let o = eqb-false (length bytes) 0 h in run_whole (suc (length bytes)) fresh w ss js (omega arith) spent_fresh within_fresh (omega arith) d
 

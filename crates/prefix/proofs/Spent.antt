@@ -7,17 +7,17 @@ use Prim.Native.Nat.{ℕ, zero, suc, ◌+◌, ◌*◌, ◌≤◌, ◌<◌}
 use native.Mathlib.Omega.{arith}
 use lib.Dec.{ltb, eqb}
 use borrow.Author.Tests.{eqb-false, ltb-false}
+use Rattle.std.proofs.Common.{Ok, Err}
 use Rattle.job.specs.declared.Job.{Job}
 use Rattle.job.specs.declared.refusal.Refusal.TheVariants.{Torn, Strange, Crowded}
 use Rattle.job.specs.declared.field.Kind.{Kind}
 use Rattle.job.specs.declared.field.Kind.TheVariants as kind
 use Rattle.job.specs.declared.field.Field.{Field}
 use Rattle.job.specs.declared.field.Field.TheVariants.{Settings}
-use Rattle.job.specs.declared.field.Reading.TheVariants.{Read, Refused}
 use Rattle.job.specs.Field.{tag_of, value_of, kind_of, size_of, field_in, torn_header, strange_tag, torn_value, strange_bits, crowded, body_of, field_of}
 use Rattle.job.specs.Job.{fresh, past, Within}
 use Rattle.job.proofs.Fields.{or_right}
-use Rattle.job.proofs.Accepted.{passed}
+use Rattle.job.proofs.Accepted.{read_parts, passed}
 use Rattle.prefix.specs.Decides.{whole_of, LONGEST}
 
 -- the settings' bytes, once a tag was seen
@@ -79,14 +79,14 @@ others_later last tag h d =
     go false e c = let z = eqb-false last 0 (both (eqb last 0) true c refl) in omega arith
 
 -- a field of its kind's size
-body_read : (k : Kind) (j : Job) (s : List ℕ) (f : Field) (n : ℕ) → body_of k j s ≡ Read f n → Read (field_in k (value_of s)) (whole_of k) ≡ Read f n
+body_read : (k : Kind) (j : Job) (s : List ℕ) (f : Field) (n : ℕ) → body_of k j s ≡ Ok (f, n) → (field_in k (value_of s) ≡ f) × (whole_of k ≡ n)
 unfolding body_of
 body_read k j s f n e =
     let g = field_in k (value_of s) in
-    let full = cond (crowded k j) (Refused Crowded) (Read g (3 + size_of k)) in
-    let a = passed (torn_value k s) Torn (cond (strange_bits g) (Refused Strange) full) f n e in
+    let full = cond (crowded k j) (Err Crowded) (Ok (g, 3 + size_of k)) in
+    let a = passed (torn_value k s) Torn (cond (strange_bits g) (Err Strange) full) f n e in
     let b = passed (strange_bits g) Strange full f n a.1 in
-    (passed (crowded k j) Crowded (Read g (3 + size_of k)) f n b.1).1
+    read_parts g f (3 + size_of k) n (passed (crowded k j) Crowded (Ok (g, 3 + size_of k)) f n b.1).1
 
 module _ (j : Job) (v : List ℕ) (i : Spent j) where
   counted : (k : Kind) → (k ≡ kind.Settings → j.last ≡ 0) → (k ≢ kind.Settings → 0 < j.last) → Spent (past (field_in k v) (whole_of k) j)
@@ -97,14 +97,12 @@ module _ (j : Job) (v : List ℕ) (i : Spent j) where
   counted kind.Join h l = record { at = (let a = first_some j.last (l (λ e. let z : ◌≡◌ {A = ℕ} 0 1 = cc in omega arith)) in omega (arith, i.at)); none_yet = λ e. absurd (omega arith) }
 
 -- a field that is read is counted with its bytes
-pub spent_past : (j : Job) (s : List ℕ) (f : Field) (n : ℕ) → Spent j → field_of j s ≡ Read f n → Spent (past f n j)
+pub spent_past : (j : Job) (s : List ℕ) (f : Field) (n : ℕ) → Spent j → field_of j s ≡ Ok (f, n) → Spent (past f n j)
 unfolding field_of
 spent_past j s f n i e =
     let a = passed (torn_header s) Torn _ f n e in
     let b = passed (strange_tag j.last (tag_of s)) Strange _ f n a.1 in
     let k = kind_of (tag_of s) in
     let c = body_read k j s f n b.1 in
-    let d : field_in k (value_of s) ≡ f = cc (c) in
-    let m : whole_of k ≡ n = cc (c) in
     let g = counted j (value_of s) i k (λ h. settings_first j.last (tag_of s) b.0 h) (λ h. others_later j.last (tag_of s) b.0 h) in
-    rw (← d, ← m) g
+    rw (← c.0, ← c.1) g

@@ -10,16 +10,16 @@ use borrow.Author.Tests.{lt-ltb, le-ltb}
 use mir.Syntax.{w32}
 use mir.Val.{to_z, of_z}
 use mir.Facts.{to_z-of_z}
+use Rattle.std.proofs.Common.{Some, None}
 use Rattle.job.specs.Limits as limit
 use Rattle.geometry.specs.declared.Point.{Point}
 use Rattle.geometry.specs.Table.{InTable}
-use Rattle.primitives.specs.declared.Room.TheVariants.{At, Full}
 use Rattle.store.specs.Field.{pt, rc, ct, X, Y, Z, REC, FLAGS, OWNER, FIRST, MARK, PRESENT, START, CUT, POINTS}
-use Rattle.store.specs.Words.{view, cell, put, on_words}
+use Rattle.store.specs.Words.{cell, put, on_words}
 use Rattle.store.specs.Named.{points_of, next_of, prev_of}
 use Rattle.store.specs.Value.{word_of}
 use Rattle.primitives.proofs.Coordinates.{fits}
-use Rattle.primitives.specs.Primitive.{taken, point_writes, link_writes, unlink_writes, start_writes, after_writes, before_writes, duplicate_op}
+use Rattle.primitives.specs.Primitive.{taken, point_writes, link_writes, unlink_writes, start_writes, duplicate_op}
 use Rattle.primitives.specs.Beside.{disposed, dispose_out_pt}
 
 pub took_point : (w w₁ w₂ w₃ w₄ w₅ : List ℕ) (k vx vy vz r : ℕ) → w₁ ≡ put (ct POINTS) w 0 (k + 1) → w₂ ≡ put (pt X) w₁ k vx → w₃ ≡ put (pt Y) w₂ k vy → w₄ ≡ put (pt Z) w₃ k vz → w₅ ≡ put (pt REC) w₄ k r
@@ -38,33 +38,28 @@ new_point w w₁ k p r vx vy h ex ey e =
     let dy : vy ≡ word_of p.y = ey ∙ ap word_of (to_z-of_z (fits p.y h.y)) in
     rw (← dx, ← dy) e
 
-module _ (w w₁ w₂ : List ℕ) (k op vx vy vz r : ℕ) (ek : k ≡ points_of w) (ex : vx ≡ cell (pt X) w op) (ey : vy ≡ cell (pt Y) w op) (ez : vz ≡ cell (pt Z) w op) (er : r ≡ cell (pt REC) w op) (e₁ : w₁ ≡ on_words w (point_writes k vx vy vz r)) where
-  pub copied_after : (n : ℕ) → n ≡ next_of w op → w₂ ≡ on_words w₁ (link_writes op k n) → w₂ ≡ on_words w (after_writes (view w) op)
-  copied_after n en e₂ = rw (e₂, e₁, ex, ey, ez, er, en, ek)
-
-  pub copied_before : (p : ℕ) → p ≡ prev_of w op → w₂ ≡ on_words w₁ (link_writes p k op) → w₂ ≡ on_words w (before_writes (view w) op)
-  copied_before p ep e₂ = rw (e₂, e₁, ex, ey, ez, er, ep, ek)
-
 module _ (w : List ℕ) (k : ℕ) (ek : k ≡ points_of w) where
-  module _ (l : k < limit.POINTS) where
-    room : ltb (points_of w) limit.POINTS ≡ true
-    room = lt-ltb (points_of w) limit.POINTS (omega arith)
+  room : k < limit.POINTS → ltb (points_of w) limit.POINTS ≡ true
+  room l = lt-ltb (points_of w) limit.POINTS (omega arith)
 
-    pub doubled_after : (w₁ : List ℕ) (op : ℕ) (b : Bool) → b ≡ true → w₁ ≡ on_words w (after_writes (view w) op) → taken (At k) w₁ ≡ duplicate_op w op b
+  none_left : limit.POINTS ≤ k → ltb (points_of w) limit.POINTS ≡ false
+  none_left l = le-ltb (points_of w) limit.POINTS (omega arith)
+
+  pub no_double : limit.POINTS ≤ k → (op : ℕ) (b : Bool) → taken None w ≡ duplicate_op w op b
+  unfolding duplicate_op
+  no_double l op b = rw (none_left l)
+
+  module _
+      (l : k < limit.POINTS) (w₁ w₂ : List ℕ) (op vx vy vz r : ℕ) (b : Bool) (q : ℕ × ℕ)
+      (ex : vx ≡ cell (pt X) w op) (ey : vy ≡ cell (pt Y) w op) (ez : vz ≡ cell (pt Z) w op) (er : r ≡ cell (pt REC) w op)
+      (e₁ : w₁ ≡ on_words w (point_writes k vx vy vz r)) (e₂ : w₂ ≡ on_words w₁ (link_writes q.0 k q.1)) where
+    pub doubled_after : (n : ℕ) → b ≡ true → n ≡ next_of w op → q ≡ (op, n) → taken (Some k) w₂ ≡ duplicate_op w op b
     unfolding duplicate_op
-    doubled_after w₁ op b h e = rw (room, h, e, ek)
+    doubled_after n h en eq = rw (room l, h, e₂, e₁, eq, en, ex, ey, ez, er, ek)
 
-    pub doubled_before : (w₁ : List ℕ) (op : ℕ) (b : Bool) → b ≡ false → w₁ ≡ on_words w (before_writes (view w) op) → taken (At k) w₁ ≡ duplicate_op w op b
+    pub doubled_before : (p : ℕ) → b ≡ false → p ≡ prev_of w op → q ≡ (p, op) → taken (Some k) w₂ ≡ duplicate_op w op b
     unfolding duplicate_op
-    doubled_before w₁ op b h e = rw (room, h, e, ek)
-
-  module _ (l : limit.POINTS ≤ k) where
-    none_left : ltb (points_of w) limit.POINTS ≡ false
-    none_left = le-ltb (points_of w) limit.POINTS (omega arith)
-
-    pub no_double : (op : ℕ) (b : Bool) → taken Full w ≡ duplicate_op w op b
-    unfolding duplicate_op
-    no_double op b = rw none_left
+    doubled_before p h ep eq = rw (room l, h, e₂, e₁, eq, ep, ex, ey, ez, er, ek)
 
 pub went_out : (w w₁ : List ℕ) (op n p : ℕ) → n ≡ next_of w op → p ≡ prev_of w op → w₁ ≡ on_words w (unlink_writes p n) → disposed n w₁ ≡ dispose_out_pt w op
 unfolding dispose_out_pt

@@ -1,9 +1,7 @@
 -- The Rust's primitives on points and records: what each writes, in the program's order, every value read before the first write.
-use Rattle.std.specs.Prelude.{ℕ, suc, Bool, cond, List, [], ◌∷◌, ◌++◌, ltb}
+use Rattle.std.specs.Prelude.{ℕ, suc, Bool, cond, List, [], ◌∷◌, ◌++◌, ltb, Option, Some, None}
 use Rattle.job.specs.Limits as limit
 use Rattle.rings.specs.Progress.{validity}
-use Rattle.primitives.specs.declared.Room.{Room}
-use Rattle.primitives.specs.declared.Room.TheVariants.{At, Full}
 use Rattle.store.specs.Field.{pt, rc, ct, X, Y, Z, NEXT, PREV, REC, FLAGS, OWNER, FIRST, MARK, PRESENT, START, CUT, POINTS}
 use Rattle.store.specs.Words.{Store, view, Write, write, on_words}
 use Rattle.store.specs.Named.{points_of}
@@ -43,11 +41,11 @@ before_writes s op = copy_writes s op ++ link_writes (s (pt PREV) op) (pts s) op
 
 -- the place that was taken, or that there is no room, and the words left
 pub data Taken : Type 0 where
-  taken : Room → List ℕ → Taken
+  taken : Option ℕ → List ℕ → Taken
 
 -- where there is room for a point; else nothing changes
 abbrev pub if_point : List ℕ → List ℕ → Taken
-if_point w w' = cond (ltb (points_of w) limit.POINTS) (taken (At (points_of w)) w') (taken Full w)
+if_point w w' = cond (ltb (points_of w) limit.POINTS) (taken (Some (points_of w)) w') (taken None w)
 
 -- `duplicate_op`
 unfoldable pub duplicate_op : List ℕ → ℕ → Bool → Taken

@@ -8,21 +8,13 @@ ghost use Rattle.exact.specs.Num.{Within};
 ghost use Rattle.geometry.specs.Table.{InTable};
 ghost use Rattle.store.specs.Field.{pt, X, Y, BLOCK};
 ghost use Rattle.store.specs.Words.{view, on_words};
-ghost use Rattle.store.specs.Named.{points_of};
 ghost use Rattle.store.specs.Value.{point_of, word_of};
-ghost use Rattle.primitives.specs.Primitive.{taken, point_writes, link_writes, unlink_writes, start_writes, after_writes, before_writes, duplicate_op};
+ghost use Rattle.primitives.specs.Primitive.{taken, point_writes, link_writes, unlink_writes, start_writes, duplicate_op};
 ghost use Rattle.primitives.specs.Beside.{disposed, dispose_out_pt, dispose_out_pts, Beside};
 
 use geometry::Point;
 use job::Job;
 use store::{Col, NONE, get, set};
-
-// The place that was taken, or that there is none.
-#[derive(Clone, Copy)]
-pub enum Room {
-    At(usize),
-    Full,
-}
 
 // What a coordinate's word is raised by.
 const RAISE: i32 = Job::COORDINATE as i32;
@@ -42,12 +34,11 @@ pub fn point(w: &[u32], k: usize) -> Point
     requires { (BLOCK ≤ length w.now) × (k < limit.POINTS) × (view w.now (pt X) k ≤ 2 * limit.COORDINATE) × (view w.now (pt Y) k ≤ 2 * limit.COORDINATE) }
     ensures { result ≡ point_of w.now k }
 {
-    let vx = get(w, Col::X, k);
-    let vy = get(w, Col::Y, k);
-    let x = lower(vx);
-    let y = lower(vy);
-    let z = get(w, Col::Z, k) as u32;
-    Point { x, y, z }
+    Point {
+        x: lower(get(w, Col::X, k)),
+        y: lower(get(w, Col::Y, k)),
+        z: get(w, Col::Z, k) as u32,
+    }
 }
 
 // ---- writes
@@ -116,54 +107,30 @@ pub fn new_out_pt(w: &mut [u32], k: usize, p: Point, r: usize)
     requires fact_4 { r < 2 ^ 32 }
     ensures { w.new ≡ on_words w.old (point_writes k (word_of p.x) (word_of p.y) p.z r) }
 {
-    let vx = raise(p.x);
-    let vy = raise(p.y);
-    take_point(w, k, vx, vy, p.z as usize, r);
+    take_point(w, k, raise(p.x), raise(p.y), p.z as usize, r);
 }
 
-// A copy of op at place k, after op.
-fn copy_after(w: &mut [u32], k: usize, op: usize)
-    requires { Beside w.old op × (k ≡ points_of w.old) × (k < limit.POINTS) }
-    ensures { w.new ≡ on_words w.old (after_writes (view w.old) op) }
-{
-    let vx = get(w, Col::X, op);
-    let vy = get(w, Col::Y, op);
-    let vz = get(w, Col::Z, op);
-    let r = get(w, Col::Rec, op);
-    let n = get(w, Col::Next, op);
-    take_point(w, k, vx, vy, vz, r);
-    link_between(w, op, k, n);
-}
-
-// A copy of op at place k, before op.
-fn copy_before(w: &mut [u32], k: usize, op: usize)
-    requires { Beside w.old op × (k ≡ points_of w.old) × (k < limit.POINTS) }
-    ensures { w.new ≡ on_words w.old (before_writes (view w.old) op) }
-{
-    let vx = get(w, Col::X, op);
-    let vy = get(w, Col::Y, op);
-    let vz = get(w, Col::Z, op);
-    let r = get(w, Col::Rec, op);
-    let p = get(w, Col::Prev, op);
-    take_point(w, k, vx, vy, vz, r);
-    link_between(w, p, k, op);
-}
-
-// A copy of op, after it or before it.
-pub fn duplicate_op(w: &mut [u32], op: usize, after: bool) -> Room
+// A copy of op, after it or before it, at the place that it names, where there is room for a point.
+pub fn duplicate_op(w: &mut [u32], op: usize, after: bool) -> Option<usize>
     requires { Beside w.old op }
     ensures { taken result w.new ≡ duplicate_op w.old op after }
 {
     let k = get(w, Col::Points, 0);
-    if k < Job::POINTS {
-        if after {
-            copy_after(w, k, op);
-            return Room::At(k);
-        }
-        copy_before(w, k, op);
-        return Room::At(k);
+    if k >= Job::POINTS {
+        return None;
     }
-    Room::Full
+    let (p, n) = if after {
+        (op, get(w, Col::Next, op))
+    } else {
+        (get(w, Col::Prev, op), op)
+    };
+    let vx = get(w, Col::X, op);
+    let vy = get(w, Col::Y, op);
+    let vz = get(w, Col::Z, op);
+    let r = get(w, Col::Rec, op);
+    take_point(w, k, vx, vy, vz, r);
+    link_between(w, p, k, n);
+    Some(k)
 }
 
 // Point op goes out of its ring; its next.

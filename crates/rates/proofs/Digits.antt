@@ -10,7 +10,7 @@ use native.Mathlib.Decide.{dec_lt}
 use lib.Dec.{leb}
 use lib.ListN.{length, get_or, drop}
 use lib.Seq.{drop-cons}
-use borrow.Author.Tests.{le-leb, lt-leb}
+use borrow.Author.Tests.{le-leb, lt-leb, not-true, not-false}
 use Rattle.rates.specs.declared.Rate.{Rate}
 use Rattle.rates.specs.declared.Rate.TheVariants.{NoRate, Cents, Bad}
 use Rattle.rates.specs.Rate.{LARGEST, is_digit, all_digits, number_from, in_range, rate_in, asked, arguments, rate_of}
@@ -35,17 +35,6 @@ none_left [] zero h = refl
 none_left [] (suc i) h = refl
 none_left (b ∷ s) zero h = absurd (omega arith)
 none_left (b ∷ s) (suc i) h = none_left s i (omega arith)
-
-not_true : (d : Bool) → not d ≡ true → d ≡ false
-not_true true e = let z : ◌≡◌ {A = ℕ} 0 1 = cc in absurd (omega arith)
-not_true false e = refl
-
-pub a_digit : (b : ℕ) (x : Bool) → x ≡ not (is_digit b) → x ≡ false → is_digit b ≡ true
-a_digit b x e h = go (is_digit b) (sym e ∙ h)
-  where
-    go : (d : Bool) → not d ≡ false → d ≡ true
-    go true f = refl
-    go false f = let z : ◌≡◌ {A = ℕ} 0 1 = cc in absurd (omega arith)
 
 -- an empty argument makes 0, which is outside the range too
 pub by_digits : (s : List ℕ) → rate_in s ≡ cond (all_digits s) (in_range (number_from 0 s)) Bad
@@ -113,19 +102,19 @@ rate_of_all a (b ∷ more) = refl
 
 module _ (s : List ℕ) (i v : ℕ) (r : DigitsTo s i v) where
   module _ (l : i < length s) where
-    pub no_digit : (x : Bool) → x ≡ not (is_digit (get_or s i 0)) → x ≡ true → Bad ≡ rate_in s
+    pub no_digit : (x : Bool) → x ≡ is_digit (get_or s i 0) → not x ≡ true → Bad ≡ rate_in s
     no_digit x e h =
-        let f : all_digits s ≡ false = r.digits ∙ ap all_digits (split_at s i l) ∙ ap (λ (d : Bool). d && all_digits (drop (i + 1) s)) (not_true (is_digit (get_or s i 0)) (sym e ∙ h)) in
+        let f : all_digits s ≡ false = r.digits ∙ ap all_digits (split_at s i l) ∙ ap (λ (d : Bool). d && all_digits (drop (i + 1) s)) (sym e ∙ not-true x h) in
         sym (by_digits s ∙ ap (λ (x : Bool). cond x (in_range (number_from 0 s)) Bad) f)
 
-    pub one_more : (x : Bool) (w : ℕ) → x ≡ not (is_digit (get_or s i 0)) → x ≡ false → w ≡ min (LARGEST + 1) (10 * v + (get_or s i 0 - 48)) → DigitsTo s (i + 1) w
+    pub one_more : (x : Bool) (w : ℕ) → x ≡ is_digit (get_or s i 0) → not x ≡ false → w ≡ min (LARGEST + 1) (10 * v + (get_or s i 0 - 48)) → DigitsTo s (i + 1) w
     one_more x w e h g =
         record {
           low = omega (arith, g);
           so_far = 10 * r.so_far + (get_or s i 0 - 48);
           is = omega (arith, g, r.is);
           number = r.number ∙ ap (number_from r.so_far) (split_at s i l);
-          digits = r.digits ∙ ap all_digits (split_at s i l) ∙ ap (λ (d : Bool). d && all_digits (drop (i + 1) s)) (a_digit (get_or s i 0) x e h);
+          digits = r.digits ∙ ap all_digits (split_at s i l) ∙ ap (λ (d : Bool). d && all_digits (drop (i + 1) s)) (sym e ∙ not-false x h);
         }
 
   module _ (l : length s ≤ i) where

@@ -21,7 +21,7 @@ fn divisor_agrees()
     ensures { DIVISOR ≡ charges.DIVISOR }
 {}
 
-// What the arguments say: none, a rate in cents, or a bad one.
+// What the arguments say: none, a rate in cents, or a bad one; callers hand over any of the three, so it is no Option or Result.
 #[derive(Clone, Copy)]
 pub enum Rate {
     NoRate,
@@ -29,45 +29,24 @@ pub enum Rate {
     Bad,
 }
 
-fn is_other(b: u8) -> bool
-    ensures { result ≡ not (is_digit b) }
-{
-    !((48 <= b) & (b <= 57))
-}
-
-fn wide(b: u8) -> u64
-    ensures { result ≡ b }
-{
-    b as u64
-}
-
 // A number with one digit more; one that has passed the largest rate stays past it.
 fn with_digit(v: u64, b: u8) -> u64
     requires { (v ≤ rates.LARGEST + 1) × (is_digit b ≡ true) }
     ensures { result ≡ min (rates.LARGEST + 1) (10 * v + (b - 48)) }
 {
-    let n = 10 * v + (wide(b) - 48);
-    if LARGEST < n {
-        return LARGEST + 1;
-    }
-    n
+    (10 * v + u64::from(b - b'0')).min(LARGEST + 1)
 }
 
 // The rate that one argument says.
 pub fn rate_in(s: &[u8]) -> Rate
     ensures { result ≡ rate_in s.now }
 {
-    let n = s.len();
     let mut v: u64 = 0;
-    let mut i: usize = 0;
-    while i < n {
-        let b = s[i];
-        let other = is_other(b);
-        if other {
+    for &b in s {
+        if !b.is_ascii_digit() {
             return Rate::Bad;
         }
         v = with_digit(v, b);
-        i += 1;
     }
     in_range(v)
 }
@@ -76,13 +55,10 @@ pub fn rate_in(s: &[u8]) -> Rate
 fn in_range(n: u64) -> Rate
     ensures { result ≡ in_range n }
 {
-    if n < 1 {
-        return Rate::Bad;
+    match n {
+        1..=LARGEST => Rate::Cents(n),
+        _ => Rate::Bad,
     }
-    if LARGEST < n {
-        return Rate::Bad;
-    }
-    Rate::Cents(n)
 }
 
 // A rate that a caller hands over.
@@ -90,9 +66,8 @@ pub fn asked(rate: Rate) -> Rate
     ensures { result ≡ asked rate }
 {
     match rate {
-        Rate::NoRate => Rate::NoRate,
         Rate::Cents(n) => in_range(n),
-        Rate::Bad => Rate::Bad,
+        other => other,
     }
 }
 
@@ -100,13 +75,11 @@ pub fn asked(rate: Rate) -> Rate
 pub fn rate_of(words: usize, first: &[u8]) -> Rate
     ensures { result ≡ rate_of (arguments words first.now) }
 {
-    if words < 2 {
-        return Rate::NoRate;
+    match words {
+        0 | 1 => Rate::NoRate,
+        2 => rate_in(first),
+        _ => Rate::Bad,
     }
-    if words == 2 {
-        return rate_in(first);
-    }
-    Rate::Bad
 }
 
 // A charge in cents, and what is left of the division.

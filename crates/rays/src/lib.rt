@@ -2,7 +2,6 @@
 #![tactic(auto)]
 
 ghost use Rattle.std.specs.Prelude.{◌≡◌};
-ghost use Rattle.std.specs.Bool.{beq};
 ghost use Rattle.std.specs.Int.Signed.{lt_z};
 ghost use Rattle.exact.specs.Equal.{eq_z};
 ghost use Rattle.geometry.specs.Plane.{cross_product_sign};
@@ -21,16 +20,6 @@ pub enum Way {
     Crosses,
 }
 
-// Whether both hold, or neither.
-fn same(a: bool, b: bool) -> bool
-    ensures { result ≡ beq a b }
-{
-    if a {
-        return b;
-    }
-    !b
-}
-
 // Whether q is on the level of pt.
 pub fn is_level(pt: Point, q: Point) -> bool
     ensures { result ≡ is_level pt q }
@@ -45,7 +34,7 @@ pub fn is_above(pt: Point, q: Point) -> bool
     q.y < pt.y
 }
 
-// Whether q has the x of pt.
+// Whether q has the x of pt. A test in place, `q.x == pt.x`, speaks of words, and these three say it over whole numbers.
 fn is_column(pt: Point, q: Point) -> bool
     ensures { result ≡ eq_z q.x pt.x }
 {
@@ -70,10 +59,7 @@ fn is_left(pt: Point, q: Point) -> bool
 fn between_way(pt: Point, p: Point, q: Point) -> Way
     ensures { result ≡ between_way pt p q }
 {
-    let from = is_right(pt, p);
-    let to = is_right(pt, q);
-    let alike = same(from, to);
-    if alike {
+    if is_right(pt, p) == is_right(pt, q) {
         return Way::Stays;
     }
     Way::Touches
@@ -83,12 +69,10 @@ fn between_way(pt: Point, p: Point, q: Point) -> Way
 fn level_way(pt: Point, p: Point, q: Point) -> Way
     ensures { result ≡ level_way pt p q }
 {
-    let here = is_column(pt, q);
-    if here {
+    if is_column(pt, q) {
         return Way::Touches;
     }
-    let level = is_level(pt, p);
-    if level {
+    if is_level(pt, p) {
         return between_way(pt, p, q);
     }
     Way::Stays
@@ -101,9 +85,7 @@ fn over_way(above: bool, d: i32) -> Way
     if d == 0 {
         return Way::Touches;
     }
-    let left = d < 0;
-    let alike = same(left, above);
-    if alike {
+    if (d < 0) == above {
         return Way::Crosses;
     }
     Way::Passes
@@ -117,12 +99,10 @@ fn over(pt: Point, above: bool, p: Point, q: Point) -> Way
     requires fact_4 { GoesOver pt above p q }
     ensures { result ≡ over_way above (cross_product_sign p q pt) }
 {
-    let right = is_right(pt, p) & is_right(pt, q);
-    if right {
+    if is_right(pt, p) & is_right(pt, q) {
         return Way::Passes;
     }
-    let left = is_left(pt, p) & is_left(pt, q);
-    if left {
+    if is_left(pt, p) & is_left(pt, q) {
         return Way::Crosses;
     }
     let d = cross_product_sign(p, q, pt);
@@ -137,13 +117,10 @@ pub fn way_of(pt: Point, above: bool, p: Point, q: Point) -> Way
     requires fact_4 { BeginsOn pt above p }
     ensures { result ≡ way_of pt above p q }
 {
-    let level = is_level(pt, q);
-    if level {
+    if is_level(pt, q) {
         return level_way(pt, p, q);
     }
-    let side = is_above(pt, q);
-    let alike = same(side, above);
-    if alike {
+    if is_above(pt, q) == above {
         return Way::Stays;
     }
     over(pt, above, p, q)

@@ -8,6 +8,7 @@ use native.Mathlib.Decide.{ℕ_discrete}
 use lib.Dec.{eqb, ltb}
 use lib.ListN.{length, drop}
 use borrow.Author.Tests.{eq-eqb, ne_eqb, ltb-false}
+use Rattle.std.proofs.Common.{Result, Ok, Err}
 use Rattle.job.specs.Field.{HEADER, field_in, value_of, size_of, torn_header, strange_tag, torn_value, strange_bits, crowded, tag_of, kind_of, body_of, field_of}
 use Rattle.job.specs.Job.{fresh}
 use Rattle.job.specs.declared.Job.{Job}
@@ -16,15 +17,13 @@ use Rattle.job.specs.declared.field.Kind.{Kind}
 use Rattle.job.specs.declared.field.Kind.TheVariants as kind
 use Rattle.job.specs.declared.field.Field.{Field}
 use Rattle.job.specs.declared.field.Field.TheVariants.{Settings, Point, Record, Segment, Join}
-use Rattle.job.specs.declared.field.Reading.{Reading}
-use Rattle.job.specs.declared.field.Reading.TheVariants as reading
-use Rattle.job.proofs.Accepted.{passed, accepted}
+use Rattle.job.specs.declared.refusal.Refusal.{Refusal}
+use Rattle.job.proofs.Accepted.{read_parts, passed, accepted}
 use Rattle.store.specs.Field.{pt, rc, ct, X, Y, NEXT, PREV, REC, Z, FLAGS, FIRST, REASON, SETTINGS, POINTS, RECORDS, BLOCK}
 use Rattle.store.specs.Words.{Store, view, write, on_words}
 use Rattle.store.specs.Stores.{on_store}
 use Rattle.store.specs.Named.{settings_of, records_of}
 use Rattle.store.proofs.Storing.{view_writes, length_writes}
-use Rattle.reading.specs.declared.fill.Outcome.TheVariants.{Ok, Refused}
 use Rattle.reading.specs.Fill.{ReadEnd, end, placed, taken, turn_of, follow, run, fill_of, reason_read, record_read}
 use Rattle.reading.specs.Needs.{Room}
 use Rattle.reading.proofs.Placing.{has_room}
@@ -32,21 +31,21 @@ use Rattle.reading.specs.Read.{counted, with_counts, read_of}
 use Rattle.reading.specs.Alike.{Bits, Unringed}
 
 -- a field that was read has no unused bit set
-bits_body : (k : Kind) (j : Job) (s : List ℕ) (f : Field) (n : ℕ) → body_of k j s ≡ reading.Read f n → strange_bits f ≡ false
+bits_body : (k : Kind) (j : Job) (s : List ℕ) (f : Field) (n : ℕ) → body_of k j s ≡ Ok (f, n) → strange_bits f ≡ false
 unfolding body_of
 bits_body k j s f n e =
     let g = field_in k (value_of s) in
-    let full = cond (crowded k j) (reading.Refused Crowded) (reading.Read g (HEADER + size_of k)) in
-    let a = passed (torn_value k s) Torn (cond (strange_bits g) (reading.Refused Strange) full) f n e in
+    let full = cond (crowded k j) (Err Crowded) (Ok (g, HEADER + size_of k)) in
+    let a = passed (torn_value k s) Torn (cond (strange_bits g) (Err Strange) full) f n e in
     let b = passed (strange_bits g) Strange full f n a.1 in
-    let d = passed (crowded k j) Crowded (reading.Read g (HEADER + size_of k)) f n b.1 in
-    let i : g ≡ f = cc d.1 in
+    let d = passed (crowded k j) Crowded (Ok (g, HEADER + size_of k)) f n b.1 in
+    let i = (read_parts g f (HEADER + size_of k) n d.1).0 in
     subst (λ (x : Field). strange_bits x ≡ false) i b.0
 
-bits_read : (j : Job) (s : List ℕ) (f : Field) (n : ℕ) → field_of j s ≡ reading.Read f n → strange_bits f ≡ false
+bits_read : (j : Job) (s : List ℕ) (f : Field) (n : ℕ) → field_of j s ≡ Ok (f, n) → strange_bits f ≡ false
 unfolding field_of
 bits_read j s f n e =
-    let a = passed (torn_header s) Torn (cond (strange_tag j.last (tag_of s)) (reading.Refused Strange) (body_of (kind_of (tag_of s)) j s)) f n e in
+    let a = passed (torn_header s) Torn (cond (strange_tag j.last (tag_of s)) (Err Strange) (body_of (kind_of (tag_of s)) j s)) f n e in
     let b = passed (strange_tag j.last (tag_of s)) Strange (body_of (kind_of (tag_of s)) j s) f n a.1 in
     bits_body (kind_of (tag_of s)) j s f n b.1
 
@@ -58,7 +57,7 @@ Depth (Record f o p) = Unit {0}
 Depth (Segment p) = Unit {0}
 Depth (Join a b) = Unit {0}
 
-depth_read : (j : Job) (s : List ℕ) (f : Field) (n : ℕ) → field_of j s ≡ reading.Read f n → Depth f
+depth_read : (j : Job) (s : List ℕ) (f : Field) (n : ℕ) → field_of j s ≡ Ok (f, n) → Depth f
 depth_read j s f n e = let a = accepted j s f n e in subst Depth (sym a.is) (go a.kind (value_of s))
   where
     go : (k : Kind) (v : List ℕ) → Depth (field_in k v)
@@ -78,7 +77,7 @@ record Tame (j : Job) (w : List ℕ) : Type 0 where
 
 abbrev TameEnd : ReadEnd → Type 0
 TameEnd (end (Ok j) w ss js) = Tame j w
-TameEnd (end (Refused r) w ss js) = Unit {0}
+TameEnd (end (Err r) w ss js) = Unit {0}
 
 module _ (j : Job) (w ss js : List ℕ) (t : Tame j w) where
   tame_placed : (f : Field) (n : ℕ) → Room f j → strange_bits f ≡ false → Depth f → TameEnd (placed f n j w ss js)
@@ -118,9 +117,9 @@ module _ (j : Job) (w ss js : List ℕ) (t : Tame j w) where
   unfolding turn_of
   tame_turn bytes = go (field_of j (drop j.at bytes)) refl
     where
-      go : (r : Reading) → field_of j (drop j.at bytes) ≡ r → TameEnd (taken r j w ss js)
-      go (reading.Read f n) e = tame_placed f n (has_room j (drop j.at bytes) f n (accepted j (drop j.at bytes) f n e)) (bits_read j (drop j.at bytes) f n e) (depth_read j (drop j.at bytes) f n e)
-      go (reading.Refused x) e = tt
+      go : (r : Result (Field × ℕ) Refusal) → field_of j (drop j.at bytes) ≡ r → TameEnd (taken r j w ss js)
+      go (Ok (f, n)) e = tame_placed f n (has_room j (drop j.at bytes) f n (accepted j (drop j.at bytes) f n e)) (bits_read j (drop j.at bytes) f n e) (depth_read j (drop j.at bytes) f n e)
+      go (Err x) e = tt
 
 tame_run : (k : ℕ) (bytes : List ℕ) (j : Job) (w ss js : List ℕ) → Tame j w → TameEnd (run k bytes j w ss js)
 unfolding run
@@ -129,7 +128,7 @@ tame_run (suc k) bytes j w ss js t = by (ltb j.at (length bytes)) (turn_of bytes
   where
     on : (T : ReadEnd) → TameEnd T → ((i : Job) (v ts ks : List ℕ) → Tame i v → TameEnd (run k bytes i v ts ks)) → TameEnd (follow (run k bytes) T)
     on (end (Ok i) v ts ks) u r = r i v ts ks u
-    on (end (Refused x) v ts ks) u r = tt
+    on (end (Err x) v ts ks) u r = tt
 
     by : (b : Bool) (T : ReadEnd) → TameEnd T → ((i : Job) (v ts ks : List ℕ) → Tame i v → TameEnd (run k bytes i v ts ks)) → TameEnd (cond b (follow (run k bytes) T) (end (Ok j) w ss js))
     by true T u r = on T u r
@@ -139,7 +138,7 @@ tame_fill : (bytes w ss js : List ℕ) → BLOCK ≤ length w → TameEnd (fill_
 unfolding fill_of
 tame_fill bytes w ss js l = go (eqb (length bytes) 0)
   where
-    go : (b : Bool) → TameEnd (cond b (end (Refused Strange) w ss js) (run (suc (length bytes)) bytes fresh w ss js))
+    go : (b : Bool) → TameEnd (cond b (end (Err Strange) w ss js) (run (suc (length bytes)) bytes fresh w ss js))
     go true = tt
     go false = tame_run (suc (length bytes)) bytes fresh w ss js (record { bits = omega arith; flags = λ i h. absurd (omega arith); reasons = λ i h. absurd (omega arith); depths = λ k h. absurd (omega arith); long = l })
 
@@ -158,4 +157,4 @@ fields_of bytes w ss js l j v ts ks e = go (fill_of bytes w ss js) (tame_fill by
           record { settings = omega (arith, p, t.bits); flags = λ k h. omega (arith, ap (λ (z : Store). z (rc FLAGS) k) c, t.flags k (omega (arith, q))); depths = λ k h. omega (arith, ap (λ (z : Store). z (pt Z) k) c, t.depths k (omega (arith, ap (λ (z : Store). z (ct POINTS) 0) c))) },
           record { reasons = λ k h. subst (λ (z : Store). z (rc REASON) k ≡ reason_read (z (rc FIRST) k)) (sym c) (t.reasons k (omega (arith, q))) },
         )
-    go (end (Refused x) u us ls) t d = absurd (let z : ◌≡◌ {A = ℕ} 0 1 = cc in omega arith)
+    go (end (Err x) u us ls) t d = absurd (let z : ◌≡◌ {A = ℕ} 0 1 = cc in omega arith)

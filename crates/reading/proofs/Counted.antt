@@ -6,6 +6,7 @@ use Prim.Native.Nat.{ℕ, zero, suc, ◌+◌, ◌*◌, ◌≤◌}
 use native.Mathlib.Omega.{arith}
 use lib.Dec.{ltb, eqb}
 use lib.ListN.{length, set, drop, length-set}
+use Rattle.std.proofs.Common.{Result, Ok, Err}
 use Rattle.job.specs.Field.{field_of}
 use Rattle.job.specs.Job.{fresh, Within}
 use Rattle.job.proofs.Accepted.{within_fresh}
@@ -14,13 +15,9 @@ use Rattle.job.specs.declared.refusal.Refusal.{Refusal}
 use Rattle.job.specs.declared.refusal.Refusal.TheVariants.{Strange}
 use Rattle.job.specs.declared.field.Field.{Field}
 use Rattle.job.specs.declared.field.Field.TheVariants.{Settings, Point, Record, Segment, Join}
-use Rattle.job.specs.declared.field.Reading.{Reading}
-use Rattle.job.specs.declared.field.Reading.TheVariants as reading
 use Rattle.store.specs.Field.{BLOCK, ct, SETTINGS, POINTS, RECORDS, pt, X, Y, NEXT, PREV, REC, Z}
 use Rattle.store.specs.Words.{write}
 use Rattle.store.proofs.Storing.{length_writes, view_writes}
-use Rattle.reading.specs.declared.fill.Outcome.{Outcome}
-use Rattle.reading.specs.declared.fill.Outcome.TheVariants.{Ok, Refused}
 use Rattle.reading.specs.Fill.{ReadEnd, end, placed, taken, turn_of, follow, run, fill_of, record_read}
 use Rattle.reading.specs.Read.{counted, read_of}
 use Rattle.reading.specs.Alike.{Counts}
@@ -40,9 +37,9 @@ module _ (j : Job) (w ss js : List ℕ) where
   placed_kept (Segment p) n = (refl, length-set ss j.segments p, refl)
   placed_kept (Join a b) n = (refl, refl, length-set (set js (2 * j.joins) a) (2 * j.joins + 1) b ∙ length-set js (2 * j.joins) a)
 
-  taken_kept : (r : Reading) → Kept w ss js (taken r j w ss js)
-  taken_kept (reading.Read f n) = placed_kept f n
-  taken_kept (reading.Refused x) = (refl, refl, refl)
+  taken_kept : (r : Result (Field × ℕ) Refusal) → Kept w ss js (taken r j w ss js)
+  taken_kept (Ok (f, n)) = placed_kept f n
+  taken_kept (Err x) = (refl, refl, refl)
 
   turn_kept : (bytes : List ℕ) → Kept w ss js (turn_of bytes j w ss js)
   unfolding turn_of
@@ -75,7 +72,7 @@ module _ (bytes : List ℕ) (n : Job) (v ts ks : List ℕ) where
       on (end (Ok m) u us ls) a b d f =
           let r = f m u us ls (a.within i) d in
           record { within = r.within; words = r.words ∙ b.0; segments = r.segments ∙ b.1; joins = r.joins ∙ b.2 }
-      on (end (Refused x) u us ls) a b d f = absurd (let z : ◌≡◌ {A = ℕ} 0 1 = cc in omega arith)
+      on (end (Err x) u us ls) a b d f = absurd (let z : ◌≡◌ {A = ℕ} 0 1 = cc in omega arith)
 
       by : (t : Bool) (T : ReadEnd) → After j T → Kept w ss js T → cond t (follow (run k bytes) T) (end (Ok j) w ss js) ≡ end (Ok n) v ts ks → ((m : Job) (u us ls : List ℕ) → Within m → run k bytes m u us ls ≡ end (Ok n) v ts ks → Ended u us ls n v ts ks) → Ended w ss js n v ts ks
       by true T a b d f = on T a b d f
@@ -85,7 +82,7 @@ module _ (bytes : List ℕ) (n : Job) (v ts ks : List ℕ) where
   unfolding fill_of
   filled w ss js e = by (eqb (length bytes) 0) e
     where
-      by : (t : Bool) → cond t (end (Refused Strange) w ss js) (run (suc (length bytes)) bytes fresh w ss js) ≡ end (Ok n) v ts ks → Ended w ss js n v ts ks
+      by : (t : Bool) → cond t (end (Err Strange) w ss js) (run (suc (length bytes)) bytes fresh w ss js) ≡ end (Ok n) v ts ks → Ended w ss js n v ts ks
       by true d = absurd (let z : ◌≡◌ {A = ℕ} 0 1 = cc in omega arith)
       by false d = run_ended (suc (length bytes)) fresh w ss js within_fresh d
 
@@ -96,14 +93,14 @@ counts w j l i =
     record { within = i; settings = ap (λ s. s (ct SETTINGS) 0) e; points = ap (λ s. s (ct POINTS) 0) e; records = ap (λ s. s (ct RECORDS) 0) e }
 
 -- for the code of `read_job`
-pub may_count : (bytes w ss js v ts ks : List ℕ) (r : Outcome) (j : Job) → end r v ts ks ≡ fill_of bytes w ss js → r ≡ Ok j → Within j
+pub may_count : (bytes w ss js v ts ks : List ℕ) (r : Result Job Refusal) (j : Job) → end r v ts ks ≡ fill_of bytes w ss js → r ≡ Ok j → Within j
 may_count bytes w ss js v ts ks r j e h = (filled bytes j v ts ks w ss js (cc)).within
 
-module _ (bytes w ss js v ts ks : List ℕ) (r : Outcome) (e : end r v ts ks ≡ fill_of bytes w ss js) where
+module _ (bytes w ss js v ts ks : List ℕ) (r : Result Job Refusal) (e : end r v ts ks ≡ fill_of bytes w ss js) where
   pub read_on : (j : Job) (v' : List ℕ) → r ≡ Ok j → v' ≡ counted j v → end (Ok j) v' ts ks ≡ read_of bytes w ss js
   unfolding read_of
   read_on j v' h a = rw (a, ← e, h)
 
-  pub read_refused : (x : Refusal) → r ≡ Refused x → end (Refused x) v ts ks ≡ read_of bytes w ss js
+  pub read_refused : (x : Refusal) → r ≡ Err x → end (Err x) v ts ks ≡ read_of bytes w ss js
   unfolding read_of
   read_refused x h = rw (← e, h)

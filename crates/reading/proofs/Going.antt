@@ -5,6 +5,7 @@ use Prim.Native.Nat.{ℕ, zero, suc, ◌+◌, ◌-◌, ◌<◌, ◌≤◌}
 use native.Mathlib.Omega.{arith}
 use lib.ListN.{length, drop}
 use borrow.Author.Tests.{lt-ltb, le-ltb, eq-eqb, ne_eqb}
+use Rattle.std.proofs.Common.{Result, Ok, Err}
 use Rattle.job.specs.Field.{field_of}
 use Rattle.job.specs.Job.{fresh, past, Within}
 use Rattle.job.proofs.Accepted.{accepted, within_past, within_fresh}
@@ -13,10 +14,6 @@ use Rattle.job.specs.declared.refusal.Refusal.{Refusal}
 use Rattle.job.specs.declared.refusal.Refusal.TheVariants.{Strange}
 use Rattle.job.specs.declared.field.Field.{Field}
 use Rattle.job.specs.declared.field.Field.TheVariants.{Settings, Point, Record, Segment, Join}
-use Rattle.job.specs.declared.field.Reading.{Reading}
-use Rattle.job.specs.declared.field.Reading.TheVariants as reading
-use Rattle.reading.specs.declared.fill.Outcome.{Outcome}
-use Rattle.reading.specs.declared.fill.Outcome.TheVariants.{Ok, Refused}
 use Rattle.reading.specs.Fill.{ReadEnd, end, placed, taken, turn_of, follow, run, fill_of}
 
 -- what a turn leaves, if it is no refusal: it is further on, and the counts keep within the limits
@@ -26,7 +23,7 @@ pub record Forward (j n : Job) : Type 0 where
 
 abbrev pub After : Job → ReadEnd → Type 0
 After j (end (Ok n) w ss js) = Forward j n
-After j (end (Refused r) w ss js) = Unit {0}
+After j (end (Err r) w ss js) = Unit {0}
 
 module _ (bytes : List ℕ) (j : Job) (w ss js : List ℕ) where
   moved : (f : Field) (n : ℕ) → Forward j (past f n j) → After j (placed f n j w ss js)
@@ -43,11 +40,11 @@ module _ (bytes : List ℕ) (j : Job) (w ss js : List ℕ) where
   further (Segment p) n h = omega arith
   further (Join a b) n h = omega arith
 
-  by : (part : List ℕ) (r : Reading) → field_of j part ≡ r → After j (taken r j w ss js)
-  by part (reading.Read f n) e =
+  by : (part : List ℕ) (r : Result (Field × ℕ) Refusal) → field_of j part ≡ r → After j (taken r j w ss js)
+  by part (Ok (f, n)) e =
       let a = accepted j part f n e in
       moved f n (record { at = further f n a.forward; within = λ i. within_past i a })
-  by part (reading.Refused x) e = tt
+  by part (Err x) e = tt
 
   pub moves : After j (turn_of bytes j w ss js)
   unfolding turn_of
@@ -74,7 +71,7 @@ module _ (bytes : List ℕ) (F : ReadEnd) (j : Job) (w ss js : List ℕ) where
   over (suc i) z h e = rw (le-ltb _ _ h) at e
 
 module _ {bytes : List ℕ} {F : ReadEnd} {j : Job} {w ss js : List ℕ} where
-  module _ {n : Job} {v ts ks : List ℕ} {r : Outcome} (g : Going bytes F j w ss js) (h : j.at < length bytes) (e : r ≡ Ok n) (s : end r v ts ks ≡ turn_of bytes j w ss js) where
+  module _ {n : Job} {v ts ks : List ℕ} {r : Result Job Refusal} (g : Going bytes F j w ss js) (h : j.at < length bytes) (e : r ≡ Ok n) (s : end r v ts ks ≡ turn_of bytes j w ss js) where
     told : turn_of bytes j w ss js ≡ end (Ok n) v ts ks
     told = cc
 
@@ -90,9 +87,9 @@ module _ {bytes : List ℕ} {F : ReadEnd} {j : Job} {w ss js : List ℕ} where
         let a = ahead in
         record { left = t.0; some = omega (arith, t.1); far = omega (arith, t.1); within = a.within g.within; goes = rw told at t.2 }
 
-  pub stop : {x : Refusal} {v ts ks : List ℕ} {r : Outcome} → Going bytes F j w ss js → j.at < length bytes → r ≡ Refused x → end r v ts ks ≡ turn_of bytes j w ss js → end (Refused x) v ts ks ≡ F
+  pub stop : {x : Refusal} {v ts ks : List ℕ} {r : Result Job Refusal} → Going bytes F j w ss js → j.at < length bytes → r ≡ Err x → end r v ts ks ≡ turn_of bytes j w ss js → end (Err x) v ts ks ≡ F
   stop {x} {v} {ts} {ks} {r} g h e s =
-      let q : turn_of bytes j w ss js ≡ end (Refused x) v ts ks = cc in
+      let q : turn_of bytes j w ss js ≡ end (Err x) v ts ks = cc in
       let t = on bytes F j w ss js g.left h g.far g.goes in
       rw q at t.2
 
@@ -104,6 +101,6 @@ unfolding fill_of
 begun bytes w ss js h =
     record { left = suc (length bytes); some = omega arith; far = omega arith; within = within_fresh; goes = rw (ne_eqb _ _ h) }
 
-pub empty : (bytes w ss js : List ℕ) → length bytes ≡ 0 → end (Refused Strange) w ss js ≡ fill_of bytes w ss js
+pub empty : (bytes w ss js : List ℕ) → length bytes ≡ 0 → end (Err Strange) w ss js ≡ fill_of bytes w ss js
 unfolding fill_of
 empty bytes w ss js h = rw (eq-eqb _ _ h)

@@ -9,6 +9,7 @@ use lib.Dec.{eqb, ltb}
 use lib.ListN.{length, get_or, set, drop, length-set}
 use lib.Seq.{get_or-set_same, get_or-set_other}
 use borrow.Author.Tests.{eqb-false}
+use Rattle.std.proofs.Common.{Result, Ok, Err}
 use Rattle.job.specs.Field.{field_of}
 use Rattle.job.specs.Job.{fresh, past, Within}
 use Rattle.job.proofs.Accepted.{within_fresh, within_past, accepted}
@@ -16,13 +17,11 @@ use Rattle.job.specs.declared.Job.{Job}
 use Rattle.job.specs.declared.refusal.Refusal.TheVariants.{Strange}
 use Rattle.job.specs.declared.field.Field.{Field}
 use Rattle.job.specs.declared.field.Field.TheVariants.{Settings, Point, Record, Segment, Join}
-use Rattle.job.specs.declared.field.Reading.{Reading}
-use Rattle.job.specs.declared.field.Reading.TheVariants as reading
+use Rattle.job.specs.declared.refusal.Refusal.{Refusal}
 use Rattle.store.specs.Field.{PointCol, pt, rc, ct, X, Y, NEXT, PREV, REC, Z, FLAGS, OWNER, FIRST, REASON, SETTINGS, POINTS, RECORDS}
 use Rattle.store.specs.Words.{Store, view, Write, write, on_words}
 use Rattle.store.specs.Stores.{on_store}
 use Rattle.store.proofs.Storing.{view_writes, length_writes}
-use Rattle.reading.specs.declared.fill.Outcome.TheVariants.{Ok, Refused}
 use Rattle.reading.specs.Fill.{ReadEnd, end, placed, taken, turn_of, follow, run, fill_of, reason_read, record_read}
 use Rattle.reading.specs.Needs.{Space, Room}
 use Rattle.reading.specs.Read.{counted, with_counts, read_of}
@@ -53,9 +52,9 @@ record Both (j : Job) (w w' ss ss' js js' : List ℕ) : Type 0 where
 
 abbrev BothEnd : ReadEnd → ReadEnd → Type 0
 BothEnd (end (Ok j) w ss js) (end (Ok j') w' ss' js') = (j' ≡ j) × Both j w w' ss ss' js js'
-BothEnd (end (Ok j) w ss js) (end (Refused r') w' ss' js') = ⊥
-BothEnd (end (Refused r) w ss js) (end (Ok j') w' ss' js') = ⊥
-BothEnd (end (Refused r) w ss js) (end (Refused r') w' ss' js') = r' ≡ r
+BothEnd (end (Ok j) w ss js) (end (Err r') w' ss' js') = ⊥
+BothEnd (end (Err r) w ss js) (end (Ok j') w' ss' js') = ⊥
+BothEnd (end (Err r) w ss js) (end (Err r') w' ss' js') = r' ≡ r
 
 abbrev point_list : ℕ → ℕ → ℕ → ℕ → ℕ → ℕ → ℕ → List Write
 point_list i x y n p r z = write (pt X) i x ∷ write (pt Y) i y ∷ write (pt NEXT) i n ∷ write (pt PREV) i p ∷ write (pt REC) i r ∷ write (pt Z) i z ∷ []
@@ -160,11 +159,11 @@ module _ (j : Job) (w w' ss ss' js js' : List ℕ) (b : Both j w w' ss ss' js js
   unfolding turn_of
   both_turn bytes = go (field_of j (drop j.at bytes)) refl
     where
-      go : (r : Reading) → field_of j (drop j.at bytes) ≡ r → BothEnd (taken r j w ss js) (taken r j w' ss' js')
-      go (reading.Read f n) e =
+      go : (r : Result (Field × ℕ) Refusal) → field_of j (drop j.at bytes) ≡ r → BothEnd (taken r j w ss js) (taken r j w' ss' js')
+      go (Ok (f, n)) e =
           let a = accepted j (drop j.at bytes) f n e in
           both_placed f n (has_room j (drop j.at bytes) f n a) (within_past b.within a)
-      go (reading.Refused x) e = refl
+      go (Err x) e = refl
 
 both_run : (k : ℕ) (bytes : List ℕ) (j : Job) (w w' ss ss' js js' : List ℕ) → Both j w w' ss ss' js js' → BothEnd (run k bytes j w ss js) (run k bytes j w' ss' js')
 unfolding run
@@ -175,9 +174,9 @@ both_run (suc k) bytes j w w' ss ss' js js' b =
   where
     on : (T T' : ReadEnd) → BothEnd T T' → ((i : Job) (v v' ts ts' ks ks' : List ℕ) → Both i v v' ts ts' ks ks' → BothEnd (run k bytes i v ts ks) (run k bytes i v' ts' ks')) → BothEnd (follow (run k bytes) T) (follow (run k bytes) T')
     on (end (Ok i) v ts ks) (end (Ok i') v' ts' ks') c r = subst (λ (x : Job). BothEnd (run k bytes i v ts ks) (run k bytes x v' ts' ks')) (sym c.0) (r i v v' ts ts' ks ks' c.1)
-    on (end (Ok i) v ts ks) (end (Refused x') v' ts' ks') c r = absurd c
-    on (end (Refused x) v ts ks) (end (Ok i') v' ts' ks') c r = absurd c
-    on (end (Refused x) v ts ks) (end (Refused x') v' ts' ks') c r = c
+    on (end (Ok i) v ts ks) (end (Err x') v' ts' ks') c r = absurd c
+    on (end (Err x) v ts ks) (end (Ok i') v' ts' ks') c r = absurd c
+    on (end (Err x) v ts ks) (end (Err x') v' ts' ks') c r = c
 
     by : (t : Bool) (T T' : ReadEnd) → BothEnd T T' → ((i : Job) (v v' ts ts' ks ks' : List ℕ) → Both i v v' ts ts' ks ks' → BothEnd (run k bytes i v ts ks) (run k bytes i v' ts' ks'))
         → BothEnd (cond t (follow (run k bytes) T) (end (Ok j) w ss js)) (cond t (follow (run k bytes) T') (end (Ok j) w' ss' js'))
@@ -203,16 +202,16 @@ with_counts_lem (end (Ok j) w ss js) (end (Ok j') w' ss' js') c =
         joins = s.joins;
       },
     )
-with_counts_lem (end (Ok j) w ss js) (end (Refused x') w' ss' js') c = absurd c
-with_counts_lem (end (Refused x) w ss js) (end (Ok j') w' ss' js') c = absurd c
-with_counts_lem (end (Refused x) w ss js) (end (Refused x') w' ss' js') c = c
+with_counts_lem (end (Ok j) w ss js) (end (Err x') w' ss' js') c = absurd c
+with_counts_lem (end (Err x) w ss js) (end (Ok j') w' ss' js') c = absurd c
+with_counts_lem (end (Err x) w ss js) (end (Err x') w' ss' js') c = c
 
 pub ignores : (bytes : List ℕ) → Ignores bytes
 unfolding read_of fill_of
 ignores bytes = record { same = λ w w' ss ss' js js' s s'. by w w' ss ss' js js' s s' (eqb (length bytes) 0) }
   where
     by : (w w' ss ss' js js' : List ℕ) → Space w ss js → Space w' ss' js' → (t : Bool)
-        → SameEnd (with_counts (cond t (end (Refused Strange) w ss js) (run (suc (length bytes)) bytes fresh w ss js))) (with_counts (cond t (end (Refused Strange) w' ss' js') (run (suc (length bytes)) bytes fresh w' ss' js')))
+        → SameEnd (with_counts (cond t (end (Err Strange) w ss js) (run (suc (length bytes)) bytes fresh w ss js))) (with_counts (cond t (end (Err Strange) w' ss' js') (run (suc (length bytes)) bytes fresh w' ss' js')))
     by w w' ss ss' js js' s s' true = refl
     by w w' ss ss' js js' s s' false =
         with_counts_lem (run (suc (length bytes)) bytes fresh w ss js) (run (suc (length bytes)) bytes fresh w' ss' js')

@@ -7,6 +7,7 @@ use Prim.Native.Nat.{ℕ, ◌^◌, ◌<◌}
 use native.Mathlib.Omega.{arith}
 use lib.ListN.{length, set}
 use borrow.Author.Tests.{leb-false, eq-eqb, ne_eqb}
+use Rattle.std.proofs.Common.{Result, Ok, Err}
 use Rattle.numbers.specs.Written.{Part}
 use Rattle.job.specs.Limits.{POINTS, RECORDS, SEGMENTS, JOINS}
 use Rattle.job.specs.Field.{field_in, crowded, field_of}
@@ -18,12 +19,8 @@ use Rattle.job.specs.declared.field.Kind.{Kind}
 use Rattle.job.specs.declared.field.Kind.TheVariants as kind
 use Rattle.job.specs.declared.field.Field.{Field}
 use Rattle.job.specs.declared.field.Field.TheVariants.{Settings, Point, Record, Segment, Join}
-use Rattle.job.specs.declared.field.Reading.{Reading}
-use Rattle.job.specs.declared.field.Reading.TheVariants as reading
 use Rattle.store.specs.Field.{NONE}
 use Rattle.store.specs.Reason.{NO_RING}
-use Rattle.reading.specs.declared.fill.Outcome.{Outcome}
-use Rattle.reading.specs.declared.fill.Outcome.TheVariants.{Ok, Refused}
 use Rattle.reading.specs.Fill.{end, put_point, put_record, put_join, placed, turn_of, reason_read}
 use Rattle.reading.specs.Needs.{Space, Room, Placing}
 
@@ -61,17 +58,17 @@ by_kind kind.Join v j c = leb-false JOINS j.joins c
 pub has_room : (j : Job) (s : List ℕ) (f : Field) (n : ℕ) → Accepted j s f n → Room f j
 has_room j s f n a = rw a.is (by_kind a.kind _ j a.room)
 
-pub may_place : (bytes part : List ℕ) (j : Job) (w ss js : List ℕ) (r : Reading) (f : Field) (n : ℕ) → Space w ss js → Within j → length bytes < 2 ^ 63 → j.at < length bytes → Part j.at bytes part → r ≡ field_of j part → r ≡ reading.Read f n → Placing f n j w ss js
+pub may_place : (bytes part : List ℕ) (j : Job) (w ss js : List ℕ) (r : Result (Field × ℕ) Refusal) (f : Field) (n : ℕ) → Space w ss js → Within j → length bytes < 2 ^ 63 → j.at < length bytes → Part j.at bytes part → r ≡ field_of j part → r ≡ Ok (f, n) → Placing f n j w ss js
 may_place bytes part j w ss js r f n s i b l p a e =
-    let q : field_of j part ≡ reading.Read f n = cc in
+    let q : field_of j part ≡ Ok (f, n) = cc in
     let g = accepted j part f n q in
     record { space = s; within = i; room = has_room j part f n g; far = omega (arith, p.long, g.here) }
 
-module _ (bytes part : List ℕ) (j : Job) (w ss js : List ℕ) (r : Reading) (p : Part j.at bytes part) (a : r ≡ field_of j part) where
-  pub turn_placed : (f : Field) (n : ℕ) (o : Outcome) (w' ss' js' : List ℕ) → r ≡ reading.Read f n → end o w' ss' js' ≡ placed f n j w ss js → end o w' ss' js' ≡ turn_of bytes j w ss js
+module _ (bytes part : List ℕ) (j : Job) (w ss js : List ℕ) (r : Result (Field × ℕ) Refusal) (p : Part j.at bytes part) (a : r ≡ field_of j part) where
+  pub turn_placed : (f : Field) (n : ℕ) (o : Result Job Refusal) (w' ss' js' : List ℕ) → r ≡ Ok (f, n) → end o w' ss' js' ≡ placed f n j w ss js → end o w' ss' js' ≡ turn_of bytes j w ss js
   unfolding turn_of
   turn_placed f n o w' ss' js' e h = rw (← p.is, ← a, e) h
 
-  pub turn_refused : (x : Refusal) → r ≡ reading.Refused x → end (Refused x) w ss js ≡ turn_of bytes j w ss js
+  pub turn_refused : (x : Refusal) → r ≡ Err x → end (Err x) w ss js ≡ turn_of bytes j w ss js
   unfolding turn_of
   turn_refused x e = rw (← p.is, ← a, e)

@@ -7,6 +7,7 @@ use native.Mathlib.Omega.{arith}
 use lib.Dec.{ltb, eqb}
 use lib.ListN.{length, get_or}
 use borrow.Author.Tests.{not-false, ltb-true, ltb-false, eqb-true, lt-ltb, le-ltb, lt-leb, ne_eqb}
+use Rattle.std.proofs.Common.{Result, Ok}
 use Rattle.numbers.specs.Bytes.{le}
 use Rattle.numbers.specs.Raised.{raised}
 use Rattle.numbers.specs.Written.{Number, Part}
@@ -15,9 +16,7 @@ use Rattle.job.specs.Field.{tag_of, length_of, value_of, field_in, body_of, fiel
 use Rattle.job.specs.Job.{Within}
 use Rattle.job.specs.declared.Job.{Job}
 use Rattle.job.specs.declared.field.Kind.TheVariants as kind
-use Rattle.job.specs.declared.field.Reading.TheVariants as reading
-use Rattle.reading.specs.declared.fill.Outcome.{Outcome}
-use Rattle.reading.specs.declared.fill.Outcome.TheVariants.{Ok}
+use Rattle.job.specs.declared.refusal.Refusal.{Refusal}
 use Rattle.store.specs.Field.{BLOCK}
 use Rattle.reading.specs.Fill.{ReadEnd, end, put_point, turn_of}
 use Rattle.reading.specs.Points.{point_next, put_value, past_point, PointTurn, PointTurns, none, more}
@@ -50,7 +49,7 @@ next_says j s = by (ltb (length s) 21) refl
         record { long = ltb-false (length s) 21 l; tag = eqb-true (tag_of s) 2 d.0; says = eqb-true (length_of s) 18 d.1; begun = ltb-true 0 j.last c.1; in_turn = ltb-true j.last 3 b.1; room = ltb-true j.points POINTS a.1 }
 
 -- such a part is read as a point
-reads : (j : Job) (s : List ℕ) → Next j s → field_of j s ≡ reading.Read (field_in kind.Point (value_of s)) 21
+reads : (j : Job) (s : List ℕ) → Next j s → field_of j s ≡ Ok (field_in kind.Point (value_of s), 21)
 unfolding field_of body_of
 reads j s n =
     let h = n.in_turn in
@@ -125,7 +124,7 @@ turns_fall : {bytes : List ℕ} {F : ReadEnd} {j : Job} {w : List ℕ} {n : Job}
 turns_fall g none = omega arith
 turns_fall {ss = ss} {js = js} g (more k u n v T t) = omega (arith, turns_fall g T, falls (turns_going g T) t.here refl (t.is ss js))
 
-module _ {bytes : List ℕ} {F : ReadEnd} {j n : Job} {w ss js v ts ks : List ℕ} {r : Outcome} (g : Going bytes F j w ss js) (h : j.at < length bytes) (e : r ≡ Ok n) (s : end r v ts ks ≡ turn_of bytes j w ss js) where
+module _ {bytes : List ℕ} {F : ReadEnd} {j n : Job} {w ss js v ts ks : List ℕ} {r : Result Job Refusal} (g : Going bytes F j w ss js) (h : j.at < length bytes) (e : r ≡ Ok n) (s : end r v ts ks ≡ turn_of bytes j w ss js) where
   pub still_within : Within n
   still_within = (next g h e s).within
 

@@ -9,6 +9,7 @@ use native.Mathlib.Decide.{dec_lt}
 use lib.Dec.{eqb, ltb}
 use lib.ListN.{length, drop, length-drop}
 use borrow.Author.Tests.{ltb-false, eqb-true, eqb-false}
+use Rattle.std.proofs.Common.{Result, Ok, Err}
 use Rattle.job.specs.Field.{HEADER, Y_AT, NEXT_AT, PREV_AT, RECORD_AT, Z_AT, OWNER_AT, FIRST_AT, tag_of, length_of, value_of, kind_of, size_of, field_in, torn_header, strange_tag, torn_value, strange_bits, crowded, body_of, field_of}
 use Rattle.numbers.specs.Bytes.{le}
 use Rattle.numbers.specs.Raised.{raised}
@@ -20,15 +21,13 @@ use Rattle.job.specs.declared.Job.{Job}
 use Rattle.job.specs.declared.field.Kind.{Kind}
 use Rattle.job.specs.declared.field.Kind.TheVariants as kind
 use Rattle.job.specs.declared.field.Field.{Field}
-use Rattle.job.specs.declared.field.Reading.{Reading}
-use Rattle.job.specs.declared.field.Reading.TheVariants as reading
+use Rattle.job.specs.declared.refusal.Refusal.{Refusal}
 use Rattle.job.specs.declared.refusal.Refusal.TheVariants.{Torn, Strange, Crowded}
-use Rattle.job.proofs.Accepted.{passed, accepted}
+use Rattle.job.proofs.Accepted.{read_parts, passed, accepted}
 use Rattle.store.specs.Field.{pt, ct, X, Y, NEXT, PREV, REC, Z, SETTINGS, POINTS, RECORDS, BLOCK}
 use Rattle.store.specs.Words.{view, write, on_words}
 use Rattle.store.specs.Stores.{on_store}
 use Rattle.store.proofs.Storing.{view_writes, length_writes}
-use Rattle.reading.specs.declared.fill.Outcome.TheVariants.{Ok, Refused}
 use Rattle.reading.specs.Fill.{ReadEnd, end, placed, taken, turn_of, follow, run, fill_of, record_read}
 use Rattle.reading.specs.Needs.{Room}
 use Rattle.reading.specs.Read.{counted, with_counts, read_of}
@@ -91,7 +90,7 @@ pub record ReadAs (j : Job) (s : List ℕ) (f : Field) (n : ℕ) (k : Kind) : Ty
   pub bits : strange_bits (field_in k (value_of s)) ≡ false
   pub room : crowded k j ≡ false
 
-pub read_as : (j : Job) (s : List ℕ) (f : Field) (n : ℕ) → field_of j s ≡ reading.Read f n → ReadAs j s f n (kind_of (tag_of s))
+pub read_as : (j : Job) (s : List ℕ) (f : Field) (n : ℕ) → field_of j s ≡ Ok (f, n) → ReadAs j s f n (kind_of (tag_of s))
 unfolding field_of body_of
 read_as j s f n e =
     let k : Kind = kind_of (tag_of s) in
@@ -99,10 +98,9 @@ read_as j s f n e =
     let b = passed (strange_tag j.last (tag_of s)) Strange _ f n a.1 in
     let c = passed (torn_value k s) Torn _ f n b.1 in
     let d = passed (strange_bits (field_in k (value_of s))) Strange _ f n c.1 in
-    let g = passed (crowded k j) Crowded (reading.Read (field_in k (value_of s)) (HEADER + size_of k)) f n d.1 in
-    let z : field_in k (value_of s) ≡ f = cc g.1 in
-    let y : HEADER + size_of k ≡ n = cc g.1 in
-    record { kind_is = refl; is = sym z; size = sym y; header = a.0; tag = b.0; whole = c.0; bits = d.0; room = g.0 }
+    let g = passed (crowded k j) Crowded (Ok (field_in k (value_of s), HEADER + size_of k)) f n d.1 in
+    let p = read_parts (field_in k (value_of s)) f (HEADER + size_of k) n g.1 in
+    record { kind_is = refl; is = sym p.0; size = sym p.1; header = a.0; tag = b.0; whole = c.0; bits = d.0; room = g.0 }
 
 -- ---- the layout
 pub record Lay (j : Job) : Type 0 where
@@ -153,7 +151,7 @@ record Stands (bytes : List ℕ) (j : Job) (w : List ℕ) : Type 0 where
 
 abbrev StandsEnd : List ℕ → ReadEnd → Type 0
 StandsEnd bytes (end (Ok j) w ss js) = Stands bytes j w
-StandsEnd bytes (end (Refused r) w ss js) = Unit {0}
+StandsEnd bytes (end (Err r) w ss js) = Unit {0}
 
 -- a column with one number more
 more : (p v : ℕ) (a d : ℕ → ℕ) → ((k : ℕ) → k < p → a k ≡ d k) → v ≡ d p → (k : ℕ) → k < p + 1 → cond (eqb k p) v (a k) ≡ d k
@@ -216,11 +214,11 @@ module _ (bytes : List ℕ) (j : Job) (w ss js : List ℕ) (t : Stands bytes j w
   unfolding turn_of
   stands_turn = go (field_of j (drop j.at bytes)) refl
     where
-      go : (r : Reading) → field_of j (drop j.at bytes) ≡ r → StandsEnd bytes (taken r j w ss js)
-      go (reading.Read f n) e =
+      go : (r : Result (Field × ℕ) Refusal) → field_of j (drop j.at bytes) ≡ r → StandsEnd bytes (taken r j w ss js)
+      go (Ok (f, n)) e =
           stands_placed f n (kind_of (tag_of (drop j.at bytes))) (read_as j (drop j.at bytes) f n e)
           (has_room j (drop j.at bytes) f n (accepted j (drop j.at bytes) f n e))
-      go (reading.Refused x) e = tt
+      go (Err x) e = tt
 
 stands_run : (k : ℕ) (bytes : List ℕ) (j : Job) (w ss js : List ℕ) → Stands bytes j w → StandsEnd bytes (run k bytes j w ss js)
 unfolding run
@@ -229,7 +227,7 @@ stands_run (suc k) bytes j w ss js t = by (ltb j.at (length bytes)) (turn_of byt
   where
     on : (T : ReadEnd) → StandsEnd bytes T → ((i : Job) (v ts ks : List ℕ) → Stands bytes i v → StandsEnd bytes (run k bytes i v ts ks)) → StandsEnd bytes (follow (run k bytes) T)
     on (end (Ok i) v ts ks) u r = r i v ts ks u
-    on (end (Refused x) v ts ks) u r = tt
+    on (end (Err x) v ts ks) u r = tt
 
     by : (b : Bool) (T : ReadEnd) → StandsEnd bytes T → ((i : Job) (v ts ks : List ℕ) → Stands bytes i v → StandsEnd bytes (run k bytes i v ts ks)) → StandsEnd bytes (cond b (follow (run k bytes) T) (end (Ok j) w ss js))
     by true T u r = on T u r
@@ -239,7 +237,7 @@ stands_fill : (bytes w ss js : List ℕ) → BLOCK ≤ length w → StandsEnd by
 unfolding fill_of
 stands_fill bytes w ss js l = go (eqb (length bytes) 0)
   where
-    go : (b : Bool) → StandsEnd bytes (cond b (end (Refused Strange) w ss js) (run (suc (length bytes)) bytes fresh w ss js))
+    go : (b : Bool) → StandsEnd bytes (cond b (end (Err Strange) w ss js) (run (suc (length bytes)) bytes fresh w ss js))
     go true = tt
     go false =
         stands_run (suc (length bytes)) bytes fresh w ss js
@@ -275,4 +273,4 @@ standing bytes w ss js l j v ts ks e = go (fill_of bytes w ss js) (stands_fill b
           inside = room i t.lay t.inside;
           numbers = subst (AtBytes bytes i.points) (sym c) (record { x = n.x; y = n.y; next = n.next; prev = n.prev; rec = n.rec; z = n.z });
         })
-    go (end (Refused x) u us ls) t d = absurd (let z : ◌≡◌ {A = ℕ} 0 1 = cc in omega arith)
+    go (end (Err x) u us ls) t d = absurd (let z : ◌≡◌ {A = ℕ} 0 1 = cc in omega arith)

@@ -1,11 +1,10 @@
 -- What reading leaves out: words that were there before, and what is within the limits once a job is read.
-use Rattle.std.specs.Prelude.{ℕ, ◌*◌, ◌^◌, ◌≤◌, ◌<◌, ◌≡◌, List, get_or}
+use Rattle.std.specs.Prelude.{ℕ, ◌*◌, ◌^◌, ◌≤◌, ◌<◌, ◌≡◌, List, get_or, Ok, Err}
 use Rattle.job.specs.Job.{Within}
 use Rattle.job.specs.declared.Job.{Job}
 use Rattle.store.specs.Field.{PointCol, pt, Z}
 use Rattle.store.specs.Words.{view}
 use Rattle.store.specs.Named.{settings_of, points_of, records_of, flags_of, owner_of, first_of, kept_of}
-use Rattle.reading.specs.declared.fill.Outcome.TheVariants.{Ok, Refused}
 use Rattle.reading.specs.Fill.{ReadEnd, end, reason_read}
 use Rattle.reading.specs.Needs.{Space}
 use Rattle.reading.specs.Read.{read_of}
@@ -23,9 +22,9 @@ pub record SameJob (j : Job) (w w' ss ss' js js' : List ℕ) : Type 0 where
 -- the same refusal, or the same job
 abbrev pub SameEnd : ReadEnd → ReadEnd → Type 0
 SameEnd (end (Ok j) w ss js) (end (Ok j') w' ss' js') = (j' ≡ j) × SameJob j w w' ss ss' js js'
-SameEnd (end (Ok j) w ss js) (end (Refused r') w' ss' js') = ⊥
-SameEnd (end (Refused r) w ss js) (end (Ok j') w' ss' js') = ⊥
-SameEnd (end (Refused r) w ss js) (end (Refused r') w' ss' js') = r' ≡ r
+SameEnd (end (Ok j) w ss js) (end (Err r') w' ss' js') = ⊥
+SameEnd (end (Err r) w ss js) (end (Ok j') w' ss' js') = ⊥
+SameEnd (end (Err r) w ss js) (end (Err r') w' ss' js') = r' ≡ r
 
 -- what was in the words and lists before does not matter (`ignores`, proofs/Ignoring)
 pub record Ignores (bytes : List ℕ) : Type 0 where

@@ -1,5 +1,5 @@
 -- Turns of reading that each place a point's field, in a row; and the test of one, as the code makes it.
-use Rattle.std.specs.Prelude.{ℕ, ◌+◌, ◌<◌, ◌≡◌, Bool, false, cond, ◌&&◌, List, ltb, eqb, length}
+use Rattle.std.specs.Prelude.{ℕ, ◌+◌, ◌<◌, ◌≡◌, Bool, false, cond, ◌&&◌, List, ltb, eqb, length, Ok}
 use Rattle.numbers.specs.Bytes.{le}
 use Rattle.job.specs.Limits.{POINTS}
 use Rattle.job.specs.Coordinate.{word_at, depth_at}
@@ -8,7 +8,6 @@ use Rattle.job.specs.Job.{past}
 use Rattle.job.specs.declared.Job.{Job}
 use Rattle.job.specs.declared.field.Field.TheVariants.{Point}
 use Rattle.job.specs.declared.field.Kind.TheVariants as kind
-use Rattle.reading.specs.declared.fill.Outcome.TheVariants.{Ok}
 use Rattle.reading.specs.Fill.{end, put_point, turn_of}
 
 -- the bytes of a point's field

@@ -1,5 +1,5 @@
 // Reads the fields of a job, one after the other, into the work space and two lists.
-ghost use Rattle.std.specs.Prelude.{◌≡◌, ◌+◌, ◌*◌, ◌<◌, ◌≤◌, length, set};
+ghost use Rattle.std.specs.Prelude.{◌≡◌, ◌+◌, ◌*◌, ◌<◌, ◌≤◌, length, set, Ok};
 ghost use Rattle.job.specs.Limits as limit;
 ghost use Rattle.job.specs.Job.{Within};
 ghost use Rattle.store.specs.Field.{BLOCK, size};
@@ -9,17 +9,10 @@ ghost use Rattle.reading.specs.Fill.{end, put_point, reason_read, put_record, pu
 ghost use Rattle.reading.specs.Needs.{Space, Placing};
 
 use crate::points::run_points;
-use job::field::{Field, Reading};
+use job::field::Field;
 use job::refusal::Refusal;
 use job::{Job, field};
 use store::{Col, NO_RING, NONE};
-
-// What was counted up to here, of a field, of all fields or of an accepted job; or the refusal.
-#[derive(Clone, Copy)]
-pub enum Outcome {
-    Ok(Job),
-    Refused(Refusal),
-}
 
 // Stores a word of a column.
 pub(crate) fn put(w: &mut [u32], c: Col, i: usize, v: u32)
@@ -67,8 +60,7 @@ fn put_record(w: &mut [u32], i: usize, flags: u32, owner: u32, first: u32)
     put(w, Col::Flags, i, flags);
     put(w, Col::Owner, i, owner);
     put(w, Col::First, i, first);
-    let reason = reason_read(first);
-    put(w, Col::Reason, i, reason);
+    put(w, Col::Reason, i, reason_read(first));
 }
 
 // Puts a number on a list.
@@ -87,20 +79,13 @@ fn put_join(s: &mut [u32], i: usize, a: u32, b: u32)
     list(s, 2 * i + 1, b);
 }
 
-// Puts a field of n bytes where it belongs.
-fn place(
-    f: Field,
-    n: usize,
-    j: Job,
-    w: &mut [u32],
-    segments: &mut [u32],
-    joins: &mut [u32],
-) -> Outcome
+// Puts a field of n bytes where it belongs, and goes past it.
+fn place(f: Field, n: usize, j: Job, w: &mut [u32], segments: &mut [u32], joins: &mut [u32]) -> Job
     requires { Placing f n j w.old segments.old joins.old }
-    ensures { end result w.new segments.new joins.new ≡ placed f n j w.old segments.old joins.old }
+    ensures { end (Ok result) w.new segments.new joins.new ≡ placed f n j w.old segments.old joins.old }
 {
     match f {
-        Field::Settings { bits: _ } => Outcome::Ok(j.past(f, n)),
+        Field::Settings { .. } => {}
         Field::Point {
             x,
             y,
@@ -108,60 +93,50 @@ fn place(
             prev,
             record,
             z,
-        } => {
-            put_point(w, j.points, x, y, next, prev, record, z);
-            Outcome::Ok(j.past(f, n))
-        }
+        } => put_point(w, j.points, x, y, next, prev, record, z),
         Field::Record {
             flags,
             owner,
             first,
-        } => {
-            put_record(w, j.records, flags, owner, first);
-            Outcome::Ok(j.past(f, n))
-        }
-        Field::Segment { point } => {
-            list(segments, j.segments, point);
-            Outcome::Ok(j.past(f, n))
-        }
-        Field::Join { first, second } => {
-            put_join(joins, j.joins, first, second);
-            Outcome::Ok(j.past(f, n))
-        }
+        } => put_record(w, j.records, flags, owner, first),
+        Field::Segment { point } => list(segments, j.segments, point),
+        Field::Join { first, second } => put_join(joins, j.joins, first, second),
     }
+    j.past(f, n)
 }
 
-fn turn(bytes: &[u8], j: Job, w: &mut [u32], segments: &mut [u32], joins: &mut [u32]) -> Outcome
+fn turn(
+    bytes: &[u8],
+    j: Job,
+    w: &mut [u32],
+    segments: &mut [u32],
+    joins: &mut [u32],
+) -> Result<Job, Refusal>
     requires { Space w.old segments.old joins.old × Within j × (j.at < length bytes.now) }
     ensures { end result w.new segments.new joins.new ≡ turn_of bytes.now j w.old segments.old joins.old }
 {
-    let at = j.at;
-    let r = field::read_field(numbers::from(bytes, at), j);
-    match r {
-        Reading::Read { field, length } => place(field, length, j, w, segments, joins),
-        Reading::Refused(x) => Outcome::Refused(x),
-    }
+    let (field, length) = field::read_field(numbers::from(bytes, j.at), j)?;
+    Ok(place(field, length, j, w, segments, joins))
 }
 
-// The fields of a job, up to its end or the first refusal; points in a row are read at once.
-pub(crate) fn fill(bytes: &[u8], w: &mut [u32], segments: &mut [u32], joins: &mut [u32]) -> Outcome
+// What was counted in the fields of a job, up to its end, or the first refusal; points in a row are read at once.
+pub(crate) fn fill(
+    bytes: &[u8],
+    w: &mut [u32],
+    segments: &mut [u32],
+    joins: &mut [u32],
+) -> Result<Job, Refusal>
     requires { Space w.old segments.old joins.old }
     ensures { end result w.new segments.new joins.new ≡ fill_of bytes.now w.old segments.old joins.old }
 {
-    if bytes.len() == 0 {
-        return Outcome::Refused(Refusal::Strange);
+    if bytes.is_empty() {
+        return Err(Refusal::Strange);
     }
     let mut j = Job::fresh();
+    // on by each field's length: no index is counted
     while j.at < bytes.len() {
-        let t = turn(bytes, j, w, segments, joins);
-        match t {
-            Outcome::Ok(n) => {
-                j = run_points(bytes, n, w);
-            }
-            Outcome::Refused(x) => {
-                return Outcome::Refused(x);
-            }
-        }
+        let n = turn(bytes, j, w, segments, joins)?;
+        j = run_points(bytes, n, w);
     }
-    Outcome::Ok(j)
+    Ok(j)
 }

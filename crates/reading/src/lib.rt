@@ -11,8 +11,8 @@ ghost use Rattle.reading.specs.Fill.{end};
 ghost use Rattle.reading.specs.Needs.{Space};
 ghost use Rattle.reading.specs.Read.{counted, read_of};
 
-use crate::fill::Outcome;
 use job::Job;
+use job::refusal::Refusal;
 use store::Col;
 
 // The settings and the counts.
@@ -25,17 +25,17 @@ fn put_counts(w: &mut [u32], j: Job)
     store::set(w, Col::Records, 0, j.records);
 }
 
-// Reads a job into the work space and two lists, or refuses it by row 1, 2 or 3.
-pub fn read_job(bytes: &[u8], w: &mut [u32], segments: &mut [u32], joins: &mut [u32]) -> Outcome
+// Reads a job into the work space and two lists; what was counted, or its refusal by row 1, 2 or 3.
+pub fn read_job(
+    bytes: &[u8],
+    w: &mut [u32],
+    segments: &mut [u32],
+    joins: &mut [u32],
+) -> Result<Job, Refusal>
     requires { Space w.old segments.old joins.old }
     ensures { end result w.new segments.new joins.new ≡ read_of bytes.now w.old segments.old joins.old }
 {
-    let r = fill::fill(bytes, w, segments, joins);
-    match r {
-        Outcome::Ok(j) => {
-            put_counts(w, j);
-            Outcome::Ok(j)
-        }
-        Outcome::Refused(x) => Outcome::Refused(x),
-    }
+    let j = fill::fill(bytes, w, segments, joins)?;
+    put_counts(w, j);
+    Ok(j)
 }

@@ -45,11 +45,12 @@ fn past_point(j: Job) -> Job
     requires { Within j × (j.at + WHOLE_POINT < 2 ^ 64) }
     ensures { result ≡ past_point j }
 {
-    let mut n = j;
-    n.at = j.at + POINT_BYTES;
-    n.last = 2;
-    n.points = j.points + 1;
-    n
+    Job {
+        at: j.at + POINT_BYTES,
+        last: 2,
+        points: j.points + 1,
+        ..j
+    }
 }
 
 // The points from the state j on, up to a field of another kind or one that a turn would refuse.
@@ -58,10 +59,10 @@ pub(crate) fn run_points(bytes: &[u8], j: Job, w: &mut [u32]) -> Job
     ensures { PointTurns bytes.now j w.old result w.new }
 {
     let mut k = j;
+    // on by each field's length: no index is counted
     while k.at < bytes.len() {
         let part = numbers::from(bytes, k.at);
-        let more = point_next(part, k);
-        if !more {
+        if !point_next(part, k) {
             return k;
         }
         put_value(numbers::from(part, HEADER), k.points, w);

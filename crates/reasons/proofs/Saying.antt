@@ -5,8 +5,7 @@ use mathlib.Core.List.{List, ◌++◌}
 use native.Mathlib.Omega.{arith}
 use lib.ListN.{length, take, drop, replicate, length-append, length-replicate}
 use lib.Seq.{length-take-le}
-use Rattle.listing.specs.declared.Listed.{Listed}
-use Rattle.listing.specs.declared.Listed.TheVariants.{Bytes}
+use Rattle.std.specs.Prelude.{Option, Some}
 use Rattle.listing.specs.Told.{Told, told}
 use Rattle.listing.specs.Needs.{Whole}
 use Rattle.job_listing.specs.Cutlist.{listed_job}
@@ -14,10 +13,10 @@ use Rattle.job_reasons.specs.Room.{TEXT}
 use Rattle.job_reasons.specs.Reasons.{reasons_of, tell_job_of}
 use Rattle.job_reasons.proofs.Fits.{told_whole}
 
-pub text_part : (a : Listed) (m : ℕ) (text : List ℕ) → Whole a (length text) → a ≡ Bytes m → m ≡ length (take m text)
-text_part a m text h e = sym (length-take-le m text (subst (λ (x : Listed). Whole x (length text)) e h))
+pub text_part : (a : Option ℕ) (m : ℕ) (text : List ℕ) → Whole a (length text) → a ≡ Some m → m ≡ length (take m text)
+text_part a m text h e = sym (length-take-le m text (subst (λ (x : Option ℕ). Whole x (length text)) e h))
 
-pub room : (bytes w t w' t' out' : List ℕ) (a : Listed) → listed_job (told a out') w' t' ≡ tell_job_of bytes w t (replicate TEXT 0) → Whole a (length out')
+pub room : (bytes w t w' t' out' : List ℕ) (a : Option ℕ) → listed_job (told a out') w' t' ≡ tell_job_of bytes w t (replicate TEXT 0) → Whole a (length out')
 room bytes w t w' t' out' a e =
     let text : List ℕ = reasons_of bytes w t in
     let rest : List ℕ = drop (length text) (replicate TEXT 0) in

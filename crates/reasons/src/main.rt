@@ -5,7 +5,6 @@ ghost use Rattle.std.specs.Prelude.{length};
 ghost use Rattle.listing.specs.Needs.{Whole};
 
 use job_reasons::{TEXT, tell_job};
-use listing::Listed;
 use paths::TRAY;
 use prefix::DECIDES;
 use std::io;
@@ -13,18 +12,13 @@ use std::process::ExitCode;
 use store::LENGTH;
 use streams::{fill, write_or_say};
 
-// Writes to standard output; says so where that does not take all of it.
-fn put<R: Print + Eprint>(rt: &R, bytes: &[u8]) -> io::Result<ExitCode> {
-    write_or_say(rt, "reasons", bytes)
-}
-
 // Writes the text, for which there was room.
-fn say<R: Print + Eprint>(rt: &R, a: Listed, text: &[u8]) -> io::Result<ExitCode>
+fn say<R: Print + Eprint>(rt: &R, a: Option<usize>, text: &[u8]) -> io::Result<ExitCode>
     requires { Whole a (length text.now) }
 {
     match a {
-        Listed::Bytes(m) => put(rt, &text[..m]),
-        Listed::NoRoom => unreachable!(),
+        Some(m) => write_or_say(rt, "reasons", &text[..m]),
+        None => unreachable!(),
     }
 }
 

@@ -8,7 +8,7 @@ ghost use Rattle.std.specs.Prelude.{◌<◌};
 
 use job::Job;
 use job_listing::list_job;
-use listing::{Listed, TEXT};
+use listing::TEXT;
 use paths::TRAY;
 use prefix::DECIDES;
 use rates::{Rate, rate_in};
@@ -19,10 +19,7 @@ use test_text::words::end_of;
 use test_text::{byte, first, from, further, number_at, put, words};
 
 fn back(at: usize, n: usize) -> usize {
-    if n <= at {
-        return at - n;
-    }
-    0
+    at.saturating_sub(n)
 }
 
 // Writes the first n bytes.
@@ -49,11 +46,7 @@ fn value(digit: u8) -> u8
 }
 
 fn digit(v: u8) -> u8 {
-    let d = v % 16;
-    if d < 10 {
-        return b'0' + d;
-    }
-    b'a' + (d - 10)
+    b"0123456789abcdef"[(v % 16) as usize]
 }
 
 // The byte whose two digits stand at a place.
@@ -80,12 +73,10 @@ fn raise(job: &mut [u8], at: usize) {
 // The bytes before a place once more.
 fn double(job: &mut [u8], at: usize, size: usize) {
     let mut i = at;
-    let mut left = size;
-    while left > 0 {
+    for _ in 0..size {
         let v = byte(job, back(i, size));
         put(job, i, v);
         i = further(i, 1);
-        left -= 1;
     }
 }
 
@@ -102,10 +93,8 @@ fn again(job: &mut [u8], at: usize, size: usize) -> usize {
 
 fn repeat(job: &mut [u8], n: usize, size: usize, times: usize) -> usize {
     let mut at = n;
-    let mut left = times;
-    while left > 0 {
+    for _ in 0..times {
         at = again(job, at, size);
-        left -= 1;
     }
     at
 }
@@ -152,8 +141,7 @@ fn decode(s: &[u8], at: usize, job: &mut [u8]) -> usize {
     let mut i = at;
     let mut start: usize = 0;
     let mut n: usize = 0;
-    let mut left: u32 = 100000;
-    while left > 0 {
+    for _ in 0..100000 {
         let b = byte(s, i);
         if b <= b'\n' {
             return n;
@@ -161,7 +149,6 @@ fn decode(s: &[u8], at: usize, job: &mut [u8]) -> usize {
         start = begun(b, start, n);
         n = taken(s, i, start, job, n);
         i = past(s, i);
-        left -= 1;
     }
     n
 }
@@ -174,29 +161,22 @@ fn field(tray: &[u8], at: usize) -> usize {
 // How many bytes the tray's fields have: the first tag 0 comes after them.
 fn used(tray: &[u8]) -> usize {
     let mut at: usize = 0;
-    let mut left = Job::RECORDS;
-    while left > 0 {
+    for _ in 0..Job::RECORDS {
         if byte(tray, at) == 0 {
             return at;
         }
         at = further(at, field(tray, at));
-        left -= 1;
     }
     at
 }
 
 // The first n bytes in hexadecimal digits, and how many digits there are.
 fn digits(tray: &[u8], n: usize, line: &mut [u8]) -> usize {
-    let mut i: usize = 0;
     let mut at: usize = 0;
-    let mut left = n;
-    while left > 0 {
-        let v = byte(tray, i);
+    for &v in first(tray, n) {
         put(line, at, digit(v / 16));
         put(line, further(at, 1), digit(v));
         at = further(at, 2);
-        i = further(i, 1);
-        left -= 1;
     }
     at
 }
@@ -218,10 +198,8 @@ fn replay<R: Print>(
     tray: &mut [u8],
     text: &mut [u8],
 ) -> io::Result<()> {
-    let r = list_job(job, rate, work, tray, text);
-    match r {
-        Listed::Bytes(m) => say(rt, text, m)?,
-        Listed::NoRoom => {}
+    if let Some(m) = list_job(job, rate, work, tray, text) {
+        say(rt, text, m)?;
     }
     say_tray(rt, tray, text)
 }
@@ -289,13 +267,11 @@ fn run<R: Print>(
     text: &mut [u8],
 ) -> io::Result<()> {
     let mut at: usize = 0;
-    let mut left: u32 = 1000;
-    while left > 0 {
+    for _ in 0..1000 {
         if byte(s, at) == 0 {
             return Ok(());
         }
         at = one(rt, s, at, job, work, tray, text)?;
-        left -= 1;
     }
     Ok(())
 }

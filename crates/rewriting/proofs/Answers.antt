@@ -9,12 +9,12 @@ use lib.ListN.{length, take, replicate}
 use lib.Seq.{take-take}
 use borrow.Author.Tests.{lt-ltb, le-ltb, le-leb, lt-leb}
 use lib.Seq.{length-take-le}
+use Rattle.std.proofs.Common.{Ok, Err}
 use Rattle.rings.specs.Circle.{omap}
 use Rattle.job.specs.Limits as limit
 use Rattle.job.specs.declared.refusal.Refusal.{Refusal}
 use Rattle.job.specs.declared.refusal.Refusal.TheVariants.{Full}
 use Rattle.store.specs.Field.{LENGTH}
-use Rattle.reading.specs.declared.fill.Outcome.TheVariants as outcome
 use Rattle.reading.specs.Fill.{ReadEnd, end}
 use Rattle.reading.specs.Read.{read_of}
 use Rattle.accepting.specs.Accept.{accept_of}
@@ -27,8 +27,7 @@ use Rattle.drawing.proofs.Spaces.{any_space}
 use Rattle.encoding.specs.Encode.{encode}
 use Rattle.encoding.specs.OneWay.{rewritten}
 use Rattle.encoding.proofs.Theorem.{one_way}
-use Rattle.rewriting.specs.declared.Rewritten.{Rewritten}
-use Rattle.rewriting.specs.declared.Rewritten.TheVariants.{Bytes, Refused}
+use Rattle.std.specs.Prelude.{Result}
 use Rattle.rewriting.specs.Rewrite.{Rewrote, rewrote, not_rewritten, written_in, rewrite_from, rewrite_of}
 use Rattle.rewriting.specs.Answers.{BytesWithin, Rewrites}
 
@@ -41,12 +40,12 @@ unfolding rewrite_of
 long bytes n m h = rw (le-ltb n LENGTH h)
 
 by_drawing : (T : ReadEnd) (d : Drawing) → drawn_from T ≡ some d → (n m : ℕ) → rewrite_from T n m ≡ written_in (encode d) n m
-by_drawing (end (outcome.Ok j) w ss js) d e n m = let f : drawing_of w ss j.segments js j.joins ≡ d = cc (e) in ap (λ (x : Drawing). written_in (encode x) n m) f
-by_drawing (end (outcome.Refused x) w ss js) d e n m = absurd (let z : ◌≡◌ {A = ℕ} 0 1 = cc in omega arith)
+by_drawing (end (Ok j) w ss js) d e n m = let f : drawing_of w ss j.segments js j.joins ≡ d = cc (e) in ap (λ (x : Drawing). written_in (encode x) n m) f
+by_drawing (end (Err x) w ss js) d e n m = absurd (let z : ◌≡◌ {A = ℕ} 0 1 = cc in omega arith)
 
 by_refusal : (T : ReadEnd) → drawn_from T ≡ none → (n : ℕ) → (x : Refusal) × ((m : ℕ) → rewrite_from T n m ≡ not_rewritten x n m)
-by_refusal (end (outcome.Ok j) w ss js) e n = absurd (let z : ◌≡◌ {A = ℕ} 0 1 = cc in omega arith)
-by_refusal (end (outcome.Refused x) w ss js) e n = (x, λ m. refl)
+by_refusal (end (Ok j) w ss js) e n = absurd (let z : ◌≡◌ {A = ℕ} 0 1 = cc in omega arith)
+by_refusal (end (Err x) w ss js) e n = (x, λ m. refl)
 
 module _ (bytes : List ℕ) where
   short : (n m : ℕ) → n < LENGTH → rewrite_of bytes n m ≡ not_rewritten Full n m
@@ -71,7 +70,7 @@ module _ (bytes : List ℕ) where
       go (some d) f g = absurd (let z : ◌≡◌ {A = ℕ} 0 1 = cc in omega arith)
       go none f g = let r = by_refusal (read_in bytes n) (any_space bytes n (omega arith) ∙ f) n in (r.0, λ m. long bytes n m h ∙ r.1 m)
 
-  suffices : (x : List ℕ) → rewritten bytes ≡ some x → (n m : ℕ) → LENGTH ≤ n → LONGEST ≤ m → rewrite_of bytes n m ≡ rewrote (Bytes (length x)) (replicate n 0) (padded m x)
+  suffices : (x : List ℕ) → rewritten bytes ≡ some x → (n m : ℕ) → LENGTH ≤ n → LONGEST ≤ m → rewrite_of bytes n m ≡ rewrote (Ok (length x)) (replicate n 0) (padded m x)
   suffices x e n m h l = accepted x e n m h ∙ rw (le-leb (length x) m (omega (arith, one_way.never_longer bytes x e)))
 
   fits : (n m : ℕ) → BytesWithin (rewrite_of bytes n m).answer (min m LONGEST)
@@ -93,21 +92,21 @@ module _ (bytes : List ℕ) where
 pub rewrites : Rewrites
 rewrites = record { short = short; accepted = accepted; others = others; suffices = suffices; fits = fits; decided = decided }
 
-pub part_length : (a : Rewritten) (k : ℕ) (t : List ℕ) → BytesWithin a (length t) → a ≡ Bytes k → k ≡ length (take k t)
-part_length a k t h e = sym (length-take-le k t (subst (λ (b : Rewritten). BytesWithin b (length t)) e h))
+pub part_length : (a : Result ℕ Refusal) (k : ℕ) (t : List ℕ) → BytesWithin a (length t) → a ≡ Ok k → k ≡ length (take k t)
+part_length a k t h e = sym (length-take-le k t (subst (λ (b : Result ℕ Refusal). BytesWithin b (length t)) e h))
 
 -- for callers: an answer's bytes are in the tray that is left, and are no more than the longest job has
-module _ (bytes : List ℕ) (n m : ℕ) (a : Rewritten) (w t : List ℕ) (e : rewrote a w t ≡ rewrite_of bytes n m) where
+module _ (bytes : List ℕ) (n m : ℕ) (a : Result ℕ Refusal) (w t : List ℕ) (e : rewrote a w t ≡ rewrite_of bytes n m) where
   pub in_tray : length t ≡ m → BytesWithin a (length t)
   in_tray h = below a (subst (λ (r : Rewrote). BytesWithin r.answer (min m LONGEST)) (sym e) (rewrites.fits bytes n m))
     where
-      below : (b : Rewritten) → BytesWithin b (min m LONGEST) → BytesWithin b (length t)
-      below (Bytes k) f = omega arith
-      below (Refused x) f = tt
+      below : (b : Result ℕ Refusal) → BytesWithin b (min m LONGEST) → BytesWithin b (length t)
+      below (Ok k) f = omega arith
+      below (Err x) f = tt
 
   pub in_longest : BytesWithin a LONGEST
   in_longest = below a (subst (λ (r : Rewrote). BytesWithin r.answer (min m LONGEST)) (sym e) (rewrites.fits bytes n m))
     where
-      below : (b : Rewritten) → BytesWithin b (min m LONGEST) → BytesWithin b LONGEST
-      below (Bytes k) f = omega arith
-      below (Refused x) f = tt
+      below : (b : Result ℕ Refusal) → BytesWithin b (min m LONGEST) → BytesWithin b LONGEST
+      below (Ok k) f = omega arith
+      below (Err x) f = tt

@@ -1,6 +1,6 @@
 -- Fields after fields, as the loops write them.
 use Prim.Native.Nat.{ℕ, zero, suc, ◌+◌, ◌-◌, ◌*◌, ◌≤◌, ◌<◌}
-use mathlib.Core.Path.{◌≡◌, refl, sym, ap, ◌∙◌}
+use mathlib.Core.Path.{◌≡◌, refl, sym, ap, ◌∙◌, subst}
 use mathlib.Core.List.{List, [], ◌∷◌, ◌++◌, map, append-nil, append_assoc}
 use native.Mathlib.Numerals.{add-one}
 use native.Mathlib.Omega.{arith}
@@ -139,6 +139,13 @@ module _ {f : ℕ → Field} {w : List ℕ} {a at : ℕ} {t₀ : List ℕ} {k p 
               ∙ ap (λ (l : List ℕ). s.done ++ map f l) (sym (ahead_on (next_of w) a p left z (λ v. y (d ∙ v))))
               ∙ s.all;
         }
+
+-- of a walk of POINTS at most, i are done
+pub ring_next : {f : ℕ → Field} {w : List ℕ} {a at : ℕ} {t₀ : List ℕ} {k p i : ℕ} {t : List ℕ} → RingLaid f w a at t₀ k p (POINTS - i) t → i < POINTS → (x q : ℕ) (u : List ℕ) → poured q u ≡ pour (bytes_of (f p)) k t → x ≡ next_of w p → (x ≡ a → ⊥)
+    → RingLaid f w a at t₀ q x (POINTS - (i + 1)) u
+ring_next {f} {w} {a} {at} {t₀} {i = i} s h x q u e d y =
+    let z : POINTS - i - 1 ≡ POINTS - (i + 1) = omega arith in
+    subst (λ (j : ℕ). RingLaid f w a at t₀ q x j u) z (ring_on s (omega arith) x q u e d y)
 
 -- a record without points, and one with
 pub ringless_poured : (f : ℕ → Field) (w : List ℕ) (i a at : ℕ) (o : List ℕ) → a ≡ first_of w i → a ≡ NONE → poured at o ≡ pour (all_bytes (map f (ring_at (view w) i))) at o

@@ -7,14 +7,13 @@ use Rattle.store.specs.Field.{LENGTH}
 use Rattle.paths.specs.Tray.{padded}
 use Rattle.prefix.specs.Decides.{LONGEST, DECIDES}
 use Rattle.encoding.specs.OneWay.{rewritten}
-use Rattle.rewriting.specs.declared.Rewritten.{Rewritten}
-use Rattle.rewriting.specs.declared.Rewritten.TheVariants.{Bytes, Refused}
+use Rattle.std.specs.Prelude.{Result, Ok, Err}
 use Rattle.rewriting.specs.Rewrite.{rewrote, not_rewritten, written_in, rewrite_of}
 
 -- bytes that are in a tray of n
-abbrev pub BytesWithin : Rewritten → ℕ → Type 0
-BytesWithin (Bytes k) n = k ≤ n
-BytesWithin (Refused x) n = Unit {0}
+abbrev pub BytesWithin : Result ℕ Refusal → ℕ → Type 0
+BytesWithin (Ok k) n = k ≤ n
+BytesWithin (Err x) n = Unit {0}
 
 pub record Rewrites : Type 0 where
   -- row 10, "tested first of all"
@@ -24,7 +23,7 @@ pub record Rewrites : Type 0 where
   -- no other job is, and the tray has no say in its refusal
   pub others : (bytes : List ℕ) → rewritten bytes ≡ none → (n : ℕ) → LENGTH ≤ n → (x : Refusal) × ((m : ℕ) → rewrite_of bytes n m ≡ not_rewritten x n m)
   -- 50,180 bytes always suffice: a job that is written is no longer
-  pub suffices : (bytes x : List ℕ) → rewritten bytes ≡ some x → (n m : ℕ) → LENGTH ≤ n → LONGEST ≤ m → rewrite_of bytes n m ≡ rewrote (Bytes (length x)) (replicate n 0) (padded m x)
+  pub suffices : (bytes x : List ℕ) → rewritten bytes ≡ some x → (n m : ℕ) → LENGTH ≤ n → LONGEST ≤ m → rewrite_of bytes n m ≡ rewrote (Ok (length x)) (replicate n 0) (padded m x)
   -- an answer's bytes are in the tray, and no more than that
   pub fits : (bytes : List ℕ) (n m : ℕ) → BytesWithin (rewrite_of bytes n m).answer (min m LONGEST)
   -- 50,201 bytes decide: what follows them changes nothing

@@ -19,7 +19,6 @@ use job::Job;
 use job::refusal::Refusal;
 use numbering::number_rings;
 use opening::clear::clear;
-use reading::fill::Outcome;
 use store::{Col, LENGTH, read};
 
 // A tray of so many bytes is never too small: settings once, and as many of each other field as there may be.
@@ -33,13 +32,6 @@ pub const LONGEST: usize = 4
 fn longest_agrees()
     ensures { LONGEST ≡ decides.LONGEST }
 {}
-
-// What rewriting answers: how many bytes of the tray are the job, or a refusal.
-#[derive(Clone, Copy)]
-pub enum Rewritten {
-    Bytes(usize),
-    Refused(Refusal),
-}
 
 // All fields of a job that was read, by the new numbers of its points.
 fn put_job(
@@ -63,13 +55,13 @@ fn put_job(
 }
 
 // Row 11: a byte is lost.
-fn answer(at: usize, tray: &[u8]) -> Rewritten
+fn answer(at: usize, tray: &[u8]) -> Result<usize, Refusal>
     ensures { result ≡ rewritten_at at tray.now }
 {
     if tray.len() < at {
-        return Rewritten::Refused(Refusal::SmallTray);
+        return Err(Refusal::SmallTray);
     }
-    Rewritten::Bytes(at)
+    Ok(at)
 }
 
 // A job that was read: its points are numbered anew, and its fields written.
@@ -80,7 +72,7 @@ fn write_job(
     joins: &[u32],
     n: usize,
     tray: &mut [u8],
-) -> Rewritten
+) -> Result<usize, Refusal>
     requires { Lists w.now segments.now m joins.now n }
     ensures { job_written result tray.new ≡ poured_answer (pour (job_bytes w.now segments.now m joins.now n) 0 tray.old) }
 {
@@ -91,42 +83,36 @@ fn write_job(
 }
 
 // Rows 1 to 8, and then the job's bytes. Segments and joins stand in local arrays.
-fn stages(bytes: &[u8], work: &mut [u32], tray: &mut [u8]) -> Rewritten
+fn stages(bytes: &[u8], work: &mut [u32], tray: &mut [u8]) -> Result<usize, Refusal>
     requires { BLOCK ≤ length work.old }
     ensures { rewrote result work.new tray.new ≡ writing_of bytes.now work.old tray.old }
 {
     let mut segments = [0u32; Job::SEGMENTS];
     let mut joins = [0u32; 2 * Job::JOINS + Job::POINTS];
-    let o = accept(bytes, work, &mut segments, &mut joins);
-    match o {
-        Outcome::Ok(j) => write_job(work, &segments, j.segments, &joins, j.joins, tray),
-        Outcome::Refused(x) => Rewritten::Refused(x),
-    }
+    let j = accept(bytes, work, &mut segments, &mut joins)?;
+    write_job(work, &segments, j.segments, &joins, j.joins, tray)
 }
 
 // A refusal leaves zeros only.
-fn settle(a: Rewritten, tray: &mut [u8]) -> Rewritten
-    ensures { job_written result tray.new ≡ settled_tray a tray.old }
+fn settle(a: Result<usize, Refusal>, tray: &mut [u8])
+    ensures { job_written a tray.new ≡ settled_tray a tray.old }
 {
-    match a {
-        Rewritten::Bytes(n) => Rewritten::Bytes(n),
-        Rewritten::Refused(x) => {
-            paths::clear(tray);
-            Rewritten::Refused(x)
-        }
+    if a.is_err() {
+        paths::clear(tray);
     }
 }
 
-// Rewrites a job: the answer, every word and every byte left. Both slices are zeroed first.
-pub fn rewrite(job: &[u8], work: &mut [u32], tray: &mut [u8]) -> Rewritten
+// Rewrites a job: how many bytes of the tray are the job, or a refusal, every word and every byte left. Both slices are zeroed first.
+pub fn rewrite(job: &[u8], work: &mut [u32], tray: &mut [u8]) -> Result<usize, Refusal>
     ensures { rewrote result work.new tray.new ≡ rewrite_of job.now (length work.old) (length tray.old) }
 {
     clear(work);
     paths::clear(tray);
     if work.len() < LENGTH {
-        return Rewritten::Refused(Refusal::Full);
+        return Err(Refusal::Full);
     }
     let a = stages(job, work, tray);
     clear(work);
-    settle(a, tray)
+    settle(a, tray);
+    a
 }

@@ -47,14 +47,12 @@ fn put_ring(w: &[u32], numbers: &[usize], i: usize, a: usize, out: &mut [u8], at
 {
     let mut k = at;
     let mut p = a;
-    let mut left: usize = Job::POINTS;
-    while 0 < left {
+    for _ in 0..Job::POINTS {
         k = put_corner(w, numbers, i, p, out, k);
         p = read(w, Col::Next, p);
         if p == a {
             return k;
         }
-        left -= 1;
     }
     k
 }
@@ -76,12 +74,9 @@ pub(crate) fn put_points(w: &[u32], numbers: &[usize], out: &mut [u8], at: usize
     requires { BLOCK ≤ length w.now }
     ensures { poured result out.new ≡ pour (all_bytes (corner_fields w.now numbers.now (records_of w.now))) at out.old }
 {
-    let n = get(w, Col::Records, 0);
     let mut k = at;
-    let mut i: usize = 0;
-    while i < n {
+    for i in 0..get(w, Col::Records, 0) {
         k = put_corners(w, numbers, i, out, k);
-        i += 1;
     }
     k
 }
@@ -117,10 +112,8 @@ pub(crate) fn put_records(w: &[u32], numbers: &[usize], out: &mut [u8], at: usiz
 {
     let n = get(w, Col::Records, 0);
     let mut k = at;
-    let mut i: usize = 0;
-    while i < n {
+    for i in 0..n {
         k = put_drawn(w, numbers, i, out, k);
-        i += 1;
     }
     k
 }
@@ -147,11 +140,9 @@ pub(crate) fn put_segments(
     ensures { poured result out.new ≡ pour (all_bytes (table (level_field numbers.now list.now) 0 m)) at out.old }
 {
     let mut k = at;
-    let mut i: usize = 0;
-    while i < m {
+    for i in 0..m {
         let p = new_number(numbers, list, i);
         k = put_segment(p, out, k);
-        i += 1;
     }
     k
 }
@@ -168,12 +159,10 @@ pub(crate) fn put_joins(
     ensures { poured result out.new ≡ pour (all_bytes (table (pair_field numbers.now list.now) 0 n)) at out.old }
 {
     let mut k = at;
-    let mut i: usize = 0;
-    while i < n {
+    for i in 0..n {
         let first = new_number(numbers, list, 2 * i);
         let second = new_number(numbers, list, 2 * i + 1);
         k = put_join(first, second, out, k);
-        i += 1;
     }
     k
 }

@@ -2,7 +2,7 @@
 use mathlib.Core.Path.{◌≡◌, refl, sym, ap, ◌∙◌}
 use mathlib.Core.Bool.{Bool, true, false, ◌&&◌, ◌||◌}
 use mathlib.Core.List.{List, [], ◌∷◌}
-use Prim.Native.Nat.{ℕ, zero, suc, ◌+◌, ◌<◌, ◌≤◌}
+use Prim.Native.Nat.{ℕ, zero, suc, ◌<◌}
 use native.Mathlib.Decide.{ℕ_discrete}
 use native.Mathlib.Omega.{arith}
 use lib.Dec.{eqb, leb}
@@ -13,7 +13,7 @@ use Rattle.store.specs.Named.{points_of, records_of}
 use Rattle.store.specs.Sound.{ring_at, is_open}
 use Rattle.audit.specs.Tests.{is_in, any_below}
 use Rattle.audit.proofs.Saying.{none_of, all_none}
-use Rattle.audit.proofs.Testing.{more, hit, whole}
+use Rattle.audit.proofs.Testing.{hit}
 use Rattle.joins.specs.Resolve.{home_of}
 use Rattle.owners.specs.Owners.{circles}
 use Rattle.visits.specs.Rings.{any_in, on_ring, alone, elsewhere, estranged}
@@ -86,18 +86,6 @@ module _ (w : List ℕ) (clear : muddled w ≡ false) where
 pub named_at : (w l : List ℕ) (n : ℕ) → unnamed w l n ≡ false → (i : ℕ) → i < n → get_or l i 0 < points_of w
 named_at w l n e i h = leb-false (points_of w) (get_or l i 0) (none_of n (λ j. leb (points_of w) (get_or l j 0)) e i h)
 
--- the loop over a list
-module _ {w l : List ℕ} {n : ℕ} (g : Named w l n) (i p : ℕ) (b : Bool) (h : i < n) (e : p ≡ get_or l i 0) (f : b ≡ is_open (view w) (home_of w p)) where
-  is_open_lem : b ≡ on_open w (get_or l i 0)
-  is_open_lem =
-      let a = named_at w l n g.named i h in
-      rw (← e) (f ∙ open_is w g.clear p (omega (arith, e, a)))
-
-  pub open_hit : b ≡ true → true ≡ any_below n (λ j. on_open w (get_or l j 0))
-  open_hit t = hit (λ j. on_open w (get_or l j 0)) n n i b h refl is_open_lem t
-
-  pub open_more : any_below i (λ j. on_open w (get_or l j 0)) ≡ false → b ≡ false → any_below (i + 1) (λ j. on_open w (get_or l j 0)) ≡ false
-  open_more a t = more (λ j. on_open w (get_or l j 0)) i b a is_open_lem t
-
-pub open_over : (w l : List ℕ) (n i : ℕ) → n ≤ i → i ≤ n → any_below i (λ j. on_open w (get_or l j 0)) ≡ false → false ≡ any_below n (λ j. on_open w (get_or l j 0))
-open_over w l n i h k e = whole (λ j. on_open w (get_or l j 0)) n n i h refl k e
+-- each is on an open ring exactly when its home is open
+pub open_each : {w l : List ℕ} {n : ℕ} → Named w l n → (i : ℕ) → i < n → is_open (view w) (home_of w (get_or l i 0)) ≡ on_open w (get_or l i 0)
+open_each {w} {l} {n} g i h = open_is w g.clear (get_or l i 0) (named_at w l n g.named i h)

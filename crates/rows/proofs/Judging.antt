@@ -4,13 +4,12 @@ use mathlib.Core.Bool.{Bool, true, false, cond, ◌||◌}
 use mathlib.Core.List.{List}
 use Prim.Native.Nat.{ℕ, ◌*◌, ◌<◌, ◌≤◌}
 use native.Mathlib.Omega.{arith}
+use Rattle.std.specs.Prelude.{Result, Ok, Err}
 use Rattle.job.specs.declared.refusal.Refusal.{Refusal}
 use Rattle.job.specs.declared.refusal.Refusal.TheVariants.{OffTheTable, NoSuch, Loose, Muddled, OpenEdge}
 use Rattle.job.specs.Limits.{RECORDS}
 use Rattle.store.specs.Named.{points_of, records_of}
 use Rattle.audit.specs.Tests.{any_below, off_table, no_such, no_such_of, loose}
-use Rattle.audit.specs.declared.Verdict.{Verdict}
-use Rattle.audit.specs.declared.Verdict.TheVariants.{Passed, Refused}
 use Rattle.audit.proofs.Saying.{none_of, all_none}
 use Rattle.owners.specs.Owners.{chained, circles}
 use Rattle.visits.specs.Rings.{alone, estranged}
@@ -36,19 +35,19 @@ plain_found w b l h d = rw (none_chained w l h) d
 
 -- rows 4 and 5
 module _ (w ss : List ℕ) (m : ℕ) (js : List ℕ) (n : ℕ) (a : Bool) (p : a ≡ off_the_table w) where
-  pub row_4 : a ≡ true → Refused OffTheTable ≡ first_rows w ss m js n
+  pub row_4 : a ≡ true → Err OffTheTable ≡ first_rows w ss m js n
   row_4 h = rw (← p, h)
 
   module _ (h : a ≡ false) (b : Bool) (q : b ≡ no_such_number w ss m js n) where
-    pub row_5 : b ≡ true → Refused NoSuch ≡ first_rows w ss m js n
+    pub row_5 : b ≡ true → Err NoSuch ≡ first_rows w ss m js n
     row_5 i = rw (← p, h, ← q, i)
 
-    pub first_passed : b ≡ false → Passed ≡ first_rows w ss m js n
+    pub first_passed : b ≡ false → Ok tt ≡ first_rows w ss m js n
     first_passed i = rw (← p, h, ← q, i)
 
 -- row 6, once these have passed, and what is left
-module _ (w ss : List ℕ) (m : ℕ) (js : List ℕ) (n : ℕ) (f : first_rows w ss m js n ≡ Passed) where
-  both : (a b : Bool) → cond a (Refused OffTheTable) (cond b (Refused NoSuch) Passed) ≡ Passed → (a ≡ false) × (b ≡ false)
+module _ (w ss : List ℕ) (m : ℕ) (js : List ℕ) (n : ℕ) (f : first_rows w ss m js n ≡ Ok tt) where
+  both : (a b : Bool) → cond a (Err OffTheTable) (cond b (Err NoSuch) (Ok tt)) ≡ Ok (tt {0}) → (a ≡ false) × (b ≡ false)
   both true b e = absurd (let z : ◌≡◌ {A = ℕ} 0 1 = cc in omega arith)
   both false true e = absurd (let z : ◌≡◌ {A = ℕ} 0 1 = cc in omega arith)
   both false false e = (refl, refl)
@@ -60,33 +59,33 @@ module _ (w ss : List ℕ) (m : ℕ) (js : List ℕ) (n : ℕ) (f : first_rows w
   numbered = (both (off_the_table w) (no_such_number w ss m js n) f).1
 
   module _ (c : Bool) (r : c ≡ loose_link w) where
-    pub row_6 : c ≡ true → Refused Loose ≡ rows_of w ss m js n
+    pub row_6 : c ≡ true → Err Loose ≡ rows_of w ss m js n
     unfolding rows_of
     row_6 j = rw (on_table, numbered, ← r, j)
 
-    pub last_is : (v : Verdict) → c ≡ false → v ≡ last_rows w ss m js n → v ≡ rows_of w ss m js n
+    pub last_is : (v : Result (Unit {0}) Refusal) → c ≡ false → v ≡ last_rows w ss m js n → v ≡ rows_of w ss m js n
     unfolding rows_of
     last_is v j e = rw (on_table, numbered, ← r, j) e
 
 -- rows 7 and 8
 module _ (w ss : List ℕ) (m : ℕ) (js : List ℕ) (n : ℕ) (d : Bool) (s : d ≡ muddled w) where
-  pub row_7 : d ≡ true → Refused Muddled ≡ last_rows w ss m js n
+  pub row_7 : d ≡ true → Err Muddled ≡ last_rows w ss m js n
   row_7 k = rw (← s, k)
 
   module _ (k : d ≡ false) (e : Bool) (t : e ≡ open_edge w ss m js n) where
-    pub row_8 : e ≡ true → Refused OpenEdge ≡ last_rows w ss m js n
+    pub row_8 : e ≡ true → Err OpenEdge ≡ last_rows w ss m js n
     row_8 l = rw (← s, k, ← t, l)
 
-    pub passed : e ≡ false → Passed ≡ last_rows w ss m js n
+    pub passed : e ≡ false → Ok tt ≡ last_rows w ss m js n
     passed l = rw (← s, k, ← t, l)
 
 -- what refuses a job by row 4 or 5 refuses it by rows 4 to 8
-pub first_refused : (w ss : List ℕ) (m : ℕ) (js : List ℕ) (n : ℕ) (x : Refusal) → first_rows w ss m js n ≡ Refused x → Refused x ≡ rows_of w ss m js n
+pub first_refused : (w ss : List ℕ) (m : ℕ) (js : List ℕ) (n : ℕ) (x : Refusal) → first_rows w ss m js n ≡ Err x → Err x ≡ rows_of w ss m js n
 unfolding rows_of
 first_refused w ss m js n x e =
-    by (off_the_table w) (no_such_number w ss m js n) (cond (loose_link w) (Refused Loose) (cond (muddled w) (Refused Muddled) (cond (open_edge w ss m js n) (Refused OpenEdge) Passed))) e
+    by (off_the_table w) (no_such_number w ss m js n) (cond (loose_link w) (Err Loose) (cond (muddled w) (Err Muddled) (cond (open_edge w ss m js n) (Err OpenEdge) (Ok tt)))) e
   where
-    by : (a b : Bool) (v : Verdict) → cond a (Refused OffTheTable) (cond b (Refused NoSuch) Passed) ≡ Refused x → Refused x ≡ cond a (Refused OffTheTable) (cond b (Refused NoSuch) v)
+    by : (a b : Bool) (v : Result (Unit {0}) Refusal) → cond a (Err OffTheTable) (cond b (Err NoSuch) (Ok (tt {0}))) ≡ Err x → Err x ≡ cond a (Err OffTheTable) (cond b (Err NoSuch) v)
     by true b v e = sym e
     by false true v e = sym e
     by false false v e = absurd (let z : ◌≡◌ {A = ℕ} 0 1 = cc in omega arith)
@@ -106,17 +105,17 @@ module _ (w ss : List ℕ) (m : ℕ) (js : List ℕ) (n : ℕ) (h : any_below (p
     is_5 : b ≡ no_such_number w ss m js n
     is_5 = rw (all_none (points_of w) (no_such w) (λ k l. (fine k l).1)) q
 
-    pub beside_refused : b ≡ true → Refused NoSuch ≡ rows_of w ss m js n
+    pub beside_refused : b ≡ true → Err NoSuch ≡ rows_of w ss m js n
     beside_refused i = first_refused w ss m js n NoSuch (sym (row_5 w ss m js n false (sym no_4) refl b is_5 i))
 
-    pub beside_passed : b ≡ false → first_rows w ss m js n ≡ Passed
+    pub beside_passed : b ≡ false → first_rows w ss m js n ≡ Ok tt
     beside_passed i = sym (first_passed w ss m js n false (sym no_4) refl b is_5 i)
 
-    pub no_6 : (v : Verdict) → b ≡ false → v ≡ last_rows w ss m js n → v ≡ rows_of w ss m js n
+    pub no_6 : (v : Result (Unit {0}) Refusal) → b ≡ false → v ≡ last_rows w ss m js n → v ≡ rows_of w ss m js n
     no_6 v i e = last_is w ss m js n (beside_passed i) false (sym (all_none (points_of w) (loose w) (λ k l. (fine k l).2))) v refl e
 
 -- after rows 4, 5 and 7 the lists name points, each on one ring
-pub both_named : {w ss : List ℕ} {m : ℕ} {js : List ℕ} {n : ℕ} → Filled w ss m js n → first_rows w ss m js n ≡ Passed → (d : Bool) → d ≡ muddled w → d ≡ false → Named w ss m × Named w js (2 * n)
+pub both_named : {w ss : List ℕ} {m : ℕ} {js : List ℕ} {n : ℕ} → Filled w ss m js n → first_rows w ss m js n ≡ Ok tt → (d : Bool) → d ≡ muddled w → d ≡ false → Named w ss m × Named w js (2 * n)
 both_named {w} {ss} {m} {js} {n} g f d s k =
     let x = or_right (any_below (points_of w) (no_such w)) (no_such_beside w ss m js n) (numbered w ss m js n f) in
     let y = or_right (any_below (records_of w) (no_such_of w)) (unnamed w ss m || unnamed w js (2 * n)) x in

@@ -6,3 +6,4 @@ pub mod Homes
 pub mod Judging
 pub mod Readiness
 pub mod Pointing
+pub mod Listing

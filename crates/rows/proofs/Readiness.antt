@@ -7,6 +7,7 @@ use Prim.Native.Nat.{ℕ, zero, suc, ◌*◌, ◌<◌}
 use native.Mathlib.Decide.{ℕ_discrete}
 use native.Mathlib.Omega.{arith}
 use borrow.Author.Tests.{eq-eqb, ne_eqb, eqb-true, lt-ltb, ltb-true, not-false}
+use Rattle.std.specs.Prelude.{Result, Ok, Err}
 use Rattle.rings.specs.Count.{occ}
 use Rattle.rings.specs.Relink.{Mutual}
 use Rattle.rings.specs.Walk.{walk}
@@ -28,8 +29,6 @@ use Rattle.audit.proofs.Saying.{none_of, Placed, on_table, Numbered, such, tied,
 use Rattle.joins.specs.Paths.{Resolves}
 use Rattle.audit.proofs.Saying.{none_of, Placed, on_table, Numbered, such, tied, Owned, owned}
 use Rattle.joins.specs.Resolved.{Ready}
-use Rattle.audit.specs.declared.Verdict.{Verdict}
-use Rattle.audit.specs.declared.Verdict.TheVariants.{Passed, Refused}
 use Rattle.joins.specs.Resolve.{find_in, home_of}
 use Rattle.owners.specs.Owners.{ends_in, circles}
 use Rattle.visits.specs.Rings.{alone, estranged}
@@ -39,22 +38,22 @@ use Rattle.audit.proofs.Testing.{or_left, or_right}
 use Rattle.rows.proofs.Homes.{ring_home, has_home}
 
 -- a row that refuses was passed by a job that passes
-past : (b : Bool) (x : Refusal) (r : Verdict) → cond b (Refused x) r ≡ Passed → (b ≡ false) × (r ≡ Passed)
+past : (b : Bool) (x : Refusal) (r : Result (Unit {0}) Refusal) → cond b (Err x) r ≡ Ok tt → (b ≡ false) × (r ≡ Ok tt)
 past true x r e = absurd (let z : ◌≡◌ {A = ℕ} 0 1 = cc in omega arith)
 past false x r e = (refl, e)
 
-pub clear : (w ss : List ℕ) (m : ℕ) (js : List ℕ) (n : ℕ) → rows_of w ss m js n ≡ Passed → Clear w ss m js n
+pub clear : (w ss : List ℕ) (m : ℕ) (js : List ℕ) (n : ℕ) → rows_of w ss m js n ≡ Ok tt → Clear w ss m js n
 unfolding rows_of
 clear w ss m js n e =
-    let r8 = cond (open_edge w ss m js n) (Refused OpenEdge) Passed in
-    let r7 = cond (muddled w) (Refused Muddled) r8 in
-    let r6 = cond (loose_link w) (Refused Loose) r7 in
-    let r5 = cond (no_such_number w ss m js n) (Refused NoSuch) r6 in
+    let r8 = cond (open_edge w ss m js n) (Err OpenEdge) (Ok tt) in
+    let r7 = cond (muddled w) (Err Muddled) r8 in
+    let r6 = cond (loose_link w) (Err Loose) r7 in
+    let r5 = cond (no_such_number w ss m js n) (Err NoSuch) r6 in
     let a = past (off_the_table w) OffTheTable r5 e in
     let b = past (no_such_number w ss m js n) NoSuch r6 a.1 in
     let c = past (loose_link w) Loose r7 b.1 in
     let d = past (muddled w) Muddled r8 c.1 in
-    let f = past (open_edge w ss m js n) OpenEdge Passed d.1 in
+    let f = past (open_edge w ss m js n) OpenEdge (Ok tt) d.1 in
     record { on_the_table = a.0; numbers = b.0; links = c.0; rings = d.0; edges = f.0 }
 
 -- every owner chain of such a job ends

@@ -1,5 +1,6 @@
 -- Rows 4 to 8 of document 01's table, "each over the whole job": its points and records as words, its m segments and n joins as two lists.
-use Rattle.std.specs.Prelude.{ℕ, ◌*◌, Bool, cond, ◌&&◌, ◌||◌, List, leb, get_or}
+use Rattle.std.specs.Prelude.{ℕ, ◌*◌, Bool, cond, ◌&&◌, ◌||◌, List, leb, get_or, Result, Ok, Err}
+use Rattle.job.specs.declared.refusal.Refusal.{Refusal}
 use Rattle.job.specs.declared.refusal.Refusal.TheVariants.{OffTheTable, NoSuch, Loose, Muddled, OpenEdge}
 use Rattle.store.specs.Words.{view}
 use Rattle.store.specs.Named.{points_of, records_of}
@@ -7,8 +8,6 @@ use Rattle.store.specs.Sound.{is_open}
 use Rattle.audit.specs.Tests.{any_below, off_table, no_such, no_such_of, loose}
 use Rattle.owners.specs.Owners.{circles}
 use Rattle.visits.specs.Rings.{on_ring, alone, estranged}
-use Rattle.audit.specs.declared.Verdict.{Verdict}
-use Rattle.audit.specs.declared.Verdict.TheVariants.{Passed, Refused}
 
 -- row 4: "a coordinate beyond the limit"
 abbrev pub off_the_table : List ℕ → Bool
@@ -40,11 +39,11 @@ abbrev pub open_edge : List ℕ → List ℕ → ℕ → List ℕ → ℕ → Bo
 open_edge w ss m js n = any_below m (λ i. on_open w (get_or ss i 0)) || any_below (2 * n) (λ i. on_open w (get_or js i 0))
 
 -- "4 to 8, each over the whole job", the first that holds
-unfoldable pub rows_of : List ℕ → List ℕ → ℕ → List ℕ → ℕ → Verdict
+unfoldable pub rows_of : List ℕ → List ℕ → ℕ → List ℕ → ℕ → Result (Unit {0}) Refusal
 rows_of w ss m js n =
-    cond (off_the_table w) (Refused OffTheTable)
-    (cond (no_such_number w ss m js n) (Refused NoSuch)
-    (cond (loose_link w) (Refused Loose)
-    (cond (muddled w) (Refused Muddled)
-    (cond (open_edge w ss m js n) (Refused OpenEdge)
-    Passed))))
+    cond (off_the_table w) (Err OffTheTable)
+    (cond (no_such_number w ss m js n) (Err NoSuch)
+    (cond (loose_link w) (Err Loose)
+    (cond (muddled w) (Err Muddled)
+    (cond (open_edge w ss m js n) (Err OpenEdge)
+    (Ok tt)))))

@@ -3,22 +3,22 @@
 
 mod points;
 
-ghost use Rattle.std.specs.Prelude.{◌≡◌, false, ◌*◌, ◌≤◌, length, get_or, replicate};
+ghost use Rattle.std.specs.Prelude.{◌≡◌, false, ◌*◌, ◌≤◌, length, get_or, replicate, Ok, ℕ, Bool};
 ghost use Rattle.job.specs.Limits.{RECORDS};
 ghost use Rattle.store.specs.Field.{BLOCK};
 ghost use Rattle.store.specs.Words.{view};
 ghost use Rattle.store.specs.Named.{points_of, records_of};
 ghost use Rattle.store.specs.Sound.{is_open};
 ghost use Rattle.audit.specs.Tests.{any_below};
-ghost use Rattle.audit.specs.Marks.{fails, Counted};
-ghost use Rattle.audit.specs.declared.Verdict.TheVariants.{Passed};
+ghost use Rattle.audit.specs.Marks.{Counted};
 ghost use Rattle.rows.specs.Rows.{unnamed, no_such_number, on_open, muddled, open_edge, rows_of};
 ghost use Rattle.owners.specs.Owners.{chained};
 ghost use Rattle.rows.specs.Found.{first_rows, last_rows, faulty_point, no_such_beside, Filled, Named};
 ghost use Rattle.joins.specs.Resolve.{home_of};
 ghost use Rattle.owners.specs.Tables.{UNKNOWN, Homes};
 
-use audit::{PointTest, RecordTest, Verdict};
+use audit::points::{loose, no_such, off_table};
+use audit::records::no_such_of;
 use job::Job;
 use job::refusal::Refusal;
 use owners::tables::BLANK;
@@ -26,26 +26,12 @@ use store::{Col, get, read};
 use visits::resolving;
 
 // Whether a point fails the test.
-fn any_point(w: &[u32], t: PointTest) -> bool
-    requires { BLOCK ≤ length w.now }
-    ensures { result ≡ any_below (points_of w.now) (fails t w.now) }
+fn any_point<F: Fn(usize) -> bool>(w: &[u32], fails: F) -> bool
+    requires long { BLOCK ≤ length w.now }
+    requires callable { F.IsAlwaysCallable fails }
+    ensures { (q : ℕ → Bool) → ((k : ℕ) (r : Bool) → F.post fails k r → r ≡ q k) → result ≡ any_below (points_of w.now) q }
 {
-    let m = get(w, Col::Points, 0);
-    let mut k: usize = 0;
-    while k < m {
-        let found = audit::point_fails(w, t, k);
-        if found {
-            return true;
-        }
-        k += 1;
-    }
-    false
-}
-
-fn wide(x: u32) -> usize
-    ensures { result ≡ x }
-{
-    x as usize
+    (0..get(w, Col::Points, 0)).any(|k| fails(k))
 }
 
 // Whether one of the first n numbers of a list names no point.
@@ -54,15 +40,7 @@ fn any_unnamed(w: &[u32], list: &[u32], n: usize) -> bool
     ensures { result ≡ unnamed w.now list.now n }
 {
     let m = get(w, Col::Points, 0);
-    let mut i: usize = 0;
-    while i < n {
-        let p = wide(list[i]);
-        if m <= p {
-            return true;
-        }
-        i += 1;
-    }
-    false
+    list[..n].iter().any(|p| m <= *p as usize)
 }
 
 // Row 5 of all but points: records, segments, joins.
@@ -70,7 +48,7 @@ fn no_such_beside(w: &[u32], segments: &[u32], m: usize, joins: &[u32], n: usize
     requires { Filled w.now segments.now m joins.now n }
     ensures { result ≡ no_such_beside w.now segments.now m joins.now n }
 {
-    let a = audit::any_record(w, RecordTest::Named);
+    let a = (0..get(w, Col::Records, 0)).any(|i| no_such_of(w, i));
     let b = any_unnamed(w, segments, m);
     let c = any_unnamed(w, joins, 2 * n);
     a | (b | c)
@@ -81,7 +59,7 @@ fn no_such_number(w: &[u32], segments: &[u32], m: usize, joins: &[u32], n: usize
     requires { Filled w.now segments.now m joins.now n }
     ensures { result ≡ no_such_number w.now segments.now m joins.now n }
 {
-    let a = any_point(w, PointTest::Numbers);
+    let a = any_point(w, |k| no_such(w, k));
     let b = no_such_beside(w, segments, m, joins, n);
     a | b
 }
@@ -102,16 +80,7 @@ fn any_open(w: &[u32], homes: &[u32], list: &[u32], n: usize) -> bool
     requires { Named w.now list.now n × Homes w.now homes.now }
     ensures { result ≡ any_below n (λ i. on_open w.now (get_or list.now i 0)) }
 {
-    let mut i: usize = 0;
-    while i < n {
-        let p = wide(list[i]);
-        let found = on_open(w, homes, p);
-        if found {
-            return true;
-        }
-        i += 1;
-    }
-    false
+    list[..n].iter().any(|p| on_open(w, homes, *p as usize))
 }
 
 // Row 7, and the table of homes.
@@ -137,17 +106,23 @@ fn open_edge(w: &[u32], homes: &[u32], segments: &[u32], m: usize, joins: &[u32]
 }
 
 // Rows 4 and 5.
-pub fn first_rows(w: &[u32], segments: &[u32], m: usize, joins: &[u32], n: usize) -> Verdict
+pub fn first_rows(
+    w: &[u32],
+    segments: &[u32],
+    m: usize,
+    joins: &[u32],
+    n: usize,
+) -> Result<(), Refusal>
     requires { Filled w.now segments.now m joins.now n }
     ensures { result ≡ first_rows w.now segments.now m joins.now n }
 {
-    if any_point(w, PointTest::Table) {
-        return Verdict::Refused(Refusal::OffTheTable);
+    if any_point(w, |k| off_table(w, k)) {
+        return Err(Refusal::OffTheTable);
     }
     if no_such_number(w, segments, m, joins, n) {
-        return Verdict::Refused(Refusal::NoSuch);
+        return Err(Refusal::NoSuch);
     }
-    Verdict::Passed
+    Ok(())
 }
 
 // Rows 7 and 8, once it is known whether row 7 holds.
@@ -159,22 +134,22 @@ fn last_rows(
     m: usize,
     joins: &[u32],
     n: usize,
-) -> Verdict
-    requires { Filled w.now segments.now m joins.now n × (first_rows w.now segments.now m joins.now n ≡ Passed) × Homes w.now homes.now × (found ≡ muddled w.now) }
+) -> Result<(), Refusal>
+    requires { Filled w.now segments.now m joins.now n × (first_rows w.now segments.now m joins.now n ≡ Ok tt) × Homes w.now homes.now × (found ≡ muddled w.now) }
     ensures { result ≡ last_rows w.now segments.now m joins.now n }
 {
     if found {
-        return Verdict::Refused(Refusal::Muddled);
+        return Err(Refusal::Muddled);
     }
     if open_edge(w, homes, segments, m, joins, n) {
-        return Verdict::Refused(Refusal::OpenEdge);
+        return Err(Refusal::OpenEdge);
     }
-    Verdict::Passed
+    Ok(())
 }
 
 // Rows 7 and 8 by tables, so that chains of any kind take linear time.
-fn by_table(w: &[u32], segments: &[u32], m: usize, joins: &[u32], n: usize) -> Verdict
-    requires { Filled w.now segments.now m joins.now n × (first_rows w.now segments.now m joins.now n ≡ Passed) }
+fn by_table(w: &[u32], segments: &[u32], m: usize, joins: &[u32], n: usize) -> Result<(), Refusal>
+    requires { Filled w.now segments.now m joins.now n × (first_rows w.now segments.now m joins.now n ≡ Ok tt) }
     ensures { result ≡ last_rows w.now segments.now m joins.now n }
 {
     let mut homes = [BLANK; Job::RECORDS];
@@ -183,8 +158,8 @@ fn by_table(w: &[u32], segments: &[u32], m: usize, joins: &[u32], n: usize) -> V
 }
 
 // Rows 7 and 8 without tables: no owner chain circles, and a record with a ring resolves to itself.
-fn plainly(w: &[u32], segments: &[u32], m: usize, joins: &[u32], n: usize) -> Verdict
-    requires { Filled w.now segments.now m joins.now n × (first_rows w.now segments.now m joins.now n ≡ Passed) × (any_below (records_of w.now) (chained w.now) ≡ false) }
+fn plainly(w: &[u32], segments: &[u32], m: usize, joins: &[u32], n: usize) -> Result<(), Refusal>
+    requires { Filled w.now segments.now m joins.now n × (first_rows w.now segments.now m joins.now n ≡ Ok tt) × (any_below (records_of w.now) (chained w.now) ≡ false) }
     ensures { result ≡ last_rows w.now segments.now m joins.now n }
 {
     let homes = [BLANK; 1];
@@ -193,8 +168,8 @@ fn plainly(w: &[u32], segments: &[u32], m: usize, joins: &[u32], n: usize) -> Ve
 }
 
 // Rows 7 and 8, with tables only where a chain may need them.
-fn ring_rows(w: &[u32], segments: &[u32], m: usize, joins: &[u32], n: usize) -> Verdict
-    requires { Filled w.now segments.now m joins.now n × (first_rows w.now segments.now m joins.now n ≡ Passed) }
+fn ring_rows(w: &[u32], segments: &[u32], m: usize, joins: &[u32], n: usize) -> Result<(), Refusal>
+    requires { Filled w.now segments.now m joins.now n × (first_rows w.now segments.now m joins.now n ≡ Ok tt) }
     ensures { result ≡ last_rows w.now segments.now m joins.now n }
 {
     if owners::any_chained(w) {
@@ -204,41 +179,44 @@ fn ring_rows(w: &[u32], segments: &[u32], m: usize, joins: &[u32], n: usize) -> 
 }
 
 // Rows 6 to 8, of a job that has passed 4 and 5.
-fn later_rows(w: &[u32], segments: &[u32], m: usize, joins: &[u32], n: usize) -> Verdict
-    requires { Filled w.now segments.now m joins.now n × (first_rows w.now segments.now m joins.now n ≡ Passed) }
+fn later_rows(w: &[u32], segments: &[u32], m: usize, joins: &[u32], n: usize) -> Result<(), Refusal>
+    requires { Filled w.now segments.now m joins.now n × (first_rows w.now segments.now m joins.now n ≡ Ok tt) }
     ensures { result ≡ rows_of w.now segments.now m joins.now n }
 {
-    if any_point(w, PointTest::Links) {
-        return Verdict::Refused(Refusal::Loose);
+    if any_point(w, |k| loose(w, k)) {
+        return Err(Refusal::Loose);
     }
     ring_rows(w, segments, m, joins, n)
 }
 
 // Rows 4 to 8, one after the other.
-fn in_order(w: &[u32], segments: &[u32], m: usize, joins: &[u32], n: usize) -> Verdict
+fn in_order(w: &[u32], segments: &[u32], m: usize, joins: &[u32], n: usize) -> Result<(), Refusal>
     requires { Filled w.now segments.now m joins.now n }
     ensures { result ≡ rows_of w.now segments.now m joins.now n }
 {
-    let v = first_rows(w, segments, m, joins, n);
-    match v {
-        Verdict::Passed => later_rows(w, segments, m, joins, n),
-        Verdict::Refused(x) => Verdict::Refused(x),
-    }
+    first_rows(w, segments, m, joins, n)?;
+    later_rows(w, segments, m, joins, n)
 }
 
 // What is left of rows 4 to 8, of a job with no point that fails what rows 4 to 6 ask of it.
-fn rest_of_rows(w: &[u32], segments: &[u32], m: usize, joins: &[u32], n: usize) -> Verdict
+fn rest_of_rows(
+    w: &[u32],
+    segments: &[u32],
+    m: usize,
+    joins: &[u32],
+    n: usize,
+) -> Result<(), Refusal>
     requires { Filled w.now segments.now m joins.now n × (any_below (points_of w.now) (faulty_point w.now) ≡ false) }
     ensures { result ≡ rows_of w.now segments.now m joins.now n }
 {
     if no_such_beside(w, segments, m, joins, n) {
-        return Verdict::Refused(Refusal::NoSuch);
+        return Err(Refusal::NoSuch);
     }
     ring_rows(w, segments, m, joins, n)
 }
 
 // Rows 4 to 8: rows 4 to 6 in one pass over the points, and in their order only where a point fails one.
-pub fn rows(w: &[u32], segments: &[u32], m: usize, joins: &[u32], n: usize) -> Verdict
+pub fn rows(w: &[u32], segments: &[u32], m: usize, joins: &[u32], n: usize) -> Result<(), Refusal>
     requires { Filled w.now segments.now m joins.now n }
     ensures { result ≡ rows_of w.now segments.now m joins.now n }
 {

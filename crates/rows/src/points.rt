@@ -6,11 +6,8 @@ ghost use Rattle.audit.specs.Tests.{any_below, no_such, loose};
 ghost use Rattle.audit.specs.Marks.{Counted};
 ghost use Rattle.rows.specs.Found.{faulty_point};
 
-use job::Job;
+use audit::points::FAR;
 use store::{Col, get};
-
-// The word of the largest coordinate.
-const FAR: usize = 2 * (Job::COORDINATE as usize);
 
 // Whether one of the links of point k is loose; a is its next, b its prev.
 fn is_loose(w: &[u32], k: usize, a: usize, b: usize) -> bool
@@ -45,7 +42,7 @@ fn is_astray(w: &[u32], m: usize, n: usize, k: usize) -> bool
     is_loose(w, k, a, b)
 }
 
-// Whether point k fails one of the three tests.
+// Whether point k fails one of the three tests. (The audit's asks less of prev, and is told the point's next.)
 fn is_faulty(w: &[u32], m: usize, n: usize, k: usize) -> bool
     requires { Counted w.now × (m ≡ points_of w.now) × (n ≡ records_of w.now) × (k < limit.POINTS) }
     ensures { result ≡ faulty_point w.now k }
@@ -68,13 +65,10 @@ pub fn any_faulty(w: &[u32]) -> bool
 {
     let m = get(w, Col::Points, 0);
     let n = get(w, Col::Records, 0);
-    let mut k: usize = 0;
-    while k < m {
-        let found = is_faulty(w, m, n, k);
-        if found {
+    for k in 0..m {
+        if is_faulty(w, m, n, k) {
             return true;
         }
-        k += 1;
     }
     false
 }

@@ -9,21 +9,15 @@ ghost use Rattle.sorting.specs.Columns.{Even};
 
 use job::Job;
 use segment_rows::sort_rows;
-use sorting::{HorzSegment, LAST, load, save};
+use sorting::{HorzSegment, LAST};
 use std::io;
 use streams::fill;
-
-fn wide(x: u8) -> usize
-    ensures { result < 2 ^ 8 }
-{
-    x as usize
-}
 
 fn small(s: &[u8], at: usize) -> usize
     requires { at < length s.now }
     ensures { result < 2 ^ 8 }
 {
-    wide(s[at])
+    usize::from(s[at])
 }
 
 // The key of a segment.
@@ -42,9 +36,8 @@ fn segment_at(s: &[u8], at: usize) -> HorzSegment
     let left = small(s, at + 1);
     let right = small(s, at + 2);
     let forward = small(s, at + 3);
-    let k = key(x, right);
     HorzSegment {
-        key: k,
+        key: key(x, right),
         left,
         right,
         forward,
@@ -62,16 +55,13 @@ fn records_at(s: &[u8], at: usize, n: usize) -> [HorzSegment; Job::SEGMENTS]
         forward: 0,
     };
     let mut list = [blank; Job::SEGMENTS];
-    let mut k: usize = 0;
-    while k < n {
-        let t = segment_at(s, at + 4 * k);
-        list[k] = t;
-        k += 1;
+    for k in 0..n {
+        list[k] = segment_at(s, at + 4 * k);
     }
     list
 }
 
-// The same over parallel slices.
+// The same over parallel slices: document 01, "A form for each place", keeps that covered form (`sorting::sort`) beside the records.
 fn put_segments(
     s: &[u8],
     at: usize,
@@ -83,42 +73,16 @@ fn put_segments(
 )
     requires { (at + 4 * n ≤ length s.now) × (n ≤ length keys.old) × Even keys.old lefts.old rights.old forwards.old }
 {
-    let mut k: usize = 0;
-    while k < n {
+    for k in 0..n {
         let t = segment_at(s, at + 4 * k);
-        save(keys, k, t.key);
-        save(lefts, k, t.left);
-        save(rights, k, t.right);
-        save(forwards, k, t.forward);
-        k += 1;
+        keys[k] = t.key;
+        lefts[k] = t.left;
+        rights[k] = t.right;
+        forwards[k] = t.forward;
     }
 }
 
-fn digit(n: usize) -> u8 {
-    48 + (n % 10) as u8
-}
-
-// A key, after a space.
-fn say_key<R: Print>(rt: &R, k: usize) -> io::Result<()> {
-    if k == LAST {
-        return rt.write_all(b" ---");
-    }
-    let mut word = *b"    ";
-    word[1] = digit(k / 100);
-    word[2] = digit(k / 10);
-    word[3] = digit(k);
-    rt.write_all(&word)
-}
-
-// A number, after a comma.
-fn say<R: Print>(rt: &R, n: usize) -> io::Result<()> {
-    let mut word = *b",   ";
-    word[1] = digit(n / 100);
-    word[2] = digit(n / 10);
-    word[3] = digit(n);
-    rt.write_all(&word)
-}
-
+// Key (--- for one above every x), left point, right point and heading.
 fn say_segment<R: Print>(
     rt: &R,
     key: usize,
@@ -126,21 +90,20 @@ fn say_segment<R: Print>(
     right: usize,
     forward: usize,
 ) -> io::Result<()> {
-    say_key(rt, key)?;
-    say(rt, left)?;
-    say(rt, right)?;
-    say(rt, forward)
+    if key == LAST {
+        print!(rt; " ---")?;
+    } else {
+        print!(rt; " {key:03}")?;
+    }
+    print!(rt; ",{left:03},{right:03},{forward:03}")
 }
 
 // The first n, and the end of the line.
 fn say_records<R: Print>(rt: &R, list: [HorzSegment; Job::SEGMENTS], n: usize) -> io::Result<()>
     requires { n ≤ limit.SEGMENTS }
 {
-    let mut k: usize = 0;
-    while k < n {
-        let t = list[k];
+    for t in &list[..n] {
         say_segment(rt, t.key, t.left, t.right, t.forward)?;
-        k += 1;
     }
     println!(rt)
 }
@@ -155,14 +118,8 @@ fn say_slices<R: Print>(
 ) -> io::Result<()>
     requires { (n ≤ length keys.now) × Even keys.now lefts.now rights.now forwards.now }
 {
-    let mut k: usize = 0;
-    while k < n {
-        let v = load(keys, k);
-        let l = load(lefts, k);
-        let r = load(rights, k);
-        let f = load(forwards, k);
-        say_segment(rt, v, l, r, f)?;
-        k += 1;
+    for k in 0..n {
+        say_segment(rt, keys[k], lefts[k], rights[k], forwards[k])?;
     }
     println!(rt)
 }
@@ -209,13 +166,11 @@ fn one<R: Print>(rt: &R, s: &[u8], at: usize) -> io::Result<usize>
 
 fn run<R: Print>(rt: &R, s: &[u8]) -> io::Result<()> {
     let mut at: usize = 0;
-    let mut left: usize = 65536;
-    while 0 < left {
+    for _ in 0..65536 {
         if s.len() <= at + 1 {
             return Ok(());
         }
         at = one(rt, s, at)?;
-        left -= 1;
     }
     Ok(())
 }

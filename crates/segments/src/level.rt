@@ -20,7 +20,7 @@ fn along(w: &[u32], on: bool, p: usize) -> usize
     get(w, Col::Prev, p)
 }
 
-// What ends a walk: the wall of a ring with a front edge; the other end of a run without one; another segment's x.
+// What ends a walk: the wall of a ring with a front edge; the other end of a run without one; another segment's x. An enum and no closure: the definitions `halts_at` and `run_of` go by its cases.
 #[derive(Clone, Copy)]
 pub enum Halt {
     Wall(usize),
@@ -43,7 +43,7 @@ fn halts(w: &[u32], on: bool, h: Halt, y: usize, p: usize) -> bool
     }
 }
 
-// The walk.
+// The walk, along links: no index is counted.
 fn run(w: &[u32], on: bool, h: Halt, y: usize, start: usize) -> usize
     requires { Ending w.now start h }
     ensures { result ≡ run_of w.now on h y start }

@@ -29,8 +29,7 @@ fn ends(w: &[u32], op: usize, i: usize) -> Ends
     ensures { result ≡ ends_of w.now op i }
 {
     let y = get(w, Col::Y, op);
-    let front = has_front(w, i);
-    if front {
+    if has_front(w, i) {
         return level::walled_ends(w, op, y, i);
     }
     level::free_ends(w, op, y)
@@ -74,9 +73,7 @@ fn segment_through(w: &[u32], op: usize) -> HorzSegment
 {
     let i = home(w, op);
     let e = ends(w, op, i);
-    let p = e.back;
-    let n = e.ahead;
-    set_horz_seg_heading_forward(w, op, p, n)
+    set_horz_seg_heading_forward(w, op, e.back, e.ahead)
 }
 
 // A valid segment takes its left point, unless it is taken.
@@ -115,13 +112,9 @@ pub fn update_segments(w: &[u32], segments: &[u32], n: usize) -> [HorzSegment; J
     };
     let mut list = [blank; Job::SEGMENTS];
     let mut marks = [0u8; Job::POINTS];
-    let mut i = 0;
-    while i < n {
-        let op = point_at(segments, i);
-        let s = segment_through(w, op);
-        let t = claim(&mut marks, s);
-        list[i] = t;
-        i += 1;
+    for i in 0..n {
+        let s = segment_through(w, point_at(segments, i));
+        list[i] = claim(&mut marks, s);
     }
     list
 }

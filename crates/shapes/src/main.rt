@@ -21,21 +21,20 @@ fn refuse<R: Eprint>(rt: &R, x: Refusal) -> io::Result<ExitCode> {
     Ok(ExitCode::SUCCESS)
 }
 
-// Writes to standard output; says so where that does not take all of it.
-fn put<R: Print + Eprint>(rt: &R, bytes: &[u8]) -> io::Result<ExitCode> {
-    write_or_say(rt, "shapes", bytes)
-}
-
 // Writes the answers, or why there are none.
-fn say<R: Print + Eprint>(rt: &R, r: Written, answers: &[u8]) -> io::Result<ExitCode>
+fn say<R: Print + Eprint>(
+    rt: &R,
+    r: Result<Written, Refusal>,
+    answers: &[u8],
+) -> io::Result<ExitCode>
     requires { AnswersWithin r (length answers.now) }
 {
     match r {
-        Written::Paths { closed, open } => {
-            let m = pair_count(closed);
-            put(rt, &answers[..m])
+        Ok(p) => {
+            let m = pair_count(p.closed);
+            write_or_say(rt, "shapes", &answers[..m])
         }
-        Written::Refused(x) => refuse(rt, x),
+        Err(x) => refuse(rt, x),
     }
 }
 

@@ -1,6 +1,6 @@
--- The first of some numbers that passes a test, and the loops that look for it.
+-- The first of some numbers that passes a test.
 use Prim.Native.Nat.{ℕ, zero, suc, ◌+◌, ◌≤◌, ◌<◌}
-use mathlib.Core.Path.{◌≡◌, refl, ap, ◌∙◌, sym}
+use mathlib.Core.Path.{◌≡◌, refl, ap, ◌∙◌, sym, subst}
 use mathlib.Core.Bool.{Bool, true, false, cond}
 use mathlib.Core.List.{List}
 use native.Mathlib.Omega.{arith}
@@ -9,7 +9,9 @@ use lib.Dec.{eqb}
 use borrow.Author.Tests.{lt-ltb, le-ltb}
 use Rattle.store.specs.Field.{STATES}
 use Rattle.store.specs.States.{name_at}
-use Rattle.states.specs.Places.{first_from, lowest, keeps_name, place_of, free_place, keep_place}
+use Rattle.std.specs.Prelude.{Option, None, Some}
+use Rattle.std.specs.Option.{MatchOption}
+use Rattle.states.specs.Places.{first_from, lowest, keeps_name, place_of, free_place, keep_place, Names}
 
 -- ---- the first
 
@@ -65,38 +67,18 @@ module _ (q : ℕ → Bool) where
       ap (λ (b : Bool). cond b p (first_from n q (suc p))) (h p (omega arith) (omega arith))
       ∙ ap (cond (r p) p) (first_same r n (suc p) (λ j a b. h j (omega arith) (omega arith)))
 
--- ---- the loops
-
--- no place below p passes the test
-pub record Searching (q : ℕ → Bool) (p : ℕ) : Type 0 where
-  pub far : p ≤ STATES
-  pub none : (j : ℕ) → j < p → q j ≡ false
-
-pub search_begun : (q : ℕ → Bool) → Searching q 0
-search_begun q = record { far = omega arith; none = λ j h. absurd (omega arith) }
-
-module _ (q : ℕ → Bool) (p : ℕ) (S : Searching q p) where
-  pub search_hit : (b : Bool) → p < STATES → b ≡ q p → b ≡ true → p ≡ lowest q
-  search_hit b l e f = sym (first_is q STATES 0 p (omega arith) (omega arith) (sym e ∙ f) (λ j a h. S.none j h))
-
-  pub search_on : (b : Bool) → p < STATES → b ≡ q p → b ≡ false → Searching q (p + 1)
-  search_on b l e f = record { far = omega arith; none = λ j h. go j h (dec_lt j p) }
-    where
-      go : (j : ℕ) → j < p + 1 → Dec (j < p) → q j ≡ false
-      go j h (yes a) = S.none j a
-      go j h (no a) = let z : j ≡ p = omega arith in ap q z ∙ sym e ∙ f
-
-  pub search_over : STATES ≤ p → STATES ≡ lowest q
-  search_over h = sym (first_none q STATES 0 (λ j a b. S.none j (omega arith)))
-
 -- ---- for the code
 
 pub keeps_is : (w : List ℕ) (n p v : ℕ) → v ≡ name_at w p → eqb v (n + 1) ≡ keeps_name w n p
 keeps_is w n p v e = let z : n + 1 ≡ suc n = omega arith in ap (λ (x : ℕ). eqb x (n + 1)) e ∙ ap (eqb (name_at w p)) z
 
-module _ (w : List ℕ) (n p : ℕ) (e : p ≡ place_of w n) where
-  pub own_place : p < STATES → p ≡ keep_place w n
-  own_place h = rw (lt-ltb (place_of w n) STATES (omega arith)) e
+-- what `find` over the places answers, where the closure computes the test
+pub lowest-by_find : (q : ℕ → Bool) (r : Option ℕ) → MatchOption r ((k : ℕ) → 0 ≤ k → k < STATES → q k ≡ false) (λ i. (0 ≤ i) × (i < STATES) × (q i ≡ true) × ((k : ℕ) → 0 ≤ k → k < i → q k ≡ false)) → Names r (lowest q)
+lowest-by_find q None h = record { low = tt; is = sym (first_none q STATES 0 (λ j a b. h j a (omega arith))) }
+lowest-by_find q (Some i) h = record { low = h.1; is = sym (first_is q STATES 0 i h.0 (omega (arith, h.1)) h.2 h.3) }
 
-  pub new_place : (r : ℕ) → STATES ≤ p → r ≡ free_place w → r ≡ keep_place w n
-  new_place r h f = rw (le-ltb (place_of w n) STATES (omega arith)) f
+pub own_place : (w : List ℕ) (n : ℕ) (p : ℕ) → Names (Some p) (place_of w n) → Names (Some p) (keep_place w n)
+own_place w n p g = record { low = g.low; is = let l : place_of w n < STATES = subst (λ (k : ℕ). k < STATES) g.is g.low in rw (lt-ltb (place_of w n) STATES l) g.is }
+
+pub new_place : (w : List ℕ) (n : ℕ) (r : Option ℕ) → Names None (place_of w n) → Names r (free_place w) → Names r (keep_place w n)
+new_place w n r g f = record { low = f.low; is = let l : STATES ≤ place_of w n = omega (arith, g.is) in rw (le-ltb (place_of w n) STATES l) f.is }

@@ -1,4 +1,3 @@
--- States to come back to: places, the three calls, what copying asks.
+-- States to come back to: places, the three calls.
 pub mod Places
 pub mod Calls
-pub mod Needs

@@ -1,5 +1,6 @@
 -- The place that keeps a name, and the lowest free one.
-use Rattle.std.specs.Prelude.{ℕ, zero, suc, Bool, cond, not, List, eqb, ltb}
+use Rattle.std.specs.Prelude.{ℕ, zero, suc, ◌≡◌, ◌<◌, Bool, Option, IfSome, cond, not, List, eqb, ltb}
+use Rattle.std.specs.Option.{unwrap_or}
 use Rattle.store.specs.Field.{STATES}
 use Rattle.store.specs.States.{word_of_name, is_name, name_at}
 
@@ -11,6 +12,11 @@ first_from (suc n) q p = cond (q p) p (first_from n q (suc p))
 -- the lowest place that passes it; one past all if none does
 abbrev pub lowest : (ℕ → Bool) → ℕ
 lowest q = first_from STATES q 0
+
+-- the place that a number names, if it names one of the four
+pub record Names (r : Option ℕ) (p : ℕ) : Type 0 where
+  pub low : IfSome r (λ k. k < STATES)
+  pub is : unwrap_or r STATES ≡ p
 
 -- place p keeps the name
 abbrev pub keeps_name : List ℕ → ℕ → ℕ → Bool

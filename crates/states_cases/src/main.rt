@@ -2,9 +2,8 @@
 // After every call the counts of points and records follow.
 #![tactic(auto)]
 
-use audit::Reply;
 use finishing::{open, step};
-use opening::open::Opened;
+use job::refusal::Refusal;
 use states::{drop, go_back, keep};
 use std::io;
 use store::{BLOCK, Col, LENGTH, read};
@@ -17,39 +16,33 @@ fn line<R: Print>(rt: &R, w: &[u32; LENGTH], call: &str, name: u8, answer: u32) 
     println!(rt; "{call} {name} {answer} {m} {n}")
 }
 
-fn number(a: Reply) -> u32 {
+fn number(a: Result<(), Refusal>) -> u32 {
     match a {
-        Reply::Done => 0,
-        Reply::Refused(r) => r.number(),
+        Ok(()) => 0,
+        Err(r) => r.number(),
     }
 }
 
 fn keeps<R: Print>(rt: &R, w: &mut [u32; LENGTH], name: u8) -> io::Result<()> {
-    let a = keep(w, name);
-    let k = number(a);
+    let k = number(keep(w, name));
     line(rt, w, "keep", name, k)
 }
 
 fn goes_back<R: Print>(rt: &R, w: &mut [u32; LENGTH], name: u8) -> io::Result<()> {
-    let a = go_back(w, name);
-    let k = number(a);
+    let k = number(go_back(w, name));
     line(rt, w, "back", name, k)
 }
 
 fn drops<R: Print>(rt: &R, w: &mut [u32; LENGTH], name: u8) -> io::Result<()> {
-    let a = drop(w, name);
-    let k = number(a);
+    let k = number(drop(w, name));
     line(rt, w, "drop", name, k)
 }
 
 // Steps on record 0.
 fn steps<R: Print>(rt: &R, w: &mut [u32; LENGTH], many: u8) -> io::Result<()> {
-    let mut left = many;
-    while 0 < left {
-        let a = step(w, 0);
-        let k = number(a);
+    for _ in 0..many {
+        let k = number(step(w, 0));
         line(rt, w, "step", 0, k)?;
-        left -= 1;
     }
     Ok(())
 }
@@ -90,11 +83,11 @@ fn twice<R: Print>(rt: &R, w: &mut [u32; LENGTH]) -> io::Result<()> {
 }
 
 fn run<R: Print>(rt: &R, job: &[u8], w: &mut [u32; LENGTH]) -> io::Result<()> {
-    let o = open(job, w);
+    let _ = open(job, w);
     names(rt, w)?;
     returns(rt, w)?;
     twice(rt, w)?;
-    let again = open(job, w);
+    let _ = open(job, w);
     goes_back(rt, w, 0)
 }
 

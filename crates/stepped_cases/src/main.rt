@@ -9,22 +9,21 @@ ghost use Rattle.std.specs.Prelude.{◌≤◌, length};
 ghost use Rattle.store.specs.Field.{BLOCK};
 ghost use Rattle.store.specs.Good.{SoundWords};
 
-use crate::print::{print, print_act, print_due, print_refusal, print_store};
-use crate::progress::{due_of, is_done, set_all};
-use audit::{Reply, Verdict};
+use crate::print::{print_act, print_due, print_refusal, print_store};
+use crate::progress::{due_of, set_all};
 use finishing::{step, write_out};
 use handed::handed;
 use job::Job;
-use listing::{Listed, TEXT};
-use opening::open::{Opened, open};
-use paths::{TRAY, Written};
+use listing::TEXT;
+use opening::open::open;
+use paths::TRAY;
 use std::io;
 use steps::step::is_live;
 use store::{Col, LENGTH, read};
 use streams::fill;
 use test_text::{first, from, further, number_at};
-use turns::Act;
 use turns::decide::decide;
+use turns::{Act, Due};
 
 // ---- a step
 
@@ -32,22 +31,16 @@ use turns::decide::decide;
 fn act_on(w: &[u32], i: usize) -> Act
     requires { SoundWords w.now }
 {
-    let live = is_live(w, i);
-    if live {
+    if is_live(w, i) {
         return decide(w, i);
     }
     Act::Stay
 }
 
 fn act_of(w: &[u32], i: usize) -> Act {
-    let v = handed(w);
-    match v {
-        Verdict::Passed => {
-            return act_on(w, i);
-        }
-        Verdict::Refused(_) => {
-            return Act::Stay;
-        }
+    match handed(w) {
+        Ok(()) => act_on(w, i),
+        Err(_) => Act::Stay,
     }
 }
 
@@ -59,9 +52,9 @@ fn tell_step<R: Print>(rt: &R, w: &mut [u32; LENGTH], i: usize) -> io::Result<bo
     let d = due_of(w, i);
     let a = act_of(w, i);
     let s = step(w, i as u32);
-    print(rt, i)?;
+    rt.print(i)?;
     match s {
-        Reply::Done => {
+        Ok(()) => {
             let e = due_of(w, i);
             print_due(rt, d)?;
             print_act(rt, a)?;
@@ -70,7 +63,7 @@ fn tell_step<R: Print>(rt: &R, w: &mut [u32; LENGTH], i: usize) -> io::Result<bo
             println!(rt)?;
             Ok(true)
         }
-        Reply::Refused(r) => {
+        Err(r) => {
             print!(rt; " ")?;
             print_refusal(rt, r)?;
             Ok(false)
@@ -82,13 +75,10 @@ fn tell_step<R: Print>(rt: &R, w: &mut [u32; LENGTH], i: usize) -> io::Result<bo
 
 // A step on record i, unless it is done; answers the record to look at next, one past all after a refusal.
 fn turn<R: Print>(rt: &R, w: &mut [u32; LENGTH], i: usize) -> io::Result<usize> {
-    let d = due_of(w, i);
-    let done = is_done(d);
-    if done {
+    if matches!(due_of(w, i), Due::Done) {
         return Ok(further(i, 1));
     }
-    let granted = tell_step(rt, w, i)?;
-    if granted {
+    if tell_step(rt, w, i)? {
         return Ok(i);
     }
     Ok(Job::RECORDS)
@@ -97,14 +87,11 @@ fn turn<R: Print>(rt: &R, w: &mut [u32; LENGTH], i: usize) -> io::Result<usize> 
 // Every ring to done, in rising record order.
 fn rising<R: Print>(rt: &R, w: &mut [u32; LENGTH]) -> io::Result<()> {
     let mut i: usize = 0;
-    let mut left: u32 = 100000;
-    while 0 < left {
-        let n = read(w, Col::Records, 0);
-        if n <= i {
+    for _ in 0..100000 {
+        if read(w, Col::Records, 0) <= i {
             return Ok(());
         }
         i = turn(rt, w, i)?;
-        left -= 1;
     }
     Ok(())
 }
@@ -112,15 +99,13 @@ fn rising<R: Print>(rt: &R, w: &mut [u32; LENGTH]) -> io::Result<()> {
 // The steps of a list of record numbers, two bytes each.
 fn listed<R: Print>(rt: &R, w: &mut [u32; LENGTH], steps: &[u8]) -> io::Result<()> {
     let mut at: usize = 0;
-    let mut left: u32 = 100000;
-    while 0 < left {
+    for _ in 0..100000 {
         if steps.len() <= at {
             return Ok(());
         }
         let i = number_at(steps, at);
         tell_step(rt, w, i)?;
         at = further(at, 2);
-        left -= 1;
     }
     Ok(())
 }
@@ -131,16 +116,12 @@ fn listed<R: Print>(rt: &R, w: &mut [u32; LENGTH], steps: &[u8]) -> io::Result<(
 fn list<R: Print>(rt: &R, work: &[u32], tray: &mut [u8], out: &mut [u8]) -> io::Result<usize>
     requires { BLOCK ≤ length work.now }
 {
-    let r = write_out(work, tray);
-    match r {
-        Written::Paths { closed, open } => {
+    match write_out(work, tray) {
+        Ok(p) => {
             let rev = paths::reverse_solution(work);
-            let Listed::Bytes(n) = listing::listing(tray, closed, open, rev, out) else {
-                return Ok(0);
-            };
-            Ok(n)
+            Ok(listing::listing(tray, p.closed, p.open, rev, out).unwrap_or(0))
         }
-        Written::Refused(x) => {
+        Err(x) => {
             print_refusal(rt, x)?;
             Ok(0)
         }
@@ -184,10 +165,9 @@ fn run_case<R: Print>(
     progress: &[u8],
     steps: &[u8],
 ) -> io::Result<()> {
-    let a = open(job, w);
-    match a {
-        Opened::Accepted => run_opened(rt, w, progress, steps),
-        Opened::Refused(r) => print_refusal(rt, r),
+    match open(job, w) {
+        Ok(()) => run_opened(rt, w, progress, steps),
+        Err(r) => print_refusal(rt, r),
     }
 }
 
@@ -204,8 +184,7 @@ fn past(s: &[u8], at: usize) -> usize {
 
 fn run<R: Print>(rt: &R, s: &[u8], w: &mut [u32; LENGTH]) -> io::Result<()> {
     let mut at: usize = 0;
-    let mut k: usize = 0;
-    while k < 1000 {
+    for k in 0..1000 {
         if s.len() <= at {
             return Ok(());
         }
@@ -214,7 +193,6 @@ fn run<R: Print>(rt: &R, s: &[u8], w: &mut [u32; LENGTH]) -> io::Result<()> {
         println!(rt; "case {k}")?;
         run_case(rt, w, part(s, at), part(s, b), part(s, c))?;
         at = past(s, c);
-        k += 1;
     }
     Ok(())
 }

@@ -11,97 +11,43 @@ use test_text::first;
 use test_text::ring::{TEXT, put_ring};
 use turns::{Act, Due};
 
-fn say<R: Print>(rt: &R, text: &[u8]) -> io::Result<()> {
-    rt.write_all(text)
-}
-
-pub(crate) fn print<R: Print>(rt: &R, n: usize) -> io::Result<()> {
-    rt.print(n)
-}
-
 pub(crate) fn print_refusal<R: Print>(rt: &R, r: Refusal) -> io::Result<()> {
-    let n = r.number();
-    println!(rt; "refused {n}")
+    println!(rt; "refused {}", r.number())
 }
 
+// The words are the oracle's, not the crate turns' own: a Display there would say them for every program.
 pub(crate) fn print_due<R: Print>(rt: &R, d: Due) -> io::Result<()> {
     match d {
-        Due::Validity => say(rt, b" validity"),
-        Due::Removal => say(rt, b" removal"),
-        Due::Triangle => say(rt, b" triangle"),
-        Due::Split => say(rt, b" split"),
-        Due::Done => say(rt, b" done"),
+        Due::Validity => print!(rt; " validity"),
+        Due::Removal => print!(rt; " removal"),
+        Due::Triangle => print!(rt; " triangle"),
+        Due::Split => print!(rt; " split"),
+        Due::Done => print!(rt; " done"),
     }
 }
 
-fn long(x: i32) -> i64 {
-    x as i64
-}
-
-// The size of a number.
-fn size(a: i64) -> usize {
-    if a < 0 {
-        return (0 - (a + 1)) as usize + 1;
-    }
-    a as usize
-}
-
-fn print_signed<R: Print>(rt: &R, x: i32) -> io::Result<()> {
-    let n = size(long(x));
-    if x < 0 {
-        say(rt, b"-")?;
-    }
-    print(rt, n)
-}
-
-fn below(z: u32) -> u64 {
-    4294967296 - z as u64
-}
-
-// The signed number that a depth's word is.
-fn print_depth<R: Print>(rt: &R, z: u32) -> io::Result<()> {
-    if z < 2147483648 {
-        return rt.print(z);
-    }
-    let n = below(z);
-    print!(rt; "-{n}")
-}
-
+// The depth's word is that of a signed number.
 fn print_cut<R: Print>(rt: &R, v: Point, put: bool, off: bool) -> io::Result<()> {
-    say(rt, b" cut ")?;
-    print_signed(rt, v.x)?;
-    say(rt, b",")?;
-    print_signed(rt, v.y)?;
-    say(rt, b",")?;
-    print_depth(rt, v.z)?;
-    if put {
-        say(rt, b" point")?;
-    } else {
-        say(rt, b" spliced")?;
-    }
-    if off {
-        say(rt, b" offcut")
-    } else {
-        say(rt, b" nothing")
-    }
-}
-
-// To the first point: a test finds nothing against the ring, or the triangle test ends it.
-fn print_to_first<R: Print>(rt: &R, d: Due) -> io::Result<()> {
-    match d {
-        Due::Done => say(rt, b" settle"),
-        _ => say(rt, b" begin"),
-    }
+    let point = if put { "point" } else { "spliced" };
+    let offcut = if off { "offcut" } else { "nothing" };
+    print!(rt;
+        " cut {},{},{} {point} {offcut}",
+        v.x,
+        v.y,
+        v.z.cast_signed()
+    )
 }
 
 pub(crate) fn print_act<R: Print>(rt: &R, a: Act) -> io::Result<()> {
     match a {
-        Act::Stay => say(rt, b" stay"),
-        Act::Discard(_) => say(rt, b" discard"),
-        Act::Drop => say(rt, b" drop"),
-        Act::MoveOn(_) => say(rt, b" move"),
-        Act::ToFirst(d) => print_to_first(rt, d),
-        Act::Double(_, _) => say(rt, b" double"),
+        Act::Stay => print!(rt; " stay"),
+        Act::Discard(_) => print!(rt; " discard"),
+        Act::Drop => print!(rt; " drop"),
+        Act::MoveOn(_) => print!(rt; " move"),
+        // A test finds nothing against the ring, or the triangle test ends it.
+        Act::ToFirst(Due::Done) => print!(rt; " settle"),
+        Act::ToFirst(_) => print!(rt; " begin"),
+        Act::Double(_, _) => print!(rt; " double"),
         Act::Cut(v, put, off, _) => print_cut(rt, v, put, off),
     }
 }
@@ -112,7 +58,7 @@ fn print_ring<R: Print>(rt: &R, w: &[u32], a: usize) -> io::Result<()>
 {
     let mut text = [0u8; TEXT];
     let n = put_ring(w, false, a, &mut text, 0);
-    say(rt, first(&text, n))
+    rt.write_all(first(&text, n))
 }
 
 fn print_record<R: Print>(rt: &R, w: &[u32], i: usize) -> io::Result<()>
@@ -128,10 +74,8 @@ fn print_record<R: Print>(rt: &R, w: &[u32], i: usize) -> io::Result<()>
 fn print_records<R: Print>(rt: &R, w: &[u32], n: usize) -> io::Result<()>
     requires { BLOCK ≤ length w.now }
 {
-    let mut i: usize = 0;
-    while i < n {
+    for i in 0..n {
         print_record(rt, w, i)?;
-        i += 1;
     }
     Ok(())
 }

@@ -26,16 +26,6 @@ pub(crate) fn due_of(w: &[u32], i: usize) -> Due
     due_at(w, i)
 }
 
-pub(crate) fn is_done(d: Due) -> bool {
-    match d {
-        Due::Validity => false,
-        Due::Removal => false,
-        Due::Triangle => false,
-        Due::Split => false,
-        Due::Done => true,
-    }
-}
-
 // The point k places along next from the first of record i; none for a k that is none.
 fn place(w: &[u32], i: usize, k: usize) -> usize
     requires { BLOCK ≤ length w.now }
@@ -45,10 +35,8 @@ fn place(w: &[u32], i: usize, k: usize) -> usize
         return NONE;
     }
     let mut p = read(w, Col::First, i);
-    let mut left = k;
-    while 0 < left {
+    for _ in 0..k {
         p = read(w, Col::Next, p);
-        left -= 1;
     }
     p
 }
@@ -69,13 +57,11 @@ fn set_one(w: &mut [u32; LENGTH], s: &[u8], at: usize) {
 // The progress of some records.
 pub(crate) fn set_all(w: &mut [u32; LENGTH], s: &[u8]) {
     let mut at: usize = 0;
-    let mut left: u32 = 100000;
-    while 0 < left {
+    for _ in 0..100000 {
         if s.len() <= at {
             return;
         }
         set_one(w, s, at);
         at = further(at, 8);
-        left -= 1;
     }
 }

@@ -28,7 +28,10 @@ use Rattle.acts.proofs.Finishing.{settings_kept, finishes_step, words_fall, word
 use Rattle.turns.specs.Form.{raised, geometry_of}
 use Rattle.turns.proofs.Ready.{laws}
 use Rattle.steps.specs.declared.coming.Coming.{Coming}
-use Rattle.steps.specs.Code.{is_full}
+use Rattle.std.specs.Prelude.{Result, Ok, Err, ⊤}
+use Rattle.steps.specs.declared.StepError.{StepError}
+use Rattle.steps.specs.declared.StepError.TheVariants.{Full, OutOfTurn}
+use Rattle.steps.specs.Code.{error_is, answer_is}
 use Rattle.steps.specs.Glide.{Glided, still, onward, Glides}
 
 -- finishing record i of the words w₀ stands at w
@@ -112,18 +115,24 @@ glide_falls : (w₀ : List ℕ) (i : ℕ) (w u : List ℕ) → Running w₀ i w 
 glide_falls w₀ i w u R still = omega arith
 glide_falls w₀ i w u R (onward t v g e) = omega (arith, glide_falls w₀ i w t R g, fallen w₀ i t (glide_running w₀ i w t R g) v ok e false refl refl)
 
-module _ (w₀ : List ℕ) (i : ℕ) (w : List ℕ) (R : Running w₀ i w) (u : List ℕ) (l : Coming) (g : Glides i w u l) (w' : List ℕ) (a : Answer) (e : outcome a w' ≡ step_words (geometry_of (view u)) raised u i) (b : Bool) (eb : b ≡ not (is_ok a)) where
+module _ (w₀ : List ℕ) (i : ℕ) (w : List ℕ) (R : Running w₀ i w) (u : List ℕ) (l : Coming) (g : Glides i w u l) (w' : List ℕ) (a : Result ⊤ StepError) (e : outcome (answer_is a) w' ≡ step_words (geometry_of (view u)) raised u i) where
   there : Running w₀ i u
   there = glide_running w₀ i w u R g.glided
 
-  pub next_on : b ≡ false → Running w₀ i w'
-  next_on h = next w₀ i u there w' a e b eb h
+  pub next_on : (x : ⊤) → a ≡ Ok x → Running w₀ i w'
+  next_on x h = next w₀ i u there w' (answer_is a) e false (ap (λ (y : Result ⊤ StepError). not (is_ok (answer_is y))) (sym h)) refl
 
-  pub fallen_on : b ≡ false → words_left (geometry_of (view w₀)) raised w' i < words_left (geometry_of (view w₀)) raised w i
-  fallen_on h = omega (arith, glide_falls w₀ i w u R g.glided, fallen w₀ i u there w' a e b eb h)
+  pub fallen_on : (x : ⊤) → a ≡ Ok x → words_left (geometry_of (view w₀)) raised w' i < words_left (geometry_of (view w₀)) raised w i
+  fallen_on x h = omega (arith, glide_falls w₀ i w u R g.glided, fallen w₀ i u there w' (answer_is a) e false (ap (λ (y : Result ⊤ StepError). not (is_ok (answer_is y))) (sym h)) refl)
 
-  pub stop_on : b ≡ true → outcome a w' ≡ finish_record (geometry_of (view w₀)) raised w₀ i
-  stop_on h = stop w₀ i u there w' a e b eb h
+  pub stop_on : (x : StepError) → a ≡ Err x → outcome (error_is x) w' ≡ finish_record (geometry_of (view w₀)) raised w₀ i
+  stop_on x h =
+      ap (λ (y : Result ⊤ StepError). outcome (answer_is y) w') (sym h)
+      ∙ stop w₀ i u there w' (answer_is a) e true (sym (ap (λ (y : Result ⊤ StepError). not (is_ok (answer_is y))) h ∙ no_ok x)) refl
+    where
+      no_ok : (x : StepError) → not (is_ok (error_is x)) ≡ true
+      no_ok Full = refl
+      no_ok OutOfTurn = refl
 
 -- a number that is no record's: the step is out of turn, and finishing it changes nothing
 module _ (G : Geo Point) (w : List ℕ) where
@@ -159,7 +168,10 @@ module _ (w₀ : List ℕ) (i : ℕ) (w : List ℕ) (R : Remaining w₀ i w) whe
   pub finishes_now : MayFinish (geometry_of (view w)) raised w
   finishes_now = subst (λ (s : ℕ). MayFinish (plane (eqb (s % 2) 1)) raised w) (sym R.same) R.finishes
 
-  module _ (l : i < 512) (w' : List ℕ) (a : Answer) (e : outcome a w' ≡ finish_record (geometry_of (view w)) raised w i) where
+  module _ (l : i < 512) (w' : List ℕ) (x : StepError) (e : outcome (error_is x) w' ≡ finish_record (geometry_of (view w)) raised w i) where
+    abbrev a : Answer
+    a = error_is x
+
     finished : outcome a w' ≡ finish_record (geometry_of (view w₀)) raised w i
     finished = subst (λ (s : ℕ). outcome a w' ≡ finish_record (plane (eqb (s % 2) 1)) raised w i) R.same e
 
@@ -170,29 +182,25 @@ module _ (w₀ : List ℕ) (i : ℕ) (w : List ℕ) (R : Remaining w₀ i w) whe
         ∙ ap (λ (o : Outcome). and_then o (λ (u : List ℕ). finish_from_w (geometry_of (view w₀)) raised (512 - (i + 1)) u (suc i))) (sym finished)
         ∙ ap (λ (j : ℕ). and_then (outcome a w') (λ (u : List ℕ). finish_from_w (geometry_of (view w₀)) raised (512 - (i + 1)) u j)) (sym (add-one i))
 
-    module _ (b : Bool) (eb : b ≡ is_full a) where
-      pub next_all : b ≡ false → Remaining w₀ (i + 1) w'
-      next_all h =
-          record {
-            finishes = finishes_record (geometry_of (view w₀)) raised (laws (preserve_collinear (view w₀))) w i a w' R.finishes finished;
-            same = settings_record (geometry_of (view w₀)) raised (laws (preserve_collinear (view w₀))) w i a w' R.finishes finished ∙ R.same;
-            size = length_record (geometry_of (view w₀)) raised (laws (preserve_collinear (view w₀))) w i a w' finished ∙ R.size;
-            low = omega arith;
-            is = here ∙ go a (sym eb ∙ h);
-          }
-        where
-          go : (x : Answer) → is_full x ≡ false → and_then (outcome x w') (λ (u : List ℕ). finish_from_w (geometry_of (view w₀)) raised (512 - (i + 1)) u (i + 1)) ≡ finish_from_w (geometry_of (view w₀)) raised (512 - (i + 1)) w' (i + 1)
-          go ok h = refl
-          go full h = let y : ◌≡◌ {A = ℕ} 0 1 = cc in absurd (omega arith)
-          go out_of_turn h = refl
+    by_answer : (y : StepError) → x ≡ y → finish_w (geometry_of (view w₀)) raised w₀ ≡ and_then (outcome (error_is y) w') (λ (u : List ℕ). finish_from_w (geometry_of (view w₀)) raised (512 - (i + 1)) u (i + 1))
+    by_answer y h = here ∙ ap (λ (z : StepError). and_then (outcome (error_is z) w') (λ (u : List ℕ). finish_from_w (geometry_of (view w₀)) raised (512 - (i + 1)) u (i + 1))) h
 
-      pub stop_all : b ≡ true → rings_full w' ≡ finish_w (geometry_of (view w₀)) raised w₀
-      stop_all h = sym (here ∙ go a (sym eb ∙ h))
-        where
-          go : (x : Answer) → is_full x ≡ true → and_then (outcome x w') (λ (u : List ℕ). finish_from_w (geometry_of (view w₀)) raised (512 - (i + 1)) u (i + 1)) ≡ rings_full w'
-          go ok h = let y : ◌≡◌ {A = ℕ} 0 1 = cc in absurd (omega arith)
-          go full h = refl
-          go out_of_turn h = let y : ◌≡◌ {A = ℕ} 0 1 = cc in absurd (omega arith)
+    pub next_all : (x ≡ Full → ⊥) → Remaining w₀ (i + 1) w'
+    next_all h =
+        record {
+          finishes = finishes_record (geometry_of (view w₀)) raised (laws (preserve_collinear (view w₀))) w i a w' R.finishes finished;
+          same = settings_record (geometry_of (view w₀)) raised (laws (preserve_collinear (view w₀))) w i a w' R.finishes finished ∙ R.same;
+          size = length_record (geometry_of (view w₀)) raised (laws (preserve_collinear (view w₀))) w i a w' finished ∙ R.size;
+          low = omega arith;
+          is = by_answer OutOfTurn (go x h);
+        }
+      where
+        go : (y : StepError) → (y ≡ Full → ⊥) → y ≡ OutOfTurn
+        go Full f = absurd (f refl)
+        go OutOfTurn f = refl
+
+    pub stop_all : x ≡ Full → rings_full w' ≡ finish_w (geometry_of (view w₀)) raised w₀
+    stop_all h = sym (by_answer Full h)
 
   pub long_all : BLOCK ≤ length w
   long_all = R.finishes.rep.long

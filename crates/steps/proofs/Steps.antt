@@ -7,7 +7,7 @@ use mathlib.Core.List.{List}
 use native.Mathlib.Omega.{arith}
 use lib.Dec.{eqb, ltb, leb}
 use borrow.Author.Tests.{eq-eqb, ne_eqb, lt-ltb, le-ltb, le-leb, leb-true}
-use Rattle.rings.specs.Progress.{Due, is_done}
+use Rattle.rings.specs.Progress.{is_done}
 use Rattle.geometry.specs.declared.Point.{Point}
 use Rattle.lone.specs.Act.{Act, cut, takes_points}
 use Rattle.lone.specs.Forest.{ok, full, out_of_turn}
@@ -31,7 +31,8 @@ use Rattle.turns.specs.Form.{raised, geometry_of}
 use Rattle.turns.specs.Reads.{Steps, Going}
 use Rattle.turns.proofs.Ready.{laws, in_codes, going}
 use Rattle.boxes.specs.AtHand.{changes_at}
-use Rattle.steps.specs.declared.Answer.TheVariants.{Ok, Full}
+use Rattle.std.specs.Prelude.{Ok, Err}
+use Rattle.steps.specs.declared.StepError.TheVariants.{Full}
 use Rattle.steps.specs.Foretold.{Foretold}
 use Rattle.applying.specs.Applies.{NewIn, Applies}
 use Rattle.applying.proofs.Applying.{reach}
@@ -102,11 +103,11 @@ module _ (w : List ℕ) (i : ℕ) (s : Steps w i) (act : Act Point) (e : act ≡
 -- ---- what it tells of the box
 
 module _ (w : List ℕ) (i : ℕ) where
-  pub foretold : (act : Act Point) (changes : Bool) → act ≡ act_at (geometry_of (view w)) raised (view w) i → changes ≡ changes_at (sides_at w i) (view w) (view w (rc PRESENT) i) act → Foretold w i Ok changes
-  foretold act changes e h = record { told = λ z. h ∙ ap (changes_at (sides_at w i) (view w) (view w (rc PRESENT) i)) e }
+  pub foretold : (act : Act Point) (changes : Bool) → act ≡ act_at (geometry_of (view w)) raised (view w) i → changes ≡ changes_at (sides_at w i) (view w) (view w (rc PRESENT) i) act → Foretold w i (Ok changes)
+  foretold act changes e h = record { told = λ c z. let y : c ≡ changes = cc z in y ∙ h ∙ ap (changes_at (sides_at w i) (view w) (view w (rc PRESENT) i)) e }
 
-  pub not_told : Foretold w i Full false
-  not_told = record { told = λ z. absurd (let y : ◌≡◌ {A = ℕ} 0 1 = cc in omega arith) }
+  pub not_told : Foretold w i (Err Full)
+  not_told = record { told = λ c z. absurd (let y : ◌≡◌ {A = ℕ} 0 1 = cc in omega arith) }
 
   pub goes : Steps w i → Going w i
   goes s = going w i s

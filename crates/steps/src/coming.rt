@@ -1,5 +1,6 @@
 // The step that comes next, as a walk leaves it, and that step: a point that the walk found to be dropped is not tested again.
 ghost use Rattle.std.specs.Prelude.{◌≡◌};
+ghost use Rattle.lone.specs.Forest.{ok};
 ghost use Rattle.store.specs.Words.{view};
 ghost use Rattle.store.specs.Good.{SoundWords};
 ghost use Rattle.acts.specs.Step.{outcome};
@@ -8,7 +9,7 @@ ghost use Rattle.turns.specs.Form.{raised, geometry_of};
 ghost use Rattle.steps.specs.Code.{answer_is};
 ghost use Rattle.steps.specs.Expects.{Dropping, Expects};
 
-use crate::Answer;
+use crate::StepError;
 use crate::step::step_ring;
 use applying::{discard_ring, drop_point};
 use turns::Discard;
@@ -23,34 +24,31 @@ pub enum Coming {
 }
 
 // The present point x goes out, or the ring with it.
-fn drop_at(w: &mut [u32], i: usize, x: usize) -> Answer
+fn drop_at(w: &mut [u32], i: usize, x: usize)
     requires { Dropping w.old i x }
-    ensures { outcome (answer_is result) w.new ≡ step_words (geometry_of (view w.old)) raised w.old i }
+    ensures { outcome ok w.new ≡ step_words (geometry_of (view w.old)) raised w.old i }
 {
-    let valid = valid_without(w, x);
-    if valid {
+    if valid_without(w, x) {
         drop_point(w, i);
-        return Answer::Ok;
+        return;
     }
     discard_ring(w, i, Discard::WhileRemoving);
-    Answer::Ok
 }
 
 // The step on record i that comes next.
-pub fn step_coming(w: &mut [u32], i: usize, c: Coming) -> Answer
+pub fn step_coming(w: &mut [u32], i: usize, c: Coming) -> Result<(), StepError>
     requires { SoundWords w.old × Expects c w.old i }
     ensures { outcome (answer_is result) w.new ≡ step_words (geometry_of (view w.old)) raised w.old i }
 {
     match c {
-        Coming::Nothing => {
-            return Answer::OutOfTurn;
-        }
+        Coming::Nothing => Err(StepError::OutOfTurn),
         Coming::Step => {
-            let s = step_ring(w, i);
-            return s.answer;
+            step_ring(w, i)?;
+            Ok(())
         }
         Coming::Drop(x) => {
-            return drop_at(w, i, x);
+            drop_at(w, i, x);
+            Ok(())
         }
     }
 }

@@ -36,8 +36,7 @@ fn gone_at(w: &[u32], p: usize, x: usize, n: usize) -> bool
     let a = point_at(w, p);
     let b = point_at(w, x);
     let c = point_at(w, n);
-    let line = geometry::is_collinear(a, b, c);
-    if !line {
+    if !geometry::is_collinear(a, b, c) {
         return false;
     }
     removable_at(w, p, x, n)
@@ -51,11 +50,9 @@ fn removal_walk(w: &[u32], i: usize) -> WalkEnd
     let s = get(w, Col::Start, i);
     let mut x = present_of(w, i);
     let mut p = prev_of(w, x);
-    let mut left: usize = Job::POINTS;
-    while 0 < left {
+    for _ in 0..Job::POINTS {
         let n = next_of(w, x);
-        let gone = gone_at(w, p, x, n);
-        if gone {
+        if gone_at(w, p, x, n) {
             return WalkEnd::Gone(x);
         }
         if n == s {
@@ -63,7 +60,6 @@ fn removal_walk(w: &[u32], i: usize) -> WalkEnd
         }
         p = x;
         x = n;
-        left -= 1;
     }
     WalkEnd::At(x)
 }
@@ -90,11 +86,9 @@ fn split_walk(w: &[u32], i: usize) -> WalkEnd
     let s = get(w, Col::Start, i);
     let mut x = present_of(w, i);
     let mut p = prev_of(w, x);
-    let mut left: usize = Job::POINTS;
-    while 0 < left {
+    for _ in 0..Job::POINTS {
         let y = next_of(w, x);
-        let hit = crosses_at(w, p, x, y);
-        if hit {
+        if crosses_at(w, p, x, y) {
             return WalkEnd::At(x);
         }
         if y == f {
@@ -105,7 +99,6 @@ fn split_walk(w: &[u32], i: usize) -> WalkEnd
         }
         p = x;
         x = y;
-        left -= 1;
     }
     WalkEnd::At(x)
 }
@@ -116,18 +109,11 @@ fn put_end(w: &mut [u32], i: usize, r: WalkEnd, m: usize)
     ensures { w.new ≡ leaves m w.old i r }
 {
     match r {
-        WalkEnd::At(x) => {
-            set(w, Col::Present, i, x);
-            return;
-        }
-        WalkEnd::Gone(x) => {
-            set(w, Col::Present, i, x);
-            return;
-        }
+        WalkEnd::At(x) => set(w, Col::Present, i, x),
+        WalkEnd::Gone(x) => set(w, Col::Present, i, x),
         WalkEnd::Past(x) => {
             set(w, Col::Present, i, x);
             set(w, Col::Mark, i, m);
-            return;
         }
     }
 }
@@ -168,23 +154,10 @@ fn glide_ring(w: &mut [u32], i: usize) -> Coming
     requires { Steps w.old i }
     ensures { Glides i w.old w.new result }
 {
-    let d = due_at(w, i);
-    match d {
-        Due::Validity => {
-            return Coming::Step;
-        }
-        Due::Removal => {
-            return glide_removal(w, i);
-        }
-        Due::Triangle => {
-            return Coming::Step;
-        }
-        Due::Split => {
-            return glide_split(w, i);
-        }
-        Due::Done => {
-            return Coming::Step;
-        }
+    match due_at(w, i) {
+        Due::Removal => glide_removal(w, i),
+        Due::Split => glide_split(w, i),
+        Due::Validity | Due::Triangle | Due::Done => Coming::Step,
     }
 }
 
@@ -193,8 +166,7 @@ pub fn glide(w: &mut [u32], i: usize) -> Coming
     requires { SoundWords w.old }
     ensures { Glides i w.old w.new result }
 {
-    let live = is_live(w, i);
-    if live {
+    if is_live(w, i) {
         return glide_ring(w, i);
     }
     Coming::Nothing

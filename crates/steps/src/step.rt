@@ -14,7 +14,7 @@ ghost use Rattle.steps.specs.Code.{answer_is};
 ghost use Rattle.steps.specs.Foretold.{Foretold};
 ghost use Rattle.steps.specs.Live.{any_live};
 
-use crate::Answer;
+use crate::StepError;
 use applying::apply;
 use changes::may_change;
 use job::Job;
@@ -27,24 +27,9 @@ fn takes_points(act: Act) -> usize
     ensures { (result ≡ takes_points (act_is act)) × (result ≤ 2) }
 {
     match act {
-        Act::Stay => 0,
-        Act::Discard(_) => 0,
-        Act::Drop => 0,
-        Act::MoveOn(_) => 0,
-        Act::ToFirst(_) => 0,
+        Act::Stay | Act::Discard(_) | Act::Drop | Act::MoveOn(_) | Act::ToFirst(_) => 0,
         Act::Double(_, _) => 1,
-        Act::Cut(_, put, off, _) => {
-            if put {
-                if off {
-                    return 2;
-                }
-                return 1;
-            }
-            if off {
-                return 1;
-            }
-            return 0;
-        }
+        Act::Cut(_, put, off, _) => usize::from(put) + usize::from(off),
     }
 }
 
@@ -53,18 +38,8 @@ fn takes_record(act: Act) -> usize
     ensures { (result ≡ takes_record (act_is act)) × (result ≤ 1) }
 {
     match act {
-        Act::Stay => 0,
-        Act::Discard(_) => 0,
-        Act::Drop => 0,
-        Act::MoveOn(_) => 0,
-        Act::ToFirst(_) => 0,
-        Act::Double(_, _) => 0,
-        Act::Cut(_, _, off, _) => {
-            if off {
-                return 1;
-            }
-            return 0;
-        }
+        Act::Cut(_, _, off, _) => usize::from(off),
+        _ => 0,
     }
 }
 
@@ -80,32 +55,18 @@ fn has_room(w: &[u32], act: Act) -> bool
     (p + a <= Job::POINTS) & (r + b <= Job::RECORDS)
 }
 
-// What a step answers; and, where it is carried out, whether it may have changed its ring's box.
-#[derive(Clone, Copy)]
-pub struct Stepped {
-    pub answer: Answer,
-    pub changes: bool,
-}
-
-// A step on an unfinished closed ring.
-pub fn step_ring(w: &mut [u32], i: usize) -> Stepped
+// A step on an unfinished closed ring. Where it is carried out: whether it may have changed its ring's box.
+pub fn step_ring(w: &mut [u32], i: usize) -> Result<bool, StepError>
     requires { Steps w.old i }
-    ensures { (outcome (answer_is result.answer) w.new ≡ step_words (geometry_of (view w.old)) raised w.old i) × Foretold w.old i result.answer result.changes }
+    ensures { (outcome (answer_is result) w.new ≡ step_words (geometry_of (view w.old)) raised w.old i) × Foretold w.old i result }
 {
     let act = decide(w, i);
-    let room = has_room(w, act);
-    if room {
+    if has_room(w, act) {
         let changes = may_change(w, i, act);
         apply(w, i, act);
-        return Stepped {
-            answer: Answer::Ok,
-            changes: changes,
-        };
+        return Ok(changes);
     }
-    Stepped {
-        answer: Answer::Full,
-        changes: false,
-    }
+    Err(StepError::Full)
 }
 
 // Whether record i is an unfinished closed ring.
@@ -134,14 +95,5 @@ pub fn any_live(w: &[u32]) -> bool
     requires { SoundWords w.now }
     ensures { result ≡ any_live (view w.now) }
 {
-    let n = get(w, Col::Records, 0);
-    let mut i: usize = 0;
-    while i < n {
-        let found = is_live(w, i);
-        if found {
-            return true;
-        }
-        i += 1;
-    }
-    false
+    (0..get(w, Col::Records, 0)).any(|i| is_live(w, i))
 }

@@ -10,8 +10,6 @@ use lib.ListN.{length, get_or, set, length-set}
 use lib.Seq.{get_or-set_same, get_or-set_other}
 use borrow.Author.Tests.{ltb-true, lt-ltb, le-ltb, eqb-true, eqb-false, eq-eqb, ne_eqb}
 use Rattle.store.specs.Field.{Field, PointCol, RecordCol, Count, pt, rc, ct, X, Y, NEXT, PREV, REC, Z, FLAGS, OWNER, FIRST, MARK, PRESENT, START, CUT, REASON, TAKER, SETTINGS, POINTS, RECORDS, point_rank, record_rank, count_rank, size, base, same, BOXES, BLOCK}
-use Rattle.store.specs.declared.Col.{Col}
-use Rattle.store.specs.Column.{column_of}
 use Rattle.store.specs.Words.{Store, cell, put, view, Write, write, on_words}
 use Rattle.store.specs.Stores.{upd, on_store, Within, Misses}
 
@@ -160,10 +158,7 @@ pub cell_at : (f : Field) (w : List ℕ) (i : ℕ) → i < size f → cell f w i
 unfolding cell
 cell_at f w i h = rw (lt-ltb i (size f) h)
 
--- what the accessors' needs come to: a column by the code's name for it
-pub by_name : (f : Field → ℕ) (c v : Col) → c ≡ v → f (column_of v) ≡ f (column_of c)
-by_name f c v e = ap (λ (k : Col). f (column_of k)) (sym e)
-
+-- what the accessors' needs come to
 pub place_of : (f : Field) (i b r : ℕ) → i < size f → b ≡ base f → r ≡ b + i → (r ≡ base f + i) × (r < BLOCK)
 place_of f i b r h e q = (omega arith, omega (arith, ends f i h))
 

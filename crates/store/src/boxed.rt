@@ -9,7 +9,7 @@ use crate::{BOXES, load};
 use job::Job;
 
 // A box by its words: the least x and y and the greatest, raised as coordinates are.
-#[derive(Clone, Copy)]
+#[derive(Clone, Copy, PartialEq, Eq)]
 pub struct Sides {
     pub left: usize,
     pub top: usize,
@@ -22,15 +22,11 @@ pub fn sides_of(w: &[u32], i: usize) -> Sides
     requires { (BLOCK ≤ length w.now) × (i < limit.RECORDS) }
     ensures { result ≡ sides_at w.now i }
 {
-    let left = load(w, BOXES + Job::RECORDS * 0 + i);
-    let top = load(w, BOXES + Job::RECORDS * 1 + i);
-    let right = load(w, BOXES + Job::RECORDS * 2 + i);
-    let bottom = load(w, BOXES + Job::RECORDS * 3 + i);
     Sides {
-        left,
-        top,
-        right,
-        bottom,
+        left: load(w, BOXES + Job::RECORDS * 0 + i),
+        top: load(w, BOXES + Job::RECORDS * 1 + i),
+        right: load(w, BOXES + Job::RECORDS * 2 + i),
+        bottom: load(w, BOXES + Job::RECORDS * 3 + i),
     }
 }
 

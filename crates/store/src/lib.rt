@@ -102,8 +102,7 @@ fn word_of(c: Col, i: usize) -> usize
     requires { i < size (column_of c) }
     ensures { (result ≡ base (column_of c) + i) × (result < field.BLOCK) }
 {
-    let b = base_of(c);
-    b + i
+    base_of(c) + i
 }
 
 // One word.
@@ -114,13 +113,12 @@ fn load(w: &[u32], k: usize) -> usize
     w[k] as usize
 }
 
-// Word i of a column.
+// Word i of a column. That the words are long enough is asked here and of whoever reads or writes them: a struct that says so once would have to be two, for words lent and lent to be written, and be made anew at each read between writes.
 pub fn get(w: &[u32], c: Col, i: usize) -> usize
     requires { (field.BLOCK ≤ length w.now) × (i < size (column_of c)) }
     ensures { (result ≡ cell (column_of c) w.now i) × (result < 2 ^ 32) }
 {
-    let k = word_of(c, i);
-    load(w, k)
+    load(w, word_of(c, i))
 }
 
 // How many words a column has.
@@ -128,24 +126,17 @@ fn size_of(c: Col) -> usize
     ensures { result ≡ size (column_of c) }
 {
     match c {
-        Col::X => Job::POINTS,
-        Col::Y => Job::POINTS,
-        Col::Next => Job::POINTS,
-        Col::Prev => Job::POINTS,
-        Col::Rec => Job::POINTS,
-        Col::Z => Job::POINTS,
-        Col::Flags => Job::RECORDS,
-        Col::Owner => Job::RECORDS,
-        Col::First => Job::RECORDS,
-        Col::Mark => Job::RECORDS,
-        Col::Present => Job::RECORDS,
-        Col::Start => Job::RECORDS,
-        Col::Cut => Job::RECORDS,
-        Col::Reason => Job::RECORDS,
-        Col::Taker => Job::RECORDS,
-        Col::Settings => 1,
-        Col::Points => 1,
-        Col::Records => 1,
+        Col::X | Col::Y | Col::Next | Col::Prev | Col::Rec | Col::Z => Job::POINTS,
+        Col::Flags
+        | Col::Owner
+        | Col::First
+        | Col::Mark
+        | Col::Present
+        | Col::Start
+        | Col::Cut
+        | Col::Reason
+        | Col::Taker => Job::RECORDS,
+        Col::Settings | Col::Points | Col::Records => 1,
     }
 }
 
@@ -154,8 +145,7 @@ pub fn read(w: &[u32], c: Col, i: usize) -> usize
     requires { field.BLOCK ≤ length w.now }
     ensures { (result ≡ cell (column_of c) w.now i) × (result < 2 ^ 32) }
 {
-    let n = size_of(c);
-    if i < n {
+    if i < size_of(c) {
         return get(w, c, i);
     }
     0
@@ -166,8 +156,7 @@ pub fn set(w: &mut [u32], c: Col, i: usize, v: usize)
     requires { (field.BLOCK ≤ length w.old) × (i < size (column_of c)) × (v < 2 ^ 32) }
     ensures { w.new ≡ put (column_of c) w.old i v }
 {
-    let k = word_of(c, i);
-    w[k] = v as u32;
+    w[word_of(c, i)] = v as u32;
 }
 
 // The code's constants are those of the definitions.

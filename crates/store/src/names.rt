@@ -30,7 +30,7 @@ pub fn set_name_word(w: &mut [u32], p: usize, v: usize)
 pub fn is_name(v: usize) -> bool
     ensures { result ≡ is_name v }
 {
-    (FIRST_NAME <= v) & (v <= LAST_NAME)
+    (FIRST_NAME..=LAST_NAME).contains(&v)
 }
 
 // Whether two places keep one name.
@@ -39,7 +39,5 @@ pub fn same_name(w: &[u32], p: usize, q: usize) -> bool
     ensures { result ≡ same_name w.now p q }
 {
     let a = name_word(w, p);
-    let b = name_word(w, q);
-    let named = is_name(a);
-    named & (a == b)
+    is_name(a) & (a == name_word(w, q))
 }

@@ -8,6 +8,7 @@ use mathlib.Core.Option.{none}
 use native.Mathlib.Omega.{arith}
 use lib.ListN.{length}
 use borrow.Author.Tests.{eq-eqb, ne_eqb, lt-ltb, le-ltb}
+use Rattle.std.specs.Prelude.{Result, Ok, Err}
 use Rattle.job.specs.declared.refusal.Refusal.{Refusal}
 use Rattle.job.specs.declared.refusal.Refusal.TheVariants.{OutOfTurn}
 use Rattle.store.specs.Field.{rc, FIRST, REASON, TAKER, NONE}
@@ -16,18 +17,14 @@ use Rattle.store.specs.Reason.{JOINED, discard_of}
 use Rattle.store.specs.Sound.{recs, is_open}
 use Rattle.store.specs.Good.{SoundWords}
 use Rattle.store.specs.Value.{reverse_solution}
-use Rattle.audit.specs.declared.Verdict.{Verdict}
-use Rattle.audit.specs.declared.Verdict.TheVariants as verdict
 use Rattle.handed.specs.Handed.{handed_of}
 use Rattle.handed.proofs.Handing.{handed_sound}
 use Rattle.steps.specs.Live.{any_live}
-use Rattle.paths.specs.declared.PathEnd.{PathEnd}
-use Rattle.paths.specs.declared.PathEnd.TheVariants.{Short, Small, Points}
+use Rattle.paths.specs.declared.NoPath.{NoPath}
+use Rattle.paths.specs.declared.NoPath.TheVariants.{Short, Small}
 use Rattle.paths.specs.Path.{path_end, paths_below}
 use Rattle.telling.specs.declared.Reason.{Reason}
 use Rattle.telling.specs.declared.Reason.TheVariants.{NoRing, Joined, SmallRing, RingFell, SmallArea, ShortPath, SmallPath, Written}
-use Rattle.telling.specs.declared.Told.{Told}
-use Rattle.telling.specs.declared.Told.TheVariants.{Because, Refused}
 use Rattle.telling.specs.Telling.{kept_reason, end_reason, path_reason, reason_at, reason_by, reason_of}
 
 -- ---- what is kept
@@ -64,18 +61,18 @@ module _ (x y v : ℕ) (h : v ≡ x) where
 
 -- ---- the path
 
-module _ (s : Store) (rev o : Bool) (i n : ℕ) (e : PathEnd) (a : rev ≡ reverse_solution s) (b : o ≡ is_open s i) (c : e ≡ path_end s rev o i) (d : n ≡ length (paths_below i o s)) where
+module _ (s : Store) (rev o : Bool) (i n : ℕ) (e : Result ℕ NoPath) (a : rev ≡ reverse_solution s) (b : o ≡ is_open s i) (c : e ≡ path_end s rev o i) (d : n ≡ length (paths_below i o s)) where
   by_end : end_reason o n e ≡ path_reason s i
   unfolding path_reason
   by_end = rw (d, c, a, b)
 
-  pub end_short : e ≡ Short → ShortPath ≡ path_reason s i
-  end_short f = sym (ap (end_reason o n) f) ∙ by_end
+  pub end_short : (x : NoPath) → e ≡ Err x → x ≡ Short → ShortPath ≡ path_reason s i
+  end_short x f g = sym (ap (end_reason o n) (f ∙ ap Err g)) ∙ by_end
 
-  pub end_small : e ≡ Small → SmallPath ≡ path_reason s i
-  end_small f = sym (ap (end_reason o n) f) ∙ by_end
+  pub end_small : (x : NoPath) → e ≡ Err x → x ≡ Small → SmallPath ≡ path_reason s i
+  end_small x f g = sym (ap (end_reason o n) (f ∙ ap Err g)) ∙ by_end
 
-  pub end_written : (k : ℕ) → e ≡ Points k → Written o n ≡ path_reason s i
+  pub end_written : (k : ℕ) → e ≡ Ok k → Written o n ≡ path_reason s i
   end_written k f = sym (ap (end_reason o n) f) ∙ by_end
 
 -- ---- the record
@@ -93,26 +90,26 @@ module _ (s : Store) (i f : ℕ) (r : Reason) (e : f ≡ s (rc FIRST) i) where
 
 module _ (w : List ℕ) (i : ℕ) where
   module _ (n : ℕ) (e : n ≡ recs (view w)) where
-    pub unknown : n ≤ i → Refused OutOfTurn ≡ reason_by verdict.Passed w i
+    pub unknown : n ≤ i → Err OutOfTurn ≡ reason_by (Ok tt) w i
     unknown l = rw (le-ltb i (recs (view w)) (omega arith))
 
     module _ (l : i < n) (b : Bool) (g : b ≡ any_live (view w)) where
-      pub early : b ≡ true → Refused OutOfTurn ≡ reason_by verdict.Passed w i
+      pub early : b ≡ true → Err OutOfTurn ≡ reason_by (Ok tt) w i
       early h = rw (lt-ltb i (recs (view w)) (omega arith), sym g ∙ h)
 
-      pub told : b ≡ false → (r : Reason) → r ≡ reason_at (view w) i → Because r ≡ reason_by verdict.Passed w i
-      told h r k = rw (lt-ltb i (recs (view w)) (omega arith), sym g ∙ h) (ap Because k)
+      pub told : b ≡ false → (r : Reason) → r ≡ reason_at (view w) i → Ok r ≡ reason_by (Ok tt) w i
+      told h r k = rw (lt-ltb i (recs (view w)) (omega arith), sym g ∙ h) (ap Ok k)
 
-  module _ (v : Verdict) (e : v ≡ handed_of w) where
-    pub sound : v ≡ verdict.Passed → SoundWords w
+  module _ (v : Result (Unit {0}) Refusal) (e : v ≡ handed_of w) where
+    pub sound : v ≡ Ok tt → SoundWords w
     sound p = handed_sound w (sym e ∙ p)
 
     by_tests : reason_by v w i ≡ reason_of w i
     unfolding reason_of
-    by_tests = ap (λ (u : Verdict). reason_by u w i) e
+    by_tests = ap (λ (u : Result (Unit {0}) Refusal). reason_by u w i) e
 
-    pub refused : (x : Refusal) → v ≡ verdict.Refused x → Refused x ≡ reason_of w i
-    refused x p = sym (ap (λ (u : Verdict). reason_by u w i) p) ∙ by_tests
+    pub refused : (x : Refusal) → v ≡ Err x → Err x ≡ reason_of w i
+    refused x p = sym (ap (λ (u : Result (Unit {0}) Refusal). reason_by u w i) p) ∙ by_tests
 
-    pub passed : (r : Told) → v ≡ verdict.Passed → r ≡ reason_by verdict.Passed w i → r ≡ reason_of w i
-    passed r p h = h ∙ sym (ap (λ (u : Verdict). reason_by u w i) p) ∙ by_tests
+    pub passed : (r : Result Reason Refusal) → v ≡ (Ok tt) → r ≡ reason_by (Ok tt) w i → r ≡ reason_of w i
+    passed r p h = h ∙ sym (ap (λ (u : Result (Unit {0}) Refusal). reason_by u w i) p) ∙ by_tests

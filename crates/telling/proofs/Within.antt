@@ -8,6 +8,8 @@ use native.Mathlib.Omega.{arith}
 use lib.Dec.{eqb, ltb}
 use lib.ListN.{length, length-append}
 use borrow.Author.Tests.{eqb-true, ltb-true}
+use Rattle.std.specs.Prelude.{Result, Ok, Err}
+use Rattle.job.specs.declared.refusal.Refusal.{Refusal}
 use Rattle.job.specs.declared.refusal.Refusal.TheVariants.{OutOfTurn}
 use Rattle.geometry.specs.declared.Point.{Point}
 use Rattle.rings.specs.Progress.{Discard, at_validity, while_removing, at_split}
@@ -17,15 +19,12 @@ use Rattle.store.specs.Reason.{JOINED, discard_of}
 use Rattle.store.specs.Sound.{recs, ringless, is_open}
 use Rattle.store.specs.Good.{Sound}
 use Rattle.store.specs.Value.{reverse_solution}
-use Rattle.audit.specs.declared.Verdict.{Verdict}
-use Rattle.audit.specs.declared.Verdict.TheVariants as verdict
 use Rattle.handed.specs.Handed.{handed_of}
 use Rattle.handed.proofs.Handing.{handed_sound}
 use Rattle.steps.specs.Live.{any_live}
-use Rattle.paths.specs.declared.PathEnd.{PathEnd}
-use Rattle.paths.specs.declared.PathEnd.TheVariants.{Short, Small, Points}
+use Rattle.paths.specs.declared.NoPath.{NoPath}
+use Rattle.paths.specs.declared.NoPath.TheVariants.{Short, Small}
 use Rattle.paths.specs.Path.{path_if, listed, path_end, paths_below}
-use Rattle.telling.specs.declared.Told.TheVariants.{Because, Refused}
 use Rattle.telling.specs.declared.Reason.TheVariants.{Joined}
 use Rattle.telling.specs.Telling.{discard_reason, kept_reason, end_reason, path_reason, reason_at, reason_by, reason_of}
 use Rattle.telling.specs.Within.{NumberWithin, ToldWithin}
@@ -55,10 +54,10 @@ module _ (s : Store) (h : Sound s) (i : ℕ) (l : i < recs s) where
   unfolding path_reason
   path_within = go (path_end s (reverse_solution s) (is_open s i) i)
     where
-      go : (e : PathEnd) → NumberWithin (end_reason (is_open s i) (length (paths_below i (is_open s i) s)) e)
-      go Short = tt
-      go Small = tt
-      go (Points n) = omega (arith, paths_few s (is_open s i) i, l, h.few_records)
+      go : (e : Result ℕ NoPath) → NumberWithin (end_reason (is_open s i) (length (paths_below i (is_open s i) s)) e)
+      go (Err Short) = tt
+      go (Err Small) = tt
+      go (Ok n) = omega (arith, paths_few s (is_open s i) i, l, h.few_records)
 
   reason_within : NumberWithin (reason_at s i)
   unfolding reason_at
@@ -73,11 +72,11 @@ pub told_within : (w : List ℕ) (i : ℕ) → ToldWithin (reason_of w i)
 unfolding reason_of
 told_within w i = go (handed_of w) refl
   where
-    asked : Sound (view w) → (a b : Bool) → ltb i (recs (view w)) ≡ a → ToldWithin (cond (not a || b) (Refused OutOfTurn) (Because (reason_at (view w) i)))
+    asked : Sound (view w) → (a b : Bool) → ltb i (recs (view w)) ≡ a → ToldWithin (cond (not a || b) (Err OutOfTurn) (Ok (reason_at (view w) i)))
     asked h true true e = tt
     asked h true false e = reason_within (view w) h i (ltb-true i (recs (view w)) e)
     asked h false b e = tt
 
-    go : (v : Verdict) → handed_of w ≡ v → ToldWithin (reason_by v w i)
-    go (verdict.Refused x) e = tt
-    go verdict.Passed e = asked (handed_sound w e).sound (ltb i (recs (view w))) (any_live (view w)) refl
+    go : (v : Result (Unit {0}) Refusal) → handed_of w ≡ v → ToldWithin (reason_by v w i)
+    go (Err x) e = tt
+    go (Ok _) e = asked (handed_sound w e).sound (ltb i (recs (view w))) (any_live (view w)) refl

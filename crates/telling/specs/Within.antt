@@ -3,8 +3,8 @@ use Rattle.std.specs.Prelude.{◌<◌}
 use Rattle.job.specs.Limits as limit
 use Rattle.telling.specs.declared.Reason.{Reason}
 use Rattle.telling.specs.declared.Reason.TheVariants.{NoRing, Joined, SmallRing, RingFell, SmallArea, ShortPath, SmallPath, Written}
-use Rattle.telling.specs.declared.Told.{Told}
-use Rattle.telling.specs.declared.Told.TheVariants.{Because, Refused}
+use Rattle.std.specs.Prelude.{Result, Ok, Err}
+use Rattle.job.specs.declared.refusal.Refusal.{Refusal}
 
 abbrev pub NumberWithin : Reason → Type 0
 NumberWithin NoRing = Unit {0}
@@ -16,6 +16,6 @@ NumberWithin ShortPath = Unit {0}
 NumberWithin SmallPath = Unit {0}
 NumberWithin (Written o place) = place < limit.RECORDS
 
-abbrev pub ToldWithin : Told → Type 0
-ToldWithin (Because r) = NumberWithin r
-ToldWithin (Refused x) = Unit {0}
+abbrev pub ToldWithin : Result Reason Refusal → Type 0
+ToldWithin (Ok r) = NumberWithin r
+ToldWithin (Err x) = Unit {0}

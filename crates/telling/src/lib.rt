@@ -1,19 +1,17 @@
 // Where a record's ring went: one of eight reasons, told of a work space whose closed rings are all done. `reason_of` has no `requires`.
 #![tactic(auto)]
 
-ghost use Rattle.std.specs.Prelude.{◌≡◌, ◌<◌, ◌≤◌, length};
+ghost use Rattle.std.specs.Prelude.{◌≡◌, ◌<◌, ◌≤◌, length, Ok};
 ghost use Rattle.job.specs.Limits as limit;
 ghost use Rattle.store.specs.Field.{rc, REASON, TAKER, BLOCK};
 ghost use Rattle.store.specs.Words.{view};
 ghost use Rattle.store.specs.Good.{SoundWords};
 ghost use Rattle.paths.specs.Walking.{Known};
-ghost use Rattle.audit.specs.declared.Verdict.TheVariants.{Passed};
 ghost use Rattle.telling.specs.Telling.{kept_reason, path_reason, reason_at, reason_by, reason_of};
 
-use audit::Verdict;
 use handed::handed;
 use job::refusal::Refusal;
-use paths::{PathEnd, is_open, path_end, paths_below, reverse_solution};
+use paths::{NoPath, is_open, path_end, paths_below, reverse_solution};
 use steps::step::any_live;
 use store::{AT_SPLIT, AT_VALIDITY, Col, JOINED, NONE, WHILE_REMOVING, get};
 
@@ -31,14 +29,7 @@ pub enum Reason {
     Written { open: bool, place: usize },
 }
 
-// What asking answers: the reason, or a refusal.
-#[derive(Clone, Copy)]
-pub enum Told {
-    Because(Reason),
-    Refused(Refusal),
-}
-
-// Of a record without a ring: what it keeps.
+// Of a record without a ring: what it keeps. The reasons are words of the work space, which C hands over; a From of a word could not name the taker.
 fn kept_reason(w: &[u32], i: usize) -> Reason
     requires { (BLOCK ≤ length w.now) × (i < limit.RECORDS) }
     ensures { result ≡ kept_reason (view w.now (rc REASON) i) (view w.now (rc TAKER) i) }
@@ -70,9 +61,11 @@ fn path_reason(w: &[u32], i: usize) -> Reason
     let e = path_end(w, rev, open, i);
     let place = paths_below(w, rev, open, i);
     match e {
-        PathEnd::Short => Reason::ShortPath,
-        PathEnd::Small => Reason::SmallPath,
-        PathEnd::Points(_) => Reason::Written { open, place },
+        Ok(_) => Reason::Written { open, place },
+        Err(why) => match why {
+            NoPath::Short => Reason::ShortPath,
+            NoPath::Small => Reason::SmallPath,
+        },
     }
 }
 
@@ -88,33 +81,24 @@ fn reason_at(w: &[u32], i: usize) -> Reason
 }
 
 // Of a work space that passed the tests.
-fn reason_tested(w: &[u32], i: usize) -> Told
+fn reason_tested(w: &[u32], i: usize) -> Result<Reason, Refusal>
     requires { SoundWords w.now }
-    ensures { result ≡ reason_by Passed w.now i }
+    ensures { result ≡ reason_by (Ok tt) w.now i }
 {
     let n = get(w, Col::Records, 0);
     if n <= i {
-        return Told::Refused(Refusal::OutOfTurn);
+        return Err(Refusal::OutOfTurn);
     }
-    let going = any_live(w);
-    if going {
-        return Told::Refused(Refusal::OutOfTurn);
+    if any_live(w) {
+        return Err(Refusal::OutOfTurn);
     }
-    let r = reason_at(w, i);
-    Told::Because(r)
+    Ok(reason_at(w, i))
 }
 
 // Why a record has an outline, or none. The work space is only read.
-pub fn reason_of(work: &[u32], number: u32) -> Told
+pub fn reason_of(work: &[u32], number: u32) -> Result<Reason, Refusal>
     ensures { result ≡ reason_of work.now number }
 {
-    let verdict = handed(work);
-    match verdict {
-        Verdict::Passed => {
-            return reason_tested(work, number as usize);
-        }
-        Verdict::Refused(r) => {
-            return Told::Refused(r);
-        }
-    }
+    handed(work)?;
+    reason_tested(work, number as usize)
 }

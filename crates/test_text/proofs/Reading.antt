@@ -1,6 +1,6 @@
 -- Words and numbers as their loops read them: what is left to read, from the place where the loop is, comes to what was asked for.
 use Prim.Native.Nat.{ℕ, suc, ◌+◌, ◌-◌, ◌*◌, ◌%◌, ◌≤◌, ◌<◌, min}
-use mathlib.Core.Path.{◌≡◌, refl, sym, ap, ◌∙◌}
+use mathlib.Core.Path.{◌≡◌, refl, sym, ap, ◌∙◌, subst}
 use mathlib.Core.Bool.{Bool, cond}
 use mathlib.Core.List.{List}
 use native.Mathlib.Omega.{arith}
@@ -47,6 +47,12 @@ module _ (stop : ℕ) (s : List ℕ) (i left goal : ℕ) (k : Seeking stop s i l
               ∙ sym (step h)
               ∙ k.is;
         }
+
+-- of n bytes c are passed
+pub seeking_next : (stop n : ℕ) (s : List ℕ) (i c goal : ℕ) → Seeking stop s i (n - c) goal → (b j : ℕ) → c < n → b ≡ get_or s i 0 → stop < b → j ≡ min (i + 1) FAR → Seeking stop s j (n - (c + 1)) goal
+seeking_next stop n s i c goal k b j h e z f =
+    let y : n - c - 1 ≡ n - (c + 1) = omega arith in
+    subst (λ (m : ℕ). Seeking stop s j m goal) y (seeking_on stop s i (n - c) goal k b (omega arith) e j z f)
 
 -- ---- a number
 
@@ -96,3 +102,9 @@ module _ (s : List ℕ) (i v left goal : ℕ) (k : Adding s i v left goal) where
               ∙ sym (digit h b e)
               ∙ k.is;
         }
+
+-- of n digits c are passed
+pub adding_next : (n : ℕ) (s : List ℕ) (i v c goal : ℕ) → Adding s i v (n - c) goal → (b u j : ℕ) → c < n → b ≡ get_or s i 0 → 48 ≤ b → b ≤ 57 → u ≡ more_of v b → j ≡ min (i + 1) FAR → Adding s j u (n - (c + 1)) goal
+adding_next n s i v c goal k b u j h e y z f g =
+    let x : n - c - 1 ≡ n - (c + 1) = omega arith in
+    subst (λ (m : ℕ). Adding s j u m goal) x (adding_on s i v (n - c) goal k b (omega arith) e u j y z f g)

@@ -1,6 +1,6 @@
 -- A ring's text, part after part; and how many points it has.
 use Prim.Native.Nat.{ℕ, suc, ◌+◌, ◌-◌, ◌≤◌, ◌<◌}
-use mathlib.Core.Path.{◌≡◌, refl, sym, ap, ◌∙◌}
+use mathlib.Core.Path.{◌≡◌, refl, sym, ap, ◌∙◌, subst}
 use mathlib.Core.Bool.{Bool, true, false, cond}
 use mathlib.Core.List.{List, [], ◌∷◌, ◌++◌, append_assoc, append-nil}
 use native.Mathlib.Omega.{arith}
@@ -132,6 +132,13 @@ module _ (named : Bool) (w : List ℕ) (a at : ℕ) (out₀ out : List ℕ) (k p
         ∙ ap (λ (l : List ℕ). s.done ++ places_text named w l) (sym (run_last w a p left q e h z))
         ∙ s.all)
 
+-- of a walk of POINTS at most, i are passed
+pub placing_next : (named : Bool) (w : List ℕ) (a at : ℕ) (out₀ out : List ℕ) (k p i : ℕ) → Placing named w a at out₀ out k p (limit.POINTS - i) → (k' q : ℕ) (out' : List ℕ) → i < limit.POINTS
+    → poured k' out' ≡ pour (place_text named w p) k out → q ≡ cell (pt NEXT) w p → (q ≡ a → ⊥) → Placing named w a at out₀ out' k' q (limit.POINTS - (i + 1))
+placing_next named w a at out₀ out k p i s k' q out' h f e y =
+    let z : limit.POINTS - i - 1 ≡ limit.POINTS - (i + 1) = omega arith in
+    subst (λ (j : ℕ). Placing named w a at out₀ out' k' q j) z (placing_on named w a at out₀ out k p (limit.POINTS - i) s k' q out' (omega arith) f e y)
+
 -- ---- points counted: n so far, `left` at most are left, the next one p
 
 pub record Counting (w : List ℕ) (a p n left : ℕ) : Type 0 where
@@ -151,6 +158,11 @@ module _ (w : List ℕ) (a p n left : ℕ) (s : Counting w a p n left) where
 
     pub counting_last : q ≡ a → n + 1 ≡ length (ring_of w a)
     counting_last z = omega (arith, s.all, ap length (run_last w a p left q e h z))
+
+pub counting_next : (w : List ℕ) (a p n i : ℕ) → Counting w a p n (limit.POINTS - i) → (q : ℕ) → i < limit.POINTS → q ≡ cell (pt NEXT) w p → (q ≡ a → ⊥) → Counting w a q (n + 1) (limit.POINTS - (i + 1))
+counting_next w a p n i s q h e y =
+    let z : limit.POINTS - i - 1 ≡ limit.POINTS - (i + 1) = omega arith in
+    subst (λ (j : ℕ). Counting w a q (n + 1) j) z (counting_on w a p n (limit.POINTS - i) s q (omega arith) e y)
 
 -- ---- the ring
 

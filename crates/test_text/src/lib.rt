@@ -15,29 +15,14 @@ pub const FAR: usize = 1000000;
 pub fn further(at: usize, n: usize) -> usize
     ensures { result ≡ min (at + n) FAR }
 {
-    if FAR <= at {
-        return FAR;
-    }
-    if FAR - at <= n {
-        return FAR;
-    }
-    at + n
+    at.saturating_add(n).min(FAR)
 }
 
 // The byte at a place; 0 past the end.
 pub fn byte(s: &[u8], at: usize) -> u8
     ensures { result ≡ get_or s.now at 0 }
 {
-    if at < s.len() {
-        return s[at];
-    }
-    0
-}
-
-fn wide(x: u8) -> usize
-    ensures { (result ≡ x) × (result < 256) }
-{
-    x as usize
+    s.get(at).copied().unwrap_or(0)
 }
 
 // The number of two bytes at a place, low byte first.
@@ -45,7 +30,7 @@ pub fn number_at(s: &[u8], at: usize) -> usize
     ensures { Number 2 at s.now result }
 {
     if at < s.len() {
-        return wide(byte(s, at)) + 256 * wide(byte(s, at + 1));
+        return byte(s, at) as usize + 256 * byte(s, at + 1) as usize;
     }
     0
 }
@@ -77,7 +62,7 @@ pub fn first(s: &[u8], n: usize) -> &[u8]
     s
 }
 
-// Stores a byte, if there is room.
+// Stores a byte, if there is room. (Not by `get_mut`: of a slice's it is known what the length stays, and of no element, so `set` does not follow.)
 pub fn put(s: &mut [u8], at: usize, v: u8)
     ensures { s.new ≡ set s.old at v }
 {

@@ -80,11 +80,9 @@ fn count(w: &[u32], a: usize) -> usize
 {
     let mut p = a;
     let mut n: usize = 0;
-    let mut left = Job::POINTS;
-    while 0 < left {
+    for _ in 0..Job::POINTS {
         p = read(w, Col::Next, p);
         n += 1;
-        left -= 1;
         if p == a {
             return n;
         }
@@ -99,11 +97,9 @@ fn put_places(w: &[u32], named: bool, a: usize, out: &mut [u8], at: usize) -> us
 {
     let mut k = at;
     let mut p = a;
-    let mut left = Job::POINTS;
-    while 0 < left {
+    for _ in 0..Job::POINTS {
         k = put_place(w, named, p, out, k);
         p = read(w, Col::Next, p);
-        left -= 1;
         if p == a {
             return k;
         }

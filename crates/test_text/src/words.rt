@@ -7,18 +7,19 @@ use crate::{byte, further};
 // No word or line has so many bytes.
 const WORD: usize = 100000;
 
+// A number has at most so many digits.
+const DIGITS: usize = 16;
+
 // The next place, from one on, of a byte that is at most `stop`.
 pub fn end_of(s: &[u8], at: usize, stop: u8) -> usize
     ensures { result ≡ end_of stop WORD s.now at }
 {
     let mut i = at;
-    let mut left = WORD;
-    while 0 < left {
+    for _ in 0..WORD {
         if byte(s, i) <= stop {
             return i;
         }
         i = further(i, 1);
-        left -= 1;
     }
     i
 }
@@ -39,8 +40,7 @@ pub fn digits(s: &[u8], at: usize) -> u64
 {
     let mut i = at;
     let mut v: u64 = 0;
-    let mut left: u32 = 16;
-    while 0 < left {
+    for _ in 0..DIGITS {
         let b = byte(s, i);
         if b < b'0' {
             return v;
@@ -50,7 +50,6 @@ pub fn digits(s: &[u8], at: usize) -> u64
         }
         v = more(v, b);
         i = further(i, 1);
-        left -= 1;
     }
     v
 }

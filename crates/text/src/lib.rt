@@ -1,4 +1,5 @@
 // Text into a lent slice, from a place on: a byte, a word, a decimal number. A byte past the end is lost; each function answers where the next one goes.
+// The slice and the place stay two parameters: a struct of both was tried in this crate and proves, but each writer then says a second clause, that the struct holds the same reference, and a loop has to keep it in its invariant.
 #![tactic(auto)]
 
 ghost use Rattle.std.specs.Prelude.{◌≡◌, [], ◌∷◌, ◌+◌, ◌-◌, ◌<◌};
@@ -24,12 +25,9 @@ pub fn put(out: &mut [u8], at: usize, b: u8) -> usize
 pub fn put_text(out: &mut [u8], at: usize, s: &[u8]) -> usize
     ensures { poured result out.new ≡ pour s.now at out.old }
 {
-    let n = s.len();
     let mut k = at;
-    let mut i: usize = 0;
-    while i < n {
-        k = put(out, k, s[i]);
-        i += 1;
+    for &b in s {
+        k = put(out, k, b);
     }
     k
 }

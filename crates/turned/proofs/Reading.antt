@@ -8,16 +8,17 @@ use lib.Dec.{ltb, eqb}
 use lib.ListN.{length, get_or, set, drop}
 use lib.Seq.{drop-set-lt}
 use borrow.Author.Tests.{lt-ltb, eqb-true, ne_eqb}
+use Rattle.std.proofs.Common.{Result, Ok, Err}
+use Rattle.job.proofs.Accepted.{read_parts}
 use Rattle.job.specs.declared.Job.{Job}
 use Rattle.job.specs.declared.refusal.Refusal.TheVariants.{Torn, Strange, Crowded}
 use Rattle.job.specs.declared.field.Kind.{Kind}
 use Rattle.job.specs.declared.field.Kind.TheVariants as kind
 use Rattle.job.specs.declared.field.Field.TheVariants.{Settings, Point, Record, Segment, Join}
-use Rattle.job.specs.declared.field.Reading.{Reading}
-use Rattle.job.specs.declared.field.Reading.TheVariants as reading
+use Rattle.job.specs.declared.field.Field.{Field}
+use Rattle.job.specs.declared.refusal.Refusal.{Refusal}
 use Rattle.job.specs.Job.{fresh, past}
 use Rattle.job.specs.Field.{HEADER, tag_of, length_of, value_of, kind_of, size_of, field_in, torn_header, strange_tag, torn_value, strange_bits, crowded, body_of, field_of}
-use Rattle.reading.specs.declared.fill.Outcome.TheVariants.{Ok, Refused}
 use Rattle.reading.specs.Fill.{ReadEnd, end, taken, turn_of, follow, run, fill_of}
 
 -- ---- a field after the first is never the settings
@@ -37,15 +38,15 @@ in_kind kind.Record v x e = let z : ◌≡◌ {A = ℕ} 0 1 = cc in absurd (omeg
 in_kind kind.Segment v x e = let z : ◌≡◌ {A = ℕ} 0 1 = cc in absurd (omega arith)
 in_kind kind.Join v x e = let z : ◌≡◌ {A = ℕ} 0 1 = cc in absurd (omega arith)
 
-body_kind : (k : Kind) (j : Job) (s : List ℕ) (x n : ℕ) → body_of k j s ≡ reading.Read (Settings x) n → settings_kind k ≡ true
+body_kind : (k : Kind) (j : Job) (s : List ℕ) (x n : ℕ) → body_of k j s ≡ Ok (Settings x, n) → settings_kind k ≡ true
 unfolding body_of
 body_kind k j s x n e = go (torn_value k s) (strange_bits (field_in k (value_of s))) (crowded k j) e
   where
-    go : (t u c : Bool) → cond t (reading.Refused Torn) (cond u (reading.Refused Strange) (cond c (reading.Refused Crowded) (reading.Read (field_in k (value_of s)) (HEADER + size_of k)))) ≡ reading.Read (Settings x) n → settings_kind k ≡ true
+    go : (t u c : Bool) → ◌≡◌ {A = Result (Field × ℕ) Refusal} (cond t (Err Torn) (cond u (Err Strange) (cond c (Err Crowded) (Ok (field_in k (value_of s), HEADER + size_of k))))) (Ok (Settings x, n)) → settings_kind k ≡ true
     go true u c e = let z : ◌≡◌ {A = ℕ} 0 1 = cc in absurd (omega arith)
     go false true c e = let z : ◌≡◌ {A = ℕ} 0 1 = cc in absurd (omega arith)
     go false false true e = let z : ◌≡◌ {A = ℕ} 0 1 = cc in absurd (omega arith)
-    go false false false e = let h : field_in k (value_of s) ≡ Settings x = cc in in_kind k (value_of s) x h
+    go false false false e = in_kind k (value_of s) x (read_parts (field_in k (value_of s)) (Settings x) (HEADER + size_of k) n e).0
 
 kind_tag : (tag : ℕ) → settings_kind (kind_of tag) ≡ true → eqb tag 1 ≡ true
 unfolding settings_kind
@@ -68,18 +69,18 @@ later_strange last tag l e = rw (lt-ltb 0 last l, e) (go (eqb tag 0) (ltb 5 tag)
     go false false false true = refl
     go false false false false = refl
 
-no_settings : (j : Job) (s : List ℕ) → 0 < j.last → (x n : ℕ) → field_of j s ≡ reading.Read (Settings x) n → ⊥
+no_settings : (j : Job) (s : List ℕ) → 0 < j.last → (x n : ℕ) → field_of j s ≡ Ok (Settings x, n) → ⊥
 unfolding field_of
 no_settings j s l x n e = go (torn_header s) (strange_tag j.last (tag_of s)) refl e
   where
-    go : (t u : Bool) → strange_tag j.last (tag_of s) ≡ u → cond t (reading.Refused Torn) (cond u (reading.Refused Strange) (body_of (kind_of (tag_of s)) j s)) ≡ reading.Read (Settings x) n → ⊥
+    go : (t u : Bool) → strange_tag j.last (tag_of s) ≡ u → ◌≡◌ {A = Result (Field × ℕ) Refusal} (cond t (Err Torn) (cond u (Err Strange) (body_of (kind_of (tag_of s)) j s))) (Ok (Settings x, n)) → ⊥
     go true u h e = let z : ◌≡◌ {A = ℕ} 0 1 = cc in omega arith
     go false true h e = let z : ◌≡◌ {A = ℕ} 0 1 = cc in omega arith
     go false false h e = true≢false (sym (later_strange j.last (tag_of s) l (kind_tag (tag_of s) (body_kind (kind_of (tag_of s)) j s x n e))) ∙ h)
 
-is_refused : Reading → Bool
-is_refused (reading.Read f n) = false
-is_refused (reading.Refused r) = true
+is_refused : Result (Field × ℕ) Refusal → Bool
+is_refused (Ok (f, n)) = false
+is_refused (Err r) = true
 
 -- under four bytes, or with another tag than the settings', the first field is refused
 short_body : (k : Kind) (j : Job) (s : List ℕ) → length s ≡ 3 → is_refused (body_of k j s) ≡ true
@@ -96,7 +97,7 @@ short_body k j s e = rw (past_end k) (go (eqb (length_of s) (size_of k)))
     past_end : (k : Kind) → ltb (length s) (HEADER + size_of k) ≡ true
     past_end k = lt-ltb (length s) (HEADER + size_of k) (omega (arith, size_of_lem k))
 
-    go : (t : Bool) → is_refused (cond (not t || true) (reading.Refused Torn) (cond (strange_bits (field_in k (value_of s))) (reading.Refused Strange) (cond (crowded k j) (reading.Refused Crowded) (reading.Read (field_in k (value_of s)) (HEADER + size_of k))))) ≡ true
+    go : (t : Bool) → is_refused (cond (not t || true) (Err Torn) (cond (strange_bits (field_in k (value_of s))) (Err Strange) (cond (crowded k j) (Err Crowded) (Ok (field_in k (value_of s), HEADER + size_of k))))) ≡ true
     go true = refl
     go false = refl
 
@@ -104,7 +105,7 @@ short_field : (j : Job) (s : List ℕ) → length s ≡ 3 → is_refused (field_
 unfolding is_refused field_of
 short_field j s e = go (torn_header s) (strange_tag j.last (tag_of s)) (short_body (kind_of (tag_of s)) j s e)
   where
-    go : (t u : Bool) → is_refused (body_of (kind_of (tag_of s)) j s) ≡ true → is_refused (cond t (reading.Refused Torn) (cond u (reading.Refused Strange) (body_of (kind_of (tag_of s)) j s))) ≡ true
+    go : (t u : Bool) → is_refused (body_of (kind_of (tag_of s)) j s) ≡ true → is_refused (cond t (Err Torn) (cond u (Err Strange) (body_of (kind_of (tag_of s)) j s))) ≡ true
     go true u h = refl
     go false true h = refl
     go false false h = h
@@ -126,7 +127,7 @@ module _ (b : ℕ) where
 
   abbrev pub re_read : ReadEnd → ReadEnd
   re_read (end (Ok j) w ss js) = end (Ok (with_bits j)) w ss js
-  re_read (end (Refused r) w ss js) = end (Refused r) w ss js
+  re_read (end (Err r) w ss js) = end (Err r) w ss js
 
   body_bits : (k : Kind) (j : Job) (s : List ℕ) → body_of k (with_bits j) s ≡ body_of k j s
   unfolding body_of
@@ -138,7 +139,7 @@ module _ (b : ℕ) where
 
   field_bits : (j : Job) (s : List ℕ) → field_of (with_bits j) s ≡ field_of j s
   unfolding field_of
-  field_bits j s = ap (λ (r : Reading). cond (torn_header s) (reading.Refused Torn) (cond (strange_tag j.last (tag_of s)) (reading.Refused Strange) r)) (body_bits (kind_of (tag_of s)) j s)
+  field_bits j s = ap (λ (r : Result (Field × ℕ) Refusal). cond (torn_header s) (Err Torn) (cond (strange_tag j.last (tag_of s)) (Err Strange) r)) (body_bits (kind_of (tag_of s)) j s)
 
   either : (t : Bool) (x y : ReadEnd) → cond t (re_read x) (re_read y) ≡ re_read (cond t x y)
   either true x y = refl
@@ -149,14 +150,14 @@ module _ (b : ℕ) where
     Runs : ℕ → Type 0
     Runs k = (j : Job) (w ss js : List ℕ) → 4 ≤ j.at → 0 < j.last → run k q (with_bits j) w ss js ≡ re_read (run k p j w ss js)
 
-    step : (k : ℕ) → Runs k → (r : Reading) (j : Job) (w ss js : List ℕ) → 4 ≤ j.at → ((x n : ℕ) → r ≡ reading.Read (Settings x) n → ⊥) → follow (run k q) (taken r (with_bits j) w ss js) ≡ re_read (follow (run k p) (taken r j w ss js))
+    step : (k : ℕ) → Runs k → (r : Result (Field × ℕ) Refusal) (j : Job) (w ss js : List ℕ) → 4 ≤ j.at → ((x n : ℕ) → r ≡ Ok (Settings x, n) → ⊥) → follow (run k q) (taken r (with_bits j) w ss js) ≡ re_read (follow (run k p) (taken r j w ss js))
     unfolding Runs
-    step k h (reading.Refused r) j w ss js l never = refl
-    step k h (reading.Read (Settings x) n) j w ss js l never = absurd (never x n refl)
-    step k h (reading.Read (Point x y next prev rec z) n) j w ss js l never = h (past (Point x y next prev rec z) n j) _ ss js (omega arith) (omega arith)
-    step k h (reading.Read (Record flags owner first) n) j w ss js l never = h (past (Record flags owner first) n j) _ ss js (omega arith) (omega arith)
-    step k h (reading.Read (Segment x) n) j w ss js l never = h (past (Segment x) n j) w _ js (omega arith) (omega arith)
-    step k h (reading.Read (Join x y) n) j w ss js l never = h (past (Join x y) n j) w ss _ (omega arith) (omega arith)
+    step k h (Err r) j w ss js l never = refl
+    step k h (Ok (Settings x, n)) j w ss js l never = absurd (never x n refl)
+    step k h (Ok (Point x y next prev rec z, n)) j w ss js l never = h (past (Point x y next prev rec z) n j) _ ss js (omega arith) (omega arith)
+    step k h (Ok (Record flags owner first, n)) j w ss js l never = h (past (Record flags owner first) n j) _ ss js (omega arith) (omega arith)
+    step k h (Ok (Segment x, n)) j w ss js l never = h (past (Segment x) n j) w _ js (omega arith) (omega arith)
+    step k h (Ok (Join x y, n)) j w ss js l never = h (past (Join x y) n j) w ss _ (omega arith) (omega arith)
 
     runs : (k : ℕ) → Runs k
     unfolding Runs run turn_of
@@ -164,17 +165,17 @@ module _ (b : ℕ) where
     runs (suc k) j w ss js l m =
         ap (λ (n : ℕ). cond (ltb j.at n) (follow (run k q) (taken (field_of (with_bits j) (drop j.at q)) (with_bits j) w ss js)) (end (Ok (with_bits j)) w ss js)) long
         ∙ ap (λ (s : List ℕ). cond (ltb j.at (length p)) (follow (run k q) (taken (field_of (with_bits j) s) (with_bits j) w ss js)) (end (Ok (with_bits j)) w ss js)) (rest j.at l)
-        ∙ ap (λ (r : Reading). cond (ltb j.at (length p)) (follow (run k q) (taken r (with_bits j) w ss js)) (end (Ok (with_bits j)) w ss js)) (field_bits j (drop j.at p))
+        ∙ ap (λ (r : Result (Field × ℕ) Refusal). cond (ltb j.at (length p)) (follow (run k q) (taken r (with_bits j) w ss js)) (end (Ok (with_bits j)) w ss js)) (field_bits j (drop j.at p))
         ∙ ap (λ (e : ReadEnd). cond (ltb j.at (length p)) e (end (Ok (with_bits j)) w ss js)) (step k (runs k) (field_of j (drop j.at p)) j w ss js l (no_settings j (drop j.at p) m))
         ∙ either (ltb j.at (length p)) (follow (run k p) (taken (field_of j (drop j.at p)) j w ss js)) (end (Ok j) w ss js)
 
   -- ---- the first field
 
   -- a refusal is the same
-  refuses : (f : Job → List ℕ → List ℕ → List ℕ → ReadEnd) (r : Reading) (j : Job) (w ss js : List ℕ) → is_refused r ≡ true → follow f (taken r j w ss js) ≡ re_read (follow f (taken r j w ss js))
+  refuses : (f : Job → List ℕ → List ℕ → List ℕ → ReadEnd) (r : Result (Field × ℕ) Refusal) (j : Job) (w ss js : List ℕ) → is_refused r ≡ true → follow f (taken r j w ss js) ≡ re_read (follow f (taken r j w ss js))
   unfolding is_refused
-  refuses f (reading.Refused r) j w ss js e = refl
-  refuses f (reading.Read x n) j w ss js e = absurd (true≢false (sym e))
+  refuses f (Err r) j w ss js e = refl
+  refuses f (Ok (x, n)) j w ss js e = absurd (true≢false (sym e))
 
   short_job : (p w ss js : List ℕ) → 0 < length p → is_refused (field_of fresh p) ≡ true → fill_of p w ss js ≡ re_read (fill_of p w ss js)
   short_job p w ss js l e = filled p w ss js l ∙ refuses (run (length p) p) (field_of fresh p) fresh w ss js e ∙ ap re_read (sym (filled p w ss js l))
@@ -188,8 +189,8 @@ module _ (b : ℕ) where
     unfolding field_of body_of Runs
     tagged = go (torn_header (1 ∷ b1 ∷ b2 ∷ b ∷ r)) (torn_value kind.Settings (1 ∷ b1 ∷ b2 ∷ b ∷ r)) (ltb 3 b) (ltb 3 b3) strange
       where
-        go : (t u x y : Bool) → x ≡ y → follow (run k (1 ∷ b1 ∷ b2 ∷ b ∷ r)) (taken (cond t (reading.Refused Torn) (cond u (reading.Refused Torn) (cond x (reading.Refused Strange) (reading.Read (Settings b) 4)))) fresh w ss js)
-            ≡ re_read (follow (run k (1 ∷ b1 ∷ b2 ∷ b3 ∷ r)) (taken (cond t (reading.Refused Torn) (cond u (reading.Refused Torn) (cond y (reading.Refused Strange) (reading.Read (Settings b3) 4)))) fresh w ss js))
+        go : (t u x y : Bool) → x ≡ y → follow (run k (1 ∷ b1 ∷ b2 ∷ b ∷ r)) (taken (cond t (Err Torn) (cond u (Err Torn) (cond x (Err Strange) (Ok (Settings b, 4))))) fresh w ss js)
+            ≡ re_read (follow (run k (1 ∷ b1 ∷ b2 ∷ b3 ∷ r)) (taken (cond t (Err Torn) (cond u (Err Torn) (cond y (Err Strange) (Ok (Settings b3, 4))))) fresh w ss js))
         go true u x y e = refl
         go false true x y e = refl
         go false false true true e = refl
@@ -211,8 +212,8 @@ module _ (b : ℕ) where
             both false false true = refl
             both false false false = refl
 
-        go : (t u : Bool) → u ≡ true → follow (run k (b0 ∷ b1 ∷ b2 ∷ b ∷ r)) (taken (cond t (reading.Refused Torn) (cond u (reading.Refused Strange) (body_of (kind_of b0) fresh (b0 ∷ b1 ∷ b2 ∷ b ∷ r)))) fresh w ss js)
-            ≡ re_read (follow (run k (b0 ∷ b1 ∷ b2 ∷ b3 ∷ r)) (taken (cond t (reading.Refused Torn) (cond u (reading.Refused Strange) (body_of (kind_of b0) fresh (b0 ∷ b1 ∷ b2 ∷ b3 ∷ r)))) fresh w ss js))
+        go : (t u : Bool) → u ≡ true → follow (run k (b0 ∷ b1 ∷ b2 ∷ b ∷ r)) (taken (cond t (Err Torn) (cond u (Err Strange) (body_of (kind_of b0) fresh (b0 ∷ b1 ∷ b2 ∷ b ∷ r)))) fresh w ss js)
+            ≡ re_read (follow (run k (b0 ∷ b1 ∷ b2 ∷ b3 ∷ r)) (taken (cond t (Err Torn) (cond u (Err Strange) (body_of (kind_of b0) fresh (b0 ∷ b1 ∷ b2 ∷ b3 ∷ r)))) fresh w ss js))
         go true u e = refl
         go false true e = refl
         go false false e = absurd (true≢false (sym e))

@@ -16,7 +16,7 @@ use Rattle.store.specs.Field.{rc, ct, SETTINGS, REASON, TAKER}
 use Rattle.store.specs.Words.{Store}
 use Rattle.store.specs.Sound.{ringless, is_open}
 use Rattle.store.specs.Value.{preserve_collinear, reverse_solution}
-use Rattle.paths.specs.declared.PathEnd.TheVariants.{Points}
+use Rattle.std.specs.Prelude.{Ok}
 use Rattle.paths.specs.Path.{point_at, points_at, small_by, end_by, path_end, path_at, paths_below}
 use Rattle.opposite.specs.Opposite.{turned_over}
 use Rattle.opposite.specs.Turned.{TurnedOr, neither, both, walk_at}
@@ -40,7 +40,7 @@ module _ (s : Store) where
   -- a path and the other end building it alike
   ends_same : (t : Bool) (c : List Point) (x y : Option (List Point)) → TurnedOr c x y → end_by t y ≡ end_by t x
   ends_same t c x y neither = refl
-  ends_same t c x y (both {this} {that} h) = ap Points (sym (length-map that ground) ∙ ap length h.places ∙ length-reverse (map ground this) ∙ length-map this ground)
+  ends_same t c x y (both {this} {that} h) = ap Ok (sym (length-map that ground) ∙ ap length h.places ∙ length-reverse (map ground this) ∙ length-map this ground)
 
   end_same : (i : ℕ) → path_end (turned_over s) (reverse_solution (turned_over s)) (is_open s i) i ≡ path_end s (reverse_solution s) (is_open s i) i
   unfolding path_end path_at

@@ -7,6 +7,7 @@ use native.Mathlib.Omega.{arith}
 use lib.Dec.{leb, ltb, eqb}
 use lib.ListN.{length, get_or}
 use lib.Seq.{set-get_or}
+use Rattle.std.specs.Prelude.{Result, Ok, Err}
 use Rattle.geometry.specs.declared.Point.{Point}
 use Rattle.job.specs.declared.refusal.Refusal.{Refusal}
 use Rattle.job.specs.declared.refusal.Refusal.TheVariants as refusal
@@ -16,18 +17,14 @@ use Rattle.store.specs.Words.{Store, put, view}
 use Rattle.store.specs.Named.{settings_of}
 use Rattle.store.specs.Sound.{recs}
 use Rattle.store.specs.Value.{preserve_collinear}
-use Rattle.audit.specs.declared.Verdict.{Verdict}
-use Rattle.audit.specs.declared.Verdict.TheVariants as verdict
 use Rattle.handed.specs.Handed.{handed_of}
 use Rattle.steps.specs.Live.{any_live}
 use Rattle.acts.specs.Finish.{RingsEnd, rings_done, rings_full, finish_w}
-use Rattle.paths.specs.declared.Written.TheVariants.{Paths, Refused}
+use Rattle.paths.specs.Wrote.{ok_paths}
 use Rattle.paths.specs.Path.{path_at, paths_below, closed_paths, open_paths}
 use Rattle.paths.specs.Tray.{fields_of, padded}
 use Rattle.paths.specs.Wrote.{Wrote, wrote, build_paths64}
 use Rattle.turns.specs.Form.{raised}
-use Rattle.opening.specs.declared.open.Opened.TheVariants.{Accepted}
-use Rattle.opening.specs.declared.open.Opened.TheVariants as opened
 use Rattle.opening.specs.Open.{End, end, open_of}
 use Rattle.opening.proofs.Accepted.{after_opening_lem}
 use Rattle.finishing.specs.Finish.{then_boxed, finish_rings}
@@ -39,8 +36,6 @@ use Rattle.opposite.proofs.Stores.{kept_bit, walk_other, path_other, all_other, 
 use Rattle.listing.specs.Senses.{words_of}
 use Rattle.listing.proofs.Senses.{words_stay}
 use Rattle.telling.specs.declared.Reason.{Reason}
-use Rattle.telling.specs.declared.Told.TheVariants.{Because}
-use Rattle.telling.specs.declared.Told.TheVariants as telling
 use Rattle.telling.specs.Telling.{reason_at, reason_by, reason_of}
 use Rattle.turned.specs.Turned.{turned_round, tray_bytes, EitherWay, both_give, both_refuse, TurningRound}
 use Rattle.turned.proofs.Bits.{same_range, one_bit}
@@ -80,20 +75,20 @@ module _ (v : ℕ) (w t : List ℕ) (d : re v w ≡ put (ct SETTINGS) w 0 (other
 
   told : (j : ℕ) → reason_of (re v w) j ≡ reason_of w j
   unfolding reason_of
-  told j = ap (λ (x : Verdict). reason_by x (re v w) j) (handed_re v w) ∙ go (handed_of w)
+  told j = ap (λ (x : Result (Unit {0}) Refusal). reason_by x (re v w) j) (handed_re v w) ∙ go (handed_of w)
     where
-      go : (x : Verdict) → reason_by x (re v w) j ≡ reason_by x w j
-      go (verdict.Refused r) = refl
-      go verdict.Passed =
-          ap (λ (n : ℕ). cond (not (ltb j n) || any_live (view (re v w))) (telling.Refused refusal.OutOfTurn) (Because (reason_at (view (re v w)) j))) (recs_re v w)
-          ∙ ap (λ (b : Bool). cond (not (ltb j (recs (view w))) || b) (telling.Refused refusal.OutOfTurn) (Because (reason_at (view (re v w)) j))) (any_live_re v w)
-          ∙ ap (λ (r : Reason). cond (not (ltb j (recs (view w))) || any_live (view w)) (telling.Refused refusal.OutOfTurn) (Because r)) (f.reasons j)
+      go : (x : Result (Unit {0}) Refusal) → reason_by x (re v w) j ≡ reason_by x w j
+      go (Err r) = refl
+      go (Ok tt) =
+          ap (λ (n : ℕ). cond (not (ltb j n) || any_live (view (re v w))) (Err refusal.OutOfTurn) (Ok (reason_at (view (re v w)) j))) (recs_re v w)
+          ∙ ap (λ (b : Bool). cond (not (ltb j (recs (view w))) || b) (Err refusal.OutOfTurn) (Ok (reason_at (view (re v w)) j))) (any_live_re v w)
+          ∙ ap (λ (r : Reason). cond (not (ltb j (recs (view w))) || any_live (view w)) (Err refusal.OutOfTurn) (Ok r)) (f.reasons j)
 
   abbrev X : List ℕ → Wrote
-  X u = wrote (Paths (length (closed_paths (view u))) (length (open_paths (view u)))) (padded (length t) (fields_of (view u)))
+  X u = wrote (ok_paths (length (closed_paths (view u))) (length (open_paths (view u)))) (padded (length t) (fields_of (view u)))
 
   abbrev Y : Wrote
-  Y = wrote (Refused refusal.SmallTray) t
+  Y = wrote (Err refusal.SmallTray) t
 
   by : (b : Bool) → EitherWay (length t) (after_writing w (cond b (X w) Y).answer (cond b (X w) Y).tray) (after_writing (re v w) (cond b (X (re v w)) Y).answer (cond b (X (re v w)) Y).tray)
   by true =
@@ -140,7 +135,7 @@ refuse_both x n m t e = both_refuse (record { number = x; refused = refl; alike 
 
 -- ---- one job that is opened, and the other
 
-module _ (job lent w t : List ℕ) (e : open_of job lent ≡ end Accepted w) where
+module _ (job lent w t : List ℕ) (e : open_of job lent ≡ end (Ok tt) w) where
   -- its settings byte, and the other's
   abbrev k : ℕ
   k = get_or job 3 0
@@ -150,7 +145,7 @@ module _ (job lent w t : List ℕ) (e : open_of job lent ≡ end Accepted w) whe
 
   -- the settings of what opening left are that byte
   keeps : w ≡ re k w
-  keeps = let h : end Accepted w ≡ end Accepted (re k w) = sym e ∙ ap (λ (p : List ℕ). open_of p lent) (sym (set-get_or job 3 0)) ∙ open_re k job lent refl ∙ ap (re_open k) e in cc
+  keeps = let h : end (Ok tt) w ≡ end (Ok tt) (re k w) = sym e ∙ ap (λ (p : List ℕ). open_of p lent) (sym (set-get_or job 3 0)) ∙ open_re k job lent refl ∙ ap (re_open k) e in cc
 
   not_empty : 0 < length w
   not_empty = let l = (after_opening_lem w job lent e).ready.long in omega arith
@@ -198,8 +193,8 @@ unfolding finish_of
 either_way job lent t = subst (λ (z : End). EitherWay (length t) (after_opening (open_of job lent) t) (after_opening z t)) (sym (open_re (other_bits (get_or job 3 0)) job lent (same_range (get_or job 3 0)))) (go (open_of job lent) refl)
   where
     go : (z : End) → open_of job lent ≡ z → EitherWay (length t) (after_opening z t) (after_opening (re_open (other_bits (get_or job 3 0)) z) t)
-    go (end Accepted w) e = accepted job lent w t e
-    go (end (opened.Refused x) w) e = refuse_both x (length w) (length w) t refl
+    go (end (Ok tt) w) e = accepted job lent w t e
+    go (end (Err x) w) e = refuse_both x (length w) (length w) t refl
 
 pub turning_round : (job : List ℕ) → TurningRound job
 turning_round job = record { one_bit = one_bit job; either_way = either_way job }

@@ -9,7 +9,8 @@ use Rattle.job.specs.declared.refusal.Refusal.{Refusal}
 use Rattle.store.specs.Field.{ct, SETTINGS}
 use Rattle.store.specs.Words.{view, put}
 use Rattle.store.specs.Sound.{recs}
-use Rattle.paths.specs.declared.Written.TheVariants.{Paths, Refused}
+use Rattle.std.specs.Prelude.{Err}
+use Rattle.paths.specs.Wrote.{ok_paths}
 use Rattle.paths.specs.Path.{path_at, closed_paths, open_paths}
 use Rattle.paths.specs.Tray.{tag_of, fields, padded}
 use Rattle.opposite.specs.Opposite.{other_bits, all_on_ground, opposite}
@@ -55,7 +56,7 @@ tray_bytes cs os = fields (tag_of false) cs ++ fields (tag_of true) os
 pub record GivesPaths (n : ℕ) (f : Finished) (cs os : List (List Point)) : Type 0 where
   pub closed : closed_paths (view f.words) ≡ cs
   pub open_ones : open_paths (view f.words) ≡ os
-  pub answer : f.answer ≡ Paths (length cs) (length os)
+  pub answer : f.answer ≡ ok_paths (length cs) (length os)
   pub tray : f.tray ≡ padded n (tray_bytes cs os)
 
 -- both accepted
@@ -96,7 +97,7 @@ pub record BothGive (n : ℕ) (one other : Finished) : Type 0 where
 -- both refused with the same number, and everything that is left is the same
 pub record BothRefuse (one other : Finished) : Type 0 where
   pub number : Refusal
-  pub refused : one.answer ≡ Refused number
+  pub refused : one.answer ≡ Err number
   pub alike : other ≡ one
 
 pub data EitherWay (n : ℕ) (one other : Finished) : Type 0 where

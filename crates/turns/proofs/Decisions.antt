@@ -40,7 +40,7 @@ use Rattle.turns.specs.Code.{due_is}
 use Rattle.turns.specs.Form.{raised, geometry_of}
 use Rattle.turns.specs.Reads.{Found, Valued, Going, Three, Four, EdgesAt}
 use Rattle.turns.specs.Decide.{keeps_by, small_at, remove_at, valid_without, removal_at, validity_at, triangle_at, three_from, three_left, due_on, ring_from, cut_at, split_op_at, crossed_at, split_at, decide_due, decide_at}
-use Rattle.turns.proofs.Reading.{low, found}
+use Rattle.turns.proofs.Reading.{found}
 use Rattle.turns.proofs.Sizes.{ring_fits}
 
 -- ---- what is read is on the ring

@@ -1,5 +1,5 @@
 // Deciding a step: reads only. Ports of `clean_collinear`, `fix_self_intersects` and `do_split_op`.
-ghost use Rattle.std.specs.Prelude.{◌≡◌, cond, not, ◌||◌, ◌+◌, ◌<◌, ◌≤◌, nat_abs, length};
+ghost use Rattle.std.specs.Prelude.{◌≡◌, cond, not, ◌||◌, ◌+◌, ◌<◌, ◌≤◌, length};
 ghost use Rattle.job.specs.Limits as limit;
 ghost use Rattle.rings.specs.Progress.{split, done, while_removing};
 ghost use Rattle.geometry.specs.Plane.{same_point, area_triangle};
@@ -28,8 +28,7 @@ fn preserve(w: &[u32]) -> bool
     requires { BLOCK ≤ length w.now }
     ensures { result ≡ preserve_collinear (view w.now) }
 {
-    let s = get(w, Col::Settings, 0);
-    s % 2 == 1
+    get(w, Col::Settings, 0) % 2 == 1
 }
 
 // The present place of record i.
@@ -55,8 +54,7 @@ fn validity_test(w: &[u32], i: usize) -> Act
     ensures { act_is result ≡ validity_at raised.of (geometry_of (view w.now)) (view w.now) i }
 {
     let f = first_of(w, i);
-    let valid = walks::is_valid_closed_path(w, f);
-    if valid {
+    if walks::is_valid_closed_path(w, f) {
         return Act::ToFirst(Due::Removal);
     }
     Act::Discard(Discard::AtValidity)
@@ -106,8 +104,7 @@ pub fn valid_without(w: &[u32], x: usize) -> bool
         return false;
     }
     if e == x {
-        let t = small_at(w, a, b, c);
-        return !t;
+        return !small_at(w, a, b, c);
     }
     true
 }
@@ -117,8 +114,7 @@ fn after_drop(w: &[u32], x: usize) -> Act
     requires { OnRing w.now x }
     ensures { act_is result ≡ cond (valid_without raised.of (geometry_of (view w.now)) (view w.now) x) drop_point (discard while_removing) }
 {
-    let v = valid_without(w, x);
-    if v {
+    if valid_without(w, x) {
         return Act::Drop;
     }
     Act::Discard(Discard::WhileRemoving)
@@ -131,8 +127,7 @@ fn removal_turn(w: &[u32], i: usize) -> Act
     let x = present_of(w, i);
     let n = next_of(w, x);
     let p = prev_of(w, x);
-    let gone = removable_at(w, p, x, n);
-    if gone {
+    if removable_at(w, p, x, n) {
         return after_drop(w, x);
     }
     let s = get(w, Col::Start, i);
@@ -160,24 +155,13 @@ fn triangle_test(w: &[u32], i: usize) -> Act
     ensures { act_is result ≡ triangle_at (view w.now) i }
 {
     let f = first_of(w, i);
-    let three = is_three(w, f);
-    if three {
+    if is_three(w, f) {
         return Act::ToFirst(Due::Done);
     }
     Act::ToFirst(Due::Split)
 }
 
 // ---- a turn of the split loop
-
-// The size of a number.
-fn size_of(a: i64) -> usize
-    ensures { result ≡ nat_abs a }
-{
-    if a < 0 {
-        return (0 - (a + 1)) as usize + 1;
-    }
-    a as usize
-}
 
 // Whether the loop ends at k: it is the first point or the loop's start.
 fn due_on(w: &[u32], i: usize, k: usize) -> Due
@@ -220,19 +204,14 @@ fn put_in(ip: Point, prev: Point, next_next: Point) -> bool
 fn keeps(area1: i64, area2: i64) -> bool
     ensures { result ≡ keeps_by area1 area2 }
 {
-    let n2 = size_of(area2);
+    let n2 = area2.unsigned_abs();
     if n2 < 1 {
         return false;
     }
-    let n1 = size_of(area1);
-    if n1 / 2 < n2 {
+    if area1.unsigned_abs() / 2 < n2 {
         return true;
     }
-    let plus = 0 < area1;
-    if 0 < area2 {
-        return plus;
-    }
-    !plus
+    (0 < area1) == (0 < area2)
 }
 
 // The same, by the triangle's points.
@@ -267,8 +246,7 @@ fn due_left(w: &[u32], x: usize, put: bool) -> Due
     requires { OnRing w.now x }
     ensures { due_is result ≡ cond (three_left (view w.now) put x) done split }
 {
-    let t = three_left(w, x, put);
-    if t {
+    if three_left(w, x, put) {
         return Due::Done;
     }
     Due::Split
@@ -279,20 +257,11 @@ fn crossing_of(e: Edges) -> Point
     requires { Paired e }
     ensures { Crossed e.a e.b e.c e.d result }
 {
-    let f = crossing::get_segment_intersect_pt(e);
-    match f {
-        Crossing::Parallel => {
-            return e.a;
-        }
-        Crossing::Start => {
-            return e.a;
-        }
-        Crossing::End => {
-            return e.b;
-        }
-        Crossing::Inside { first, second: _ } => {
-            return crossing::point_inside(e, first);
-        }
+    match crossing::get_segment_intersect_pt(e) {
+        Crossing::Parallel => e.a,
+        Crossing::Start => e.a,
+        Crossing::End => e.b,
+        Crossing::Inside { first, second: _ } => crossing::point_inside(e, first),
     }
 }
 
@@ -314,8 +283,7 @@ fn do_split_op(w: &[u32], p: usize, x: usize, e: Edges) -> Act
     ensures { act_is result ≡ split_op_at raised.of (geometry_of (view w.now)) (view w.now) p x e.a e.b e.c e.d }
 {
     let area1 = area_outpt(w, p);
-    let n = size_of(area1);
-    if n < 4 {
+    if area1.unsigned_abs() < 4 {
         return Act::Discard(Discard::AtSplit);
     }
     cut_at(w, x, e, area1)
@@ -328,11 +296,8 @@ fn crossed_turn(w: &[u32], i: usize, p: usize, x: usize, z: usize, e: Edges) -> 
 {
     let u = next_of(w, z);
     let v = point_at(w, u);
-    let twice = crossing::segments_intersect(crossing::edges_of(e.a, e.b, e.d, v));
-    if twice {
-        let d = due_on(w, i, x);
-        let after = e.d;
-        return Act::Double(after, d);
+    if crossing::segments_intersect(crossing::edges_of(e.a, e.b, e.d, v)) {
+        return Act::Double(e.d, due_on(w, i, x));
     }
     do_split_op(w, p, x, e)
 }
@@ -346,12 +311,10 @@ fn split_turn(w: &[u32], i: usize) -> Act
     let z = next_of(w, y);
     let p = prev_of(w, x);
     let e = edges_at(w, p, x, y, z);
-    let hit = crossing::segments_intersect(e);
-    if hit {
+    if crossing::segments_intersect(e) {
         return crossed_turn(w, i, p, x, z, e);
     }
-    let d = due_on(w, i, y);
-    Act::MoveOn(d)
+    Act::MoveOn(due_on(w, i, y))
 }
 
 // The step due, decided.
@@ -359,23 +322,12 @@ fn decide_due(w: &[u32], i: usize) -> Act
     requires { Going w.now i }
     ensures { act_is result ≡ decide_at raised.of (geometry_of (view w.now)) (view w.now) i }
 {
-    let d = due_at(w, i);
-    match d {
-        Due::Validity => {
-            return validity_test(w, i);
-        }
-        Due::Removal => {
-            return removal_turn(w, i);
-        }
-        Due::Triangle => {
-            return triangle_test(w, i);
-        }
-        Due::Split => {
-            return split_turn(w, i);
-        }
-        Due::Done => {
-            return Act::Stay;
-        }
+    match due_at(w, i) {
+        Due::Validity => validity_test(w, i),
+        Due::Removal => removal_turn(w, i),
+        Due::Triangle => triangle_test(w, i),
+        Due::Split => split_turn(w, i),
+        Due::Done => Act::Stay,
     }
 }
 

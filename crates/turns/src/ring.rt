@@ -37,23 +37,16 @@ pub fn point_at(w: &[u32], k: usize) -> Point
     point(w, k)
 }
 
-// The step due: a record's progress mark.
+// The step due: a record's progress mark. The marks are words of the work space, which C hands over; a From of a word would be this match.
 pub fn due_at(w: &[u32], i: usize) -> Due
     requires { (BLOCK ≤ length w.now) × (i < limit.RECORDS) }
     ensures { due_is result ≡ due_at (view w.now) i }
 {
-    let m = get(w, Col::Mark, i);
-    if m == 0 {
-        return Due::Validity;
+    match get(w, Col::Mark, i) {
+        0 => Due::Validity,
+        1 => Due::Removal,
+        2 => Due::Triangle,
+        3 => Due::Split,
+        _ => Due::Done,
     }
-    if m == 1 {
-        return Due::Removal;
-    }
-    if m == 2 {
-        return Due::Triangle;
-    }
-    if m == 3 {
-        return Due::Split;
-    }
-    Due::Done
 }

@@ -1,11 +1,11 @@
 -- How a walk along owners goes, hop by hop.
-use mathlib.Core.Path.{◌≡◌, sym, ap, ◌∙◌}
+use mathlib.Core.Path.{◌≡◌, sym, ap, subst, ◌∙◌}
 use mathlib.Core.Bool.{Bool, true, false, not, ◌&&◌}
 use mathlib.Core.Logic.{◌≢◌}
 use mathlib.Core.List.{List}
-use Prim.Native.Nat.{ℕ, zero, suc, ◌-◌, ◌<◌, ◌≤◌}
+use Prim.Native.Nat.{ℕ, zero, suc, ◌+◌, ◌-◌, ◌<◌, ◌≤◌}
 use native.Mathlib.Decide.{ℕ_discrete}
-use native.Mathlib.Numerals.{sub-one}
+use native.Mathlib.Numerals.{sub-one, add-one}
 use native.Mathlib.Omega.{arith}
 use lib.Dec.{eqb, leb}
 use borrow.Author.Tests.{eq-eqb, ne_eqb, leb-false}
@@ -45,10 +45,13 @@ module _ (first owner : ℕ → ℕ) (q F : ℕ) where
   nowhere zero a o z d b g h e = absurd (omega arith)
   nowhere (suc f) a o z d b g h e = rw (eq-eqb (first q) NONE (sym d ∙ b), eq-eqb (owner q) NONE (sym g ∙ h)) at e
 
-  pub hop : (f a o : ℕ) → 0 < f → a ≡ first q → a ≡ NONE → o ≡ owner q → o ≢ NONE → find_in f first owner q ≡ F → find_in (f - 1) first owner o ≡ F
+  -- j records to go after this one
+  pub hop : (f j a o : ℕ) → f ≡ j + 1 → a ≡ first q → a ≡ NONE → o ≡ owner q → o ≢ NONE → find_in f first owner q ≡ F → find_in j first owner o ≡ F
   unfolding find_in
-  hop zero a o z d b g h e = absurd (omega arith)
-  hop (suc f) a o z d b g h e = rw (sub-one, g) (rw (eq-eqb (first q) NONE (sym d ∙ b), ne_eqb (owner q) NONE (λ y. h (g ∙ y))) at e)
+  hop f j a o z d b g h e = rw g (rw (eq-eqb (first q) NONE (sym d ∙ b), ne_eqb (owner q) NONE (λ y. h (g ∙ y))) at x)
+    where
+      x : find_in (suc j) first owner q ≡ F
+      x = subst (λ (n : ℕ). find_in n first owner q ≡ F) (z ∙ add-one j) e
 
   pub spent : (f : ℕ) → f ≤ 0 → find_in f first owner q ≡ F → NONE ≡ F
   unfolding find_in

@@ -59,13 +59,17 @@ module _ {w : List ℕ} {r q left : ℕ} (g : Toward w r q left) where
       pub no_home : o ≡ NONE → NONE ≡ get_real_outrec w r
       no_home n = nowhere (first_of w) (owner_of w) q (get_real_outrec w r) RECORDS a o (omega arith) d k e n g.same
 
-      pub toward_on : 0 < left → (o ≡ NONE → ⊥) → Toward w r o (left - 1)
-      toward_on z n =
+      toward_less : 0 < left → (o ≡ NONE → ⊥) → Toward w r o (left - 1)
+      toward_less z n =
           let s : ends_in (left - 1) (owner_of w) o ≡ true = not-false (ends_in (left - 1) (owner_of w) o) (ends_on (owner_of w) q false left o z e n (ap not g.ends)) in
           let x : get_real_outrec w o ≡ find_in (left - 1) (first_of w) (owner_of w) o = still (first_of w) (owner_of w) (left - 1) RECORDS o s (omega (arith, g.few)) in
           let y : find_in 511 (first_of w) (owner_of w) o ≡ find_in (left - 1) (first_of w) (owner_of w) o = still (first_of w) (owner_of w) (left - 1) 511 o s (omega (arith, g.few)) in
-          let v : find_in 511 (first_of w) (owner_of w) o ≡ get_real_outrec w r = hop (first_of w) (owner_of w) q (get_real_outrec w r) RECORDS a o (omega arith) d k e n g.same in
+          let v : find_in 511 (first_of w) (owner_of w) o ≡ get_real_outrec w r = hop (first_of w) (owner_of w) q (get_real_outrec w r) RECORDS 511 a o (omega arith) d k e n g.same in
           record { few = omega (arith, g.few); ends = s; same = x ∙ sym y ∙ v }
+
+      -- m records to go after this one
+      pub toward_on : (m : ℕ) → 0 < left → m ≡ left - 1 → (o ≡ NONE → ⊥) → Toward w r o m
+      toward_on m z l n = rw l (toward_less z n)
 
 -- the same while r's home is written down: hs₀ is the table before, hs the table now
 pub record Along (w : List ℕ) (r : ℕ) (hs₀ : List ℕ) (q left : ℕ) (hs : List ℕ) : Type 0 where
@@ -105,10 +109,10 @@ module _ {w : List ℕ} {r : ℕ} {hs₀ : List ℕ} {q left : ℕ} {hs : List �
         by (yes k) v l = rw (← k) (right_here (get_real_outrec w) hs q h v (rw (k, s) l))
         by (no k) v l = right_set (get_real_outrec w) hs q h v r (g.here k l)
 
-    pub on_along : (a : ℕ) → a ≡ first_of w q → a ≡ NONE → (o : ℕ) → o ≡ owner_of w q → 0 < left → (o ≡ NONE → ⊥) → Along w r hs₀ o (left - 1) hs'
-    on_along a b k o c z n =
+    pub on_along : (a : ℕ) → a ≡ first_of w q → a ≡ NONE → (o : ℕ) → o ≡ owner_of w q → (m : ℕ) → 0 < left → m ≡ left - 1 → (o ≡ NONE → ⊥) → Along w r hs₀ o m hs'
+    on_along a b k o c m z l n =
         let t = put_along in
-        record { way = toward_on g.way a b k o c z n; homes = t.homes; kept = t.kept; here = λ _ l. t.here l }
+        record { way = toward_on g.way a b k o c m z l n; homes = t.homes; kept = t.kept; here = λ _ l. t.here l }
 
 pub homes_blank : (w hs : List ℕ) (n : ℕ) → hs ≡ replicate n UNKNOWN → Homes w hs
 homes_blank w hs n e = rw e (record { known = λ r k. absurd (k (blank n r)) })

@@ -9,7 +9,7 @@ use native.Mathlib.Omega.{arith}
 use lib.Bits.{bit_or}
 use lib.Dec.{eqb}
 use lib.ListN.{replicate}
-use borrow.Author.Tests.{eq-eqb, ne_eqb, eqb-true, eqb-false, not-true, not-false}
+use borrow.Author.Tests.{eq-eqb, ne_eqb, eqb-true, eqb-false}
 use Rattle.rings.specs.Walk.{run}
 use Rattle.job.specs.Limits.{POINTS, RECORDS}
 use Rattle.marks.specs.Marks.{BITS, WORDS, with_bit, with_mark, with_bits, marked, all_below}
@@ -22,7 +22,7 @@ use Rattle.audit.specs.Tests.{any_below}
 use Rattle.audit.proofs.Testing.{none, more, hit}
 use Rattle.joins.specs.Resolve.{get_real_outrec}
 use Rattle.visits.specs.Rings.{any_in, alone, elsewhere, estranged}
-use Rattle.visits.specs.Marks.{marks_on, marks_to, Begins, Stretching, Stretched, Standing, to_go, Gathers}
+use Rattle.visits.specs.Marks.{marks_on, marks_to, Begins, Stretching, Met, Back, Onward, Standing, to_go, Strays, Gathers}
 use Rattle.visits.specs.declared.Place.{Place}
 use Rattle.visits.specs.declared.Gathered.{Gathered}
 use Rattle.visits.proofs.Chains.{here}
@@ -81,70 +81,50 @@ over_marks n a p zero ms z = refl
 over_marks n a p (suc f) ms z = absurd (omega arith)
 
 -- a stretch, point by point
-pub stretch_begun : (w : List ℕ) (i a p left word : ℕ) → Stretching w i a p left word 0 p left
-stretch_begun w i a p left word = record { found = refl; marks = λ ms. ap (marks_on (run (next_of w) a left p)) (no_bits ms word) }
+pub stretch_begun : (w : List ℕ) (i a p left word n : ℕ) → n ≡ left → Stretching w i a p left word 0 p n
+stretch_begun w i a p left word n e = rw e (record { found = refl; marks = λ ms. ap (marks_on (run (next_of w) a left p)) (no_bits ms word) })
 
-module _ {w : List ℕ} {i a p left word bits q n : ℕ} (g : Stretching w i a p left word bits q n) (z : 0 < n) (l : n ≤ left) where
-  pub stretch_on : (q ≡ p) ⊎ (n < left) → (q / BITS ≡ word → ⊥) → Stretched w i a p left word false false bits q n
-  stretch_on h d =
-      record {
-        found = λ y. clash y refl;
-        none = λ x y. clash y refl;
-        marks = λ x y. clash y refl;
-        goes_on = λ x y. g;
-        falls = λ x y. by h;
-        few = l;
-      }
+module _ {w : List ℕ} {c : Place} {word bits q n : ℕ} (g : Stretching w c.ring c.first c.point c.left word bits q n) (z : 0 < n) (l : n ≤ c.left) where
+  pub stretch_on : (q ≡ c.point) ⊎ (n < c.left) → (q / BITS ≡ word → ⊥) → Onward w c word bits (record { ring = c.ring; first = c.first; point = q; left = n })
+  stretch_on h d = record { ring = refl; first = refl; goes_on = g; falls = by h; few = l }
     where
-      by : (q ≡ p) ⊎ (n < left) → p / BITS ≡ word → n < left
+      by : (q ≡ c.point) ⊎ (n < c.left) → c.point / BITS ≡ word → n < c.left
       by (inl f) e = absurd (d (ap (λ (x : ℕ). x / BITS) f ∙ e))
       by (inr m) e = m
 
-  module _ (b : Bool) (e : b ≡ elsewhere w i q) where
-    pub stretch_met : b ≡ true → Stretched w i a p left word true false bits q n
-    stretch_met h =
-        record {
-          found = λ y. sym g.found ∙ ahead_yes (elsewhere w i) (next_of w) a q n z (sym e ∙ h);
-          none = λ x y. clash refl x;
-          marks = λ x y. clash refl x;
-          goes_on = λ x y. clash refl x;
-          falls = λ x y. clash refl x;
-          few = l;
-        }
+  module _ (b : Bool) (e : b ≡ elsewhere w c.ring q) where
+    pub stretch_met : b ≡ true → Met w c
+    stretch_met h = record { found = sym g.found ∙ ahead_yes (elsewhere w c.ring) (next_of w) c.first q n z (sym e ∙ h) }
 
-    module _ (x bits' : ℕ) (h : b ≡ false) (u : q / BITS ≡ word) (d : bits' ≡ with_bit bits (q % BITS)) (c : x ≡ next_of w q) where
+    module _ (x bits' : ℕ) (h : b ≡ false) (u : q / BITS ≡ word) (d : bits' ≡ with_bit bits (q % BITS)) (j : x ≡ next_of w q) where
       more_bits : (ms : List ℕ) → with_mark (with_bits ms word bits) q ≡ with_bits ms word bits'
       unfolding with_bit
       more_bits ms = rw (u, d) (bits_more ms word bits (2 ^ (q % BITS)))
 
-      pub stretch_back : x ≡ a → Stretched w i a p left word false true bits' x n
+      pub stretch_back : x ≡ c.first → Back w c word bits'
       stretch_back y =
           record {
-            found = λ t. clash t refl;
-            none = λ s t. sym g.found ∙ ahead_back (elsewhere w i) (next_of w) a q n z (sym e ∙ h) (sym c ∙ y);
-            marks = λ s t ms. sym (g.marks ms) ∙ marks_back (elsewhere w i) (next_of w) a q n (with_bits ms word bits) z (sym c ∙ y) ∙ more_bits ms;
-            goes_on = λ s t. clash refl t;
-            falls = λ s t. clash refl t;
-            few = l;
+            none = sym g.found ∙ ahead_back (elsewhere w c.ring) (next_of w) c.first q n z (sym e ∙ h) (sym j ∙ y);
+            marks = λ ms. sym (g.marks ms) ∙ marks_back (elsewhere w c.ring) (next_of w) c.first q n (with_bits ms word bits) z (sym j ∙ y) ∙ more_bits ms;
           }
 
-      pub stretch_more : (x ≡ a → ⊥) → Stretching w i a p left word bits' x (n - 1)
-      stretch_more y =
-          rw c
+      stretch_less : (x ≡ c.first → ⊥) → Stretching w c.ring c.first c.point c.left word bits' x (n - 1)
+      stretch_less y =
+          rw j
           (record {
-            found = sym (ahead_on (elsewhere w i) (next_of w) a q n z (sym e ∙ h) (λ t. y (c ∙ t))) ∙ g.found;
-            marks = λ ms. ap (marks_on (run (next_of w) a (n - 1) (next_of w q))) (sym (more_bits ms)) ∙ sym (marks_on_lem (elsewhere w i) (next_of w) a q n (with_bits ms word bits) z (λ t. y (c ∙ t))) ∙ g.marks ms;
+            found = sym (ahead_on (elsewhere w c.ring) (next_of w) c.first q n z (sym e ∙ h) (λ t. y (j ∙ t))) ∙ g.found;
+            marks = λ ms. ap (marks_on (run (next_of w) c.first (n - 1) (next_of w q))) (sym (more_bits ms)) ∙ sym (marks_on_lem (elsewhere w c.ring) (next_of w) c.first q n (with_bits ms word bits) z (λ t. y (j ∙ t))) ∙ g.marks ms;
           })
 
-pub stretch_over : {w : List ℕ} {i a p left word bits q n : ℕ} → Stretching w i a p left word bits q n → n ≤ 0 → Stretched w i a p left word false true bits q n
-stretch_over {w} {i} {a} {p} {left} {word} {bits} {q} {n} g z =
+      -- m points to go after this one
+      pub stretch_more : (m : ℕ) → m ≡ n - 1 → (x ≡ c.first → ⊥) → Stretching w c.ring c.first c.point c.left word bits' x m
+      stretch_more m v y = rw v (stretch_less y)
+
+pub stretch_over : {w : List ℕ} {c : Place} {word bits q n : ℕ} → Stretching w c.ring c.first c.point c.left word bits q n → n ≤ 0 → Back w c word bits
+stretch_over {w} {c} {word} {bits} {q} {n} g z =
     record {
-      found = λ t. clash t refl;
-      none = λ s t. sym g.found ∙ over_any (elsewhere w i) (next_of w) a q n z;
-      marks = λ s t ms. sym (g.marks ms) ∙ over_marks (next_of w) a q n (with_bits ms word bits) z;
-      goes_on = λ s t. clash refl t;
-      falls = λ s t. clash refl t;
-      few = omega arith;
+      none = sym g.found ∙ over_any (elsewhere w c.ring) (next_of w) c.first q n z;
+      marks = λ ms. sym (g.marks ms) ∙ over_marks (next_of w) c.first q n (with_bits ms word bits) z;
     }
 
 -- a record without points, and one with
@@ -173,26 +153,26 @@ unfolding marks_to
 stands_first w c ms b e = at_ring w 0 c ms b (omega arith) (none (estranged w)) e
 
 -- a ring, stretch by stretch
-module _ {w : List ℕ} {c : Place} {ms : List ℕ} (g : Standing w c ms) {met back : Bool} {word bits q n : ℕ} (s : Stretched w c.ring c.first c.point c.left word met back bits q n) (l : c.ring < records_of w) where
-  meets : met ≡ true → any_below (records_of w) (estranged w) ≡ true
-  meets h = sym (hit (estranged w) (records_of w) (records_of w) c.ring true l refl (sym (s.found h) ∙ g.found) refl)
+module _ {w : List ℕ} {c : Place} {ms : List ℕ} (g : Standing w c ms) (l : c.ring < records_of w) where
+  meets : Met w c → any_below (records_of w) (estranged w) ≡ true
+  meets s = sym (hit (estranged w) (records_of w) (records_of w) c.ring true l refl (sym s.found ∙ g.found) refl)
 
-  module _ (h : met ≡ false) where
-    round_on : back ≡ false → Standing w (record { ring = c.ring; first = c.first; point = q; left = n }) (with_bits ms word bits)
-    round_on y =
+  module _ {word bits : ℕ} {d : Place} where
+    round_on : Onward w c word bits d → Standing w d (with_bits ms word bits)
+    round_on s =
         record {
-          few = g.few;
-          none = g.none;
-          found = (s.goes_on h y).found ∙ g.found;
-          marks = (s.goes_on h y).marks ms ∙ g.marks;
-          all = λ k. absurd (omega arith);
+          few = rw s.ring g.few;
+          none = rw s.ring g.none;
+          found = rw (s.ring, s.first) (s.goes_on.found ∙ g.found);
+          marks = rw (s.ring, s.first) (s.goes_on.marks ms ∙ g.marks);
+          all = λ k. absurd (let e : d.ring ≡ c.ring = s.ring in omega arith);
         }
 
-    ring_done : back ≡ true → (d : Place) → Begins w (c.ring + 1) d → Standing w d (with_bits ms word bits)
-    ring_done y d b =
+    ring_done : Back w c word bits → Begins w (c.ring + 1) d → Standing w d (with_bits ms word bits)
+    ring_done s b =
         at_ring w (c.ring + 1) d (with_bits ms word bits) b (omega arith)
-        (more (estranged w) c.ring false g.none (sym (s.none h y) ∙ g.found) refl)
-        (sym (s.marks h y ms) ∙ g.marks ∙ ap (marks_to w) (sym (add-one c.ring)))
+        (more (estranged w) c.ring false g.none (sym s.none ∙ g.found) refl)
+        (sym (s.marks ms) ∙ g.marks ∙ ap (marks_to w) (sym (add-one c.ring)))
 
 -- what is gathered in one word up to a place
 pub record Gathering (w : List ℕ) (from c : Place) (word bits : ℕ) : Type 0 where
@@ -203,69 +183,64 @@ pub gather_begun : (w : List ℕ) (from : Place) (word : ℕ) → Gathering w fr
 gather_begun w from word = record { stands = λ ms s. rw (no_bits ms word) s; moved = inl refl }
 
 module _ {w : List ℕ} {from c : Place} {bits : ℕ} (g : Gathering w from c (from.point / BITS) bits) (r : ℕ) (k : r ≡ records_of w) where
-  pub gather_over : r ≤ c.ring → Gathers w from (record { found = false; word = from.point / BITS; bits = bits; place = c })
+  pub gather_over : r ≤ c.ring → Gathers w from (record { word = from.point / BITS; bits = bits; place = c })
   gather_over h =
       record {
-        met = λ y. clash y refl;
-        goes_on = λ _ ms z. g.stands ms z;
-        falls = λ _ l. by g.moved l;
+        goes_on = λ ms z. g.stands ms z;
+        falls = λ l. by g.moved l;
       }
     where
       by : (c ≡ from) ⊎ ((from.ring < c.ring) × (c.left ≤ POINTS)) → from.ring < records_of w → to_go w c < to_go w from
       by (inl e) l = let d : c.ring ≡ from.ring = ap (λ (x : Place). x.ring) e in absurd (omega arith)
       by (inr (m, f)) l = omega arith
 
-  module _ (l : c.ring < r) {met back : Bool} {b q n : ℕ} (s : Stretched w c.ring c.first c.point c.left (from.point / BITS) met back b q n) where
-    pub gather_met : met ≡ true → Gathers w from (record { found = true; word = from.point / BITS; bits = bits; place = c })
-    gather_met h =
-        record {
-          met = λ _ ms z. meets (g.stands ms z) s (omega arith) h;
-          goes_on = λ y. clash refl y;
-          falls = λ y. clash refl y;
-        }
+  module _ (l : c.ring < r) where
+    pub gather_met : Met w c → Strays w from
+    gather_met s = record { met = λ ms z. meets (g.stands ms z) (omega arith) s }
 
-    module _ (h : met ≡ false) (bits' : ℕ) (d : bits' ≡ bit_or bits b) where
+    module _ (b bits' : ℕ) (d : bits' ≡ bit_or bits b) where
       both : (ms : List ℕ) → with_bits (with_bits ms (from.point / BITS) bits) (from.point / BITS) b ≡ with_bits ms (from.point / BITS) bits'
       both ms = bits_more ms (from.point / BITS) bits b ∙ ap (with_bits ms (from.point / BITS)) (sym d)
 
-      pub gather_on : not back ≡ true → Gathers w from (record { found = false; word = from.point / BITS; bits = bits'; place = record { ring = c.ring; first = c.first; point = q; left = n } })
-      gather_on y =
-          record {
-            met = λ x. clash x refl;
-            goes_on = λ _ ms z. subst (Standing w (record { ring = c.ring; first = c.first; point = q; left = n })) (both ms) (round_on (g.stands ms z) s (omega arith) h (not-true back y));
-            falls = λ _ m. by g.moved m;
-          }
-        where
-          by : (c ≡ from) ⊎ ((from.ring < c.ring) × (c.left ≤ POINTS)) → from.ring < records_of w → to_go w (record { ring = c.ring; first = c.first; point = q; left = n }) < to_go w from
-          by (inl e) m =
-              let u : c.ring ≡ from.ring = ap (λ (x : Place). x.ring) e in
-              let v : c.left ≡ from.left = ap (λ (x : Place). x.left) e in
-              let t : n < c.left = s.falls h (not-true back y) (ap (λ (x : Place). x.point / BITS) e) in
-              omega arith
-          by (inr (m, f)) _ = let t : n ≤ c.left = s.few in omega arith
+      module _ {x : Place} where
+        pub gather_on : Onward w c (from.point / BITS) b x → Gathers w from (record { word = from.point / BITS; bits = bits'; place = x })
+        gather_on s =
+            record {
+              goes_on = λ ms z. subst (Standing w x) (both ms) (round_on (g.stands ms z) (omega arith) s);
+              falls = λ m. by g.moved m;
+            }
+          where
+            by : (c ≡ from) ⊎ ((from.ring < c.ring) × (c.left ≤ POINTS)) → from.ring < records_of w → to_go w x < to_go w from
+            by (inl e) m =
+                let u : c.ring ≡ from.ring = ap (λ (y : Place). y.ring) e in
+                let v : c.left ≡ from.left = ap (λ (y : Place). y.left) e in
+                let v' : x.ring ≡ c.ring = s.ring in
+                let t : x.left < c.left = s.falls (ap (λ (y : Place). y.point / BITS) e) in
+                omega arith
+            by (inr (m, f)) _ = let v' : x.ring ≡ c.ring = s.ring in let t : x.left ≤ c.left = s.few in omega arith
 
-      pub gather_more : not back ≡ false → (d : Place) → Begins w (c.ring + 1) d → Gathering w from d (from.point / BITS) bits'
-      gather_more y d b =
-          record {
-            stands = λ ms z. subst (Standing w d) (both ms) (ring_done (g.stands ms z) s (omega arith) h (not-false back y) d b);
-            moved = inr (by g.moved);
-          }
-        where
-          by : (c ≡ from) ⊎ ((from.ring < c.ring) × (c.left ≤ POINTS)) → (from.ring < d.ring) × (d.left ≤ POINTS)
-          by (inl e) = let u : c.ring ≡ from.ring = ap (λ (x : Place). x.ring) e in let v : d.ring ≡ c.ring + 1 = b.ring in (omega arith, b.few)
-          by (inr (m, f)) = let v : d.ring ≡ c.ring + 1 = b.ring in (omega arith, b.few)
+        pub gather_more : Back w c (from.point / BITS) b → Begins w (c.ring + 1) x → Gathering w from x (from.point / BITS) bits'
+        gather_more s j =
+            record {
+              stands = λ ms z. subst (Standing w x) (both ms) (ring_done (g.stands ms z) (omega arith) s j);
+              moved = inr (by g.moved);
+            }
+          where
+            by : (c ≡ from) ⊎ ((from.ring < c.ring) × (c.left ≤ POINTS)) → (from.ring < x.ring) × (x.left ≤ POINTS)
+            by (inl e) = let u : c.ring ≡ from.ring = ap (λ (y : Place). y.ring) e in let v : x.ring ≡ c.ring + 1 = j.ring in (omega arith, j.few)
+            by (inr (m, f)) = let v : x.ring ≡ c.ring + 1 = j.ring in (omega arith, j.few)
 
 -- all rings, word by word
 module _ {w : List ℕ} {c : Place} {ms : List ℕ} (s : Standing w c ms) where
+  pub stray_met : Strays w c → true ≡ (any_below (records_of w) (estranged w) || any_below (points_of w) (alone w))
+  stray_met t = rw (t.met ms s)
+
   module _ {g : Gathered} (t : Gathers w c g) where
-    pub stray_met : g.found ≡ true → true ≡ (any_below (records_of w) (estranged w) || any_below (points_of w) (alone w))
-    stray_met h = rw (t.met h ms s)
+    pub stray_on : (ms' : List ℕ) → ms' ≡ with_bits ms g.word g.bits → Standing w g.place ms'
+    stray_on ms' e = rw e (t.goes_on ms s)
 
-    pub stray_on : (ms' : List ℕ) → g.found ≡ false → ms' ≡ with_bits ms g.word g.bits → Standing w g.place ms'
-    stray_on ms' h e = rw e (t.goes_on h ms s)
-
-    pub stray_less : (n : ℕ) → g.found ≡ false → c.ring < n → n ≡ records_of w → to_go w g.place < to_go w c
-    stray_less n h l e = t.falls h (omega arith)
+    pub stray_less : (n : ℕ) → c.ring < n → n ≡ records_of w → to_go w g.place < to_go w c
+    stray_less n l e = t.falls (omega arith)
 
   pub stray_over : (n : ℕ) (b : Bool) → n ≤ c.ring → n ≡ records_of w → points_of w ≤ POINTS → b ≡ not (all_below (points_of w) (marked ms)) → b ≡ (any_below (records_of w) (estranged w) || any_below (points_of w) (alone w))
   stray_over n b h e l d =

@@ -1,5 +1,5 @@
 -- The marks that the ring walks set, a word at a time, and where the walks stand.
-use Rattle.std.specs.Prelude.{ℕ, zero, suc, ◌+◌, ◌-◌, ◌*◌, ◌/◌, ◌<◌, ◌≤◌, ◌≡◌, Bool, true, false, List, [], ◌∷◌, replicate}
+use Rattle.std.specs.Prelude.{ℕ, zero, suc, ◌+◌, ◌-◌, ◌*◌, ◌/◌, ◌<◌, ◌≤◌, ◌≡◌, true, false, List, [], ◌∷◌, replicate}
 use Rattle.job.specs.Limits.{POINTS}
 use Rattle.rings.specs.Walk.{run}
 use Rattle.marks.specs.Marks.{BITS, WORDS, with_mark, with_bits}
@@ -32,14 +32,22 @@ pub record Stretching (w : List ℕ) (i a p left word bits q n : ℕ) : Type 0 w
   pub found : any_in (λ k. elsewhere w i k) (run (next_of w) a n q) ≡ any_in (λ k. elsewhere w i k) (run (next_of w) a left p)
   pub marks : (ms : List ℕ) → marks_on (run (next_of w) a n q) (with_bits ms word bits) ≡ marks_on (run (next_of w) a left p) ms
 
--- a stretch that has ended: at a point that resolves elsewhere, where the ring ends, or at a point in another word, which is not the one that it began at if that lies in the word
-pub record Stretched (w : List ℕ) (i a p left word : ℕ) (met back : Bool) (bits q n : ℕ) : Type 0 where
-  pub found : met ≡ true → any_in (λ k. elsewhere w i k) (run (next_of w) a left p) ≡ true
-  pub none : met ≡ false → back ≡ true → any_in (λ k. elsewhere w i k) (run (next_of w) a left p) ≡ false
-  pub marks : met ≡ false → back ≡ true → (ms : List ℕ) → marks_on (run (next_of w) a left p) ms ≡ with_bits ms word bits
-  pub goes_on : met ≡ false → back ≡ false → Stretching w i a p left word bits q n
-  pub falls : met ≡ false → back ≡ false → p / BITS ≡ word → n < left
-  pub few : n ≤ left
+-- a stretch that ended at a point that resolves elsewhere
+pub record Met (w : List ℕ) (c : Place) : Type 0 where
+  pub found : any_in (λ k. elsewhere w c.ring k) (run (next_of w) c.first c.left c.point) ≡ true
+
+-- a stretch that ended where the ring does
+pub record Back (w : List ℕ) (c : Place) (word bits : ℕ) : Type 0 where
+  pub none : any_in (λ k. elsewhere w c.ring k) (run (next_of w) c.first c.left c.point) ≡ false
+  pub marks : (ms : List ℕ) → marks_on (run (next_of w) c.first c.left c.point) ms ≡ with_bits ms word bits
+
+-- a stretch that ended at a point in another word, which is not the one that it began at if that lies in the word
+pub record Onward (w : List ℕ) (c : Place) (word bits : ℕ) (d : Place) : Type 0 where
+  pub ring : d.ring ≡ c.ring
+  pub first : d.first ≡ c.first
+  pub goes_on : Stretching w c.ring c.first c.point c.left word bits d.point d.left
+  pub falls : c.point / BITS ≡ word → d.left < c.left
+  pub few : d.left ≤ c.left
 
 -- where the walks stand: no point of the rings below the place's resolves elsewhere, of its ring the points from its point on are ahead, and all points behind have their marks
 pub record Standing (w : List ℕ) (c : Place) (ms : List ℕ) : Type 0 where
@@ -53,8 +61,11 @@ pub record Standing (w : List ℕ) (c : Place) (ms : List ℕ) : Type 0 where
 abbrev pub to_go : List ℕ → Place → ℕ
 to_go w c = (records_of w - c.ring) * suc POINTS + c.left
 
--- what is gathered from a place on: a point that resolves elsewhere; or the bits, which are the marks of the points from there to where the walks go on
+-- from a place on a point is met that resolves elsewhere
+pub record Strays (w : List ℕ) (c : Place) : Type 0 where
+  pub met : (ms : List ℕ) → Standing w c ms → any_below (records_of w) (λ i. estranged w i) ≡ true
+
+-- what is gathered from a place on: the bits are the marks of the points from there to where the walks go on
 pub record Gathers (w : List ℕ) (c : Place) (g : Gathered) : Type 0 where
-  pub met : g.found ≡ true → (ms : List ℕ) → Standing w c ms → any_below (records_of w) (λ i. estranged w i) ≡ true
-  pub goes_on : g.found ≡ false → (ms : List ℕ) → Standing w c ms → Standing w g.place (with_bits ms g.word g.bits)
-  pub falls : g.found ≡ false → c.ring < records_of w → to_go w g.place < to_go w c
+  pub goes_on : (ms : List ℕ) → Standing w c ms → Standing w g.place (with_bits ms g.word g.bits)
+  pub falls : c.ring < records_of w → to_go w g.place < to_go w c

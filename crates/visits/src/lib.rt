@@ -4,13 +4,14 @@
 pub mod resolving;
 
 ghost use Rattle.std.specs.Prelude.{◌≡◌, not, ◌&&◌, ◌||◌, ◌≤◌, eqb, length};
+ghost use Rattle.std.specs.Option.{MatchOption};
 ghost use Rattle.marks.specs.Marks.{marked, all_below};
 ghost use Rattle.store.specs.Field.{BLOCK, NONE};
 ghost use Rattle.store.specs.Named.{points_of, records_of, first_of};
 ghost use Rattle.audit.specs.Tests.{any_below};
 ghost use Rattle.audit.specs.Marks.{Counted};
 ghost use Rattle.visits.specs.Rings.{alone, elsewhere, estranged};
-ghost use Rattle.visits.specs.Marks.{Begins, Stretched, Gathers};
+ghost use Rattle.visits.specs.Marks.{Begins, Met, Back, Onward, Strays, Gathers};
 ghost use Rattle.owners.specs.Tables.{Homes};
 
 use job::Job;
@@ -32,12 +33,10 @@ fn elsewhere(w: &[u32], homes: &[u32], i: usize, k: usize) -> bool
     ensures { result ≡ elsewhere w.now i k }
 {
     let r = read(w, Col::Rec, k);
-    let own = is_own(w, i, r);
-    if own {
+    if is_own(w, i, r) {
         return false;
     }
-    let h = resolving::find(w, homes, r);
-    h != i
+    resolving::find(w, homes, r) != i
 }
 
 // Where the walks stand: the record whose ring is walked, the point that the ring began at, the one that it goes on at, and how many points are to go at most.
@@ -71,117 +70,71 @@ fn place_of(w: &[u32], i: usize) -> Place
     }
 }
 
-// A stretch of a ring whose points lie in one word of the marks: whether it ended at a point that resolves elsewhere, or where the ring ends; the points' bits; where the ring goes on, and how
-// many points are to go.
+// A stretch of a ring whose points lie in one word of the marks: the points' bits, and the place where the ring goes on; None where the ring ends.
 #[derive(Clone, Copy)]
 struct Stretch {
-    found: bool,
-    back: bool,
     bits: u64,
-    point: usize,
-    left: usize,
+    on: Option<Place>,
 }
 
-// The stretch of a ring in the word, from the place c on.
-fn walk_word(w: &[u32], homes: &[u32], c: Place, word: usize) -> Stretch
+// The stretch of a ring in the word, from the place c on; None if a point resolves elsewhere.
+fn walk_word(w: &[u32], homes: &[u32], c: Place, word: usize) -> Option<Stretch>
     requires { (BLOCK ≤ length w.now) × Homes w.now homes.now }
-    ensures { Stretched w.now c.ring c.first c.point c.left word result.found result.back result.bits result.point result.left }
+    ensures { MatchOption result (Met w.now c) (λ s. MatchOption s.on (Back w.now c word s.bits) (λ d. Onward w.now c word s.bits d)) }
 {
     let mut bits: u64 = 0;
     let mut q = c.point;
-    let mut n = c.left;
-    while 0 < n {
+    for gone in 0..c.left {
         if q / BITS != word {
-            return Stretch {
-                found: false,
-                back: false,
-                bits: bits,
+            let on = Place {
                 point: q,
-                left: n,
+                left: c.left - gone,
+                ..c
             };
+            return Some(Stretch { bits, on: Some(on) });
         }
-        let found = elsewhere(w, homes, c.ring, q);
-        if found {
-            return Stretch {
-                found: true,
-                back: false,
-                bits: bits,
-                point: q,
-                left: n,
-            };
+        if elsewhere(w, homes, c.ring, q) {
+            return None;
         }
         bits = with_bit(bits, q % BITS);
         q = read(w, Col::Next, q);
         if q == c.first {
-            return Stretch {
-                found: false,
-                back: true,
-                bits: bits,
-                point: q,
-                left: n,
-            };
+            return Some(Stretch { bits, on: None });
         }
-        n -= 1;
     }
-    Stretch {
-        found: false,
-        back: true,
-        bits: bits,
-        point: q,
-        left: n,
-    }
+    Some(Stretch { bits, on: None })
 }
 
-// What is gathered in one word: whether a point resolves elsewhere; the word and its points' bits; where the walks go on.
+// What is gathered in one word: the word and its points' bits; where the walks go on.
 #[derive(Clone, Copy)]
 pub struct Gathered {
-    pub found: bool,
     pub word: usize,
     pub bits: u64,
     pub place: Place,
 }
 
-// The bits of the points that lie in the word of the next one, ring after ring: up to a point in another word, one that resolves elsewhere, or the last of the n rings' end.
-fn gather(w: &[u32], homes: &[u32], n: usize, from: Place) -> Gathered
+// The bits of the points that lie in the word of the next one, ring after ring: up to a point in another word or the last of the n rings' end; none if a point resolves elsewhere.
+fn gather(w: &[u32], homes: &[u32], n: usize, from: Place) -> Option<Gathered>
     requires { (BLOCK ≤ length w.now) × Homes w.now homes.now × (n ≡ records_of w.now) }
-    ensures { Gathers w.now from result }
+    ensures { MatchOption result (Strays w.now from) (λ g. Gathers w.now from g) }
 {
     let word = from.point / BITS;
     let mut bits: u64 = 0;
     let mut c = from;
+    // no `for`: the place says which ring it is
     while c.ring < n {
-        let s = walk_word(w, homes, c, word);
-        if s.found {
-            return Gathered {
-                found: true,
-                word: word,
-                bits: bits,
-                place: c,
-            };
+        let s = walk_word(w, homes, c, word)?;
+        bits |= s.bits;
+        match s.on {
+            Some(place) => return Some(Gathered { word, bits, place }),
+            None => c = place_of(w, c.ring + 1),
         }
-        bits = bits | s.bits;
-        if !s.back {
-            let on = Place {
-                ring: c.ring,
-                first: c.first,
-                point: s.point,
-                left: s.left,
-            };
-            return Gathered {
-                found: false,
-                word: word,
-                bits: bits,
-                place: on,
-            };
-        }
-        c = place_of(w, c.ring + 1);
     }
-    Gathered {
-        found: false,
-        word: word,
-        bits: bits,
+    Some(Gathered {
+        word,
+        bits,
         place: c,
-    }
+    })
 }
 
 // Whether a point has no mark.
@@ -189,9 +142,7 @@ fn any_bare(w: &[u32], marks: Marks) -> bool
     requires { BLOCK ≤ length w.now }
     ensures { result ≡ not (all_below (points_of w.now) (marked marks.words)) }
 {
-    let m = get(w, Col::Points, 0);
-    let all = marks.all_set(m);
-    !all
+    !marks.all_set(get(w, Col::Points, 0))
 }
 
 // Whether a point resolves to another record than its ring's, or has no mark after the walks round all rings. The marks are handed on once for the points gathered in a word.
@@ -202,14 +153,13 @@ pub fn any_stray(w: &[u32], homes: &[u32]) -> bool
     let n = get(w, Col::Records, 0);
     let mut m = Marks::none();
     let mut c = place_of(w, 0);
+    // no `for`: a turn goes on as far as one word of the marks does
     while c.ring < n {
-        let g = gather(w, homes, n, c);
-        if g.found {
+        let Some(g) = gather(w, homes, n, c) else {
             return true;
-        }
+        };
         m = m.set_bits(g.word, g.bits);
-        let on = g.place;
-        c = on;
+        c = g.place;
     }
     any_bare(w, m)
 }

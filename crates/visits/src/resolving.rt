@@ -18,8 +18,7 @@ fn reach(w: &[u32], homes: &[u32], r: usize) -> usize
     ensures { (result ≡ get_real_outrec w.now r) × (result < 2 ^ 32) }
 {
     let mut q = r;
-    let mut left: usize = Job::RECORDS;
-    while 0 < left {
+    for _turn in 0..Job::RECORDS {
         let h = at(homes, q);
         if h != UNKNOWN {
             return h;
@@ -32,7 +31,6 @@ fn reach(w: &[u32], homes: &[u32], r: usize) -> usize
         if q == NONE {
             return NONE;
         }
-        left -= 1;
     }
     NONE
 }
@@ -43,10 +41,8 @@ fn note(w: &[u32], homes: &mut [u32], r: usize, h: usize)
     ensures { Noted w.now homes.old r homes.new }
 {
     let mut q = r;
-    let mut left: usize = Job::RECORDS;
-    while 0 < left {
-        let known = at(homes, q);
-        if known != UNKNOWN {
+    for _turn in 0..Job::RECORDS {
+        if at(homes, q) != UNKNOWN {
             return;
         }
         put(homes, q, h);
@@ -58,7 +54,6 @@ fn note(w: &[u32], homes: &mut [u32], r: usize, h: usize)
         if q == NONE {
             return;
         }
-        left -= 1;
     }
 }
 
@@ -67,12 +62,9 @@ pub fn find_all(w: &[u32], homes: &mut [u32])
     requires { (BLOCK ≤ length w.now) × (records_of w.now ≤ RECORDS) × (homes.old ≡ replicate RECORDS UNKNOWN) × (any_below (records_of w.now) (circles w.now) ≡ false) }
     ensures { Found w.now homes.new (records_of w.now) }
 {
-    let n = get(w, Col::Records, 0);
-    let mut i: usize = 0;
-    while i < n {
+    for i in 0..get(w, Col::Records, 0) {
         let h = reach(w, homes, i);
         note(w, homes, i, h);
-        i += 1;
     }
 }
 
@@ -82,8 +74,7 @@ fn walk(w: &[u32], r: usize) -> usize
     ensures { result ≡ get_real_outrec w.now r }
 {
     let mut q = r;
-    let mut left: usize = Job::RECORDS;
-    while 0 < left {
+    for _turn in 0..Job::RECORDS {
         let f = read(w, Col::First, q);
         if f != NONE {
             return q;
@@ -92,7 +83,6 @@ fn walk(w: &[u32], r: usize) -> usize
         if q == NONE {
             return NONE;
         }
-        left -= 1;
     }
     NONE
 }

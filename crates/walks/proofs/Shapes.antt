@@ -8,7 +8,7 @@ use native.Mathlib.Omega.{arith}
 use lib.ListN.{length}
 use borrow.Author.Tests.{eq-eqb, ne_eqb}
 use Rattle.rings.specs.Circle.{last_of}
-use Rattle.rings.specs.Count.{one, occ}
+use Rattle.rings.specs.Count.{occ}
 use Rattle.rings.specs.Whole.{Whole}
 use Rattle.rings.proofs.Counting.{one_here, occ_head, occ_last_of}
 use Rattle.rings.proofs.Linking.{prev_is}

@@ -24,7 +24,7 @@ fn edge_to(w: &[u32], op: usize) -> i64
     edge_area(a, b)
 }
 
-// The ring's doubled area.
+// The ring's doubled area: once round along links, so that no index is counted.
 pub fn area_outpt(w: &[u32], op_start: usize) -> i64
     requires { OnRing w.now op_start }
     ensures { result ≡ area_outpt (values_from w.now op_start) }
@@ -32,13 +32,12 @@ pub fn area_outpt(w: &[u32], op_start: usize) -> i64
     let mut result: i64 = 0;
     let mut op2 = op_start;
     loop {
-        result = result + edge_to(w, op2);
+        result += edge_to(w, op2);
         op2 = get(w, Col::Next, op2);
         if op2 == op_start {
-            break;
+            return result;
         }
     }
-    result
 }
 
 // Whether two of the three points are really close.
@@ -82,6 +81,5 @@ pub fn is_valid_closed_path(w: &[u32], op: usize) -> bool
     if n == p {
         return false;
     }
-    let small = is_very_small_triangle(w, op);
-    !small
+    !is_very_small_triangle(w, op)
 }

@@ -7,12 +7,12 @@ use Prim.Native.Nat.{ℕ}
 use lib.Dec.{eqb}
 use lib.IntN.{ℤ, pos, negsuc}
 use lib.ListN.{replicate}
+use Rattle.std.specs.Prelude.{Err}
 use Rattle.job.specs.declared.refusal.Refusal.TheVariants.{Muddled, SmallTray}
 use Rattle.geometry.specs.declared.Rect.{Rect}
 use Rattle.store.specs.Field.{BOXES}
 use Rattle.store.specs.Boxes.{side_at, sides_at, rect_of, sides_of, differs}
-use Rattle.audit.specs.declared.Verdict.TheVariants as verdict
-use Rattle.windows.specs.declared.Found.TheVariants.{Records, Refused}
+use Rattle.std.specs.Prelude.{Ok}
 use Rattle.windows.specs.Window.{box_meets, inside_out}
 use Rattle.windows.specs.RecordsIn.{passing, found, listing, records_by}
 
@@ -76,18 +76,18 @@ not_asked = refl
 -- ---- the list
 
 -- zeros past the records; a list that is just long enough; one short of it is 11, and stays as found
-listed : listing (1 ∷ 4 ∷ []) (7 ∷ 7 ∷ 7 ∷ []) ≡ found (Records 2) (1 ∷ 4 ∷ 0 ∷ [])
+listed : listing (1 ∷ 4 ∷ []) (7 ∷ 7 ∷ 7 ∷ []) ≡ found (Ok 2) (1 ∷ 4 ∷ 0 ∷ [])
 listed = refl
 
-just_long_enough : listing (1 ∷ 4 ∷ []) (7 ∷ 7 ∷ []) ≡ found (Records 2) (1 ∷ 4 ∷ [])
+just_long_enough : listing (1 ∷ 4 ∷ []) (7 ∷ 7 ∷ []) ≡ found (Ok 2) (1 ∷ 4 ∷ [])
 just_long_enough = refl
 
-too_short : listing (1 ∷ 4 ∷ []) (7 ∷ []) ≡ found (Refused SmallTray) (7 ∷ [])
+too_short : listing (1 ∷ 4 ∷ []) (7 ∷ []) ≡ found (Err SmallTray) (7 ∷ [])
 too_short = refl
 
-nothing_met : listing [] (7 ∷ []) ≡ found (Records 0) (0 ∷ [])
+nothing_met : listing [] (7 ∷ []) ≡ found (Ok 0) (0 ∷ [])
 nothing_met = refl
 
 -- a refused work space leaves the list
-refused_first : (w : List ℕ) (window : Rect) → records_by (verdict.Refused Muddled) w window (7 ∷ []) ≡ found (Refused Muddled) (7 ∷ [])
+refused_first : (w : List ℕ) (window : Rect) → records_by (Err Muddled) w window (7 ∷ []) ≡ found (Err Muddled) (7 ∷ [])
 refused_first w window = refl

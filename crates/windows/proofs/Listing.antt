@@ -1,14 +1,15 @@
 -- The two loops, over plain variables, and what the call comes to.
-use Prim.Native.Nat.{ℕ, zero, suc, ◌+◌, ◌-◌, ◌≤◌, ◌<◌, ◌^◌}
+use Prim.Native.Nat.{ℕ, suc, ◌+◌, ◌-◌, ◌≤◌, ◌<◌, ◌^◌}
 use mathlib.Core.Path.{◌≡◌, refl, sym, ap, ◌∙◌, subst}
 use mathlib.Core.Logic.{◌≢◌}
-use mathlib.Core.Bool.{Bool, true, false, cond, not, ◌&&◌}
+use mathlib.Core.Bool.{Bool, true, false, cond}
 use mathlib.Core.List.{List, [], ◌∷◌, ◌++◌, append_assoc}
 use native.Mathlib.Omega.{arith}
-use lib.Dec.{ltb, eqb}
+use mir.Val.{bool_byte}
 use lib.ListN.{length, set, replicate, length-append, length-replicate}
 use lib.Seq.{set-append_seam}
 use borrow.Author.Tests.{lt-ltb, le-ltb, eq-eqb, ne_eqb}
+use Rattle.std.specs.Prelude.{Result, Ok, Err}
 use Rattle.job.specs.Limits as limit
 use Rattle.job.specs.declared.refusal.Refusal.{Refusal}
 use Rattle.job.specs.declared.refusal.Refusal.TheVariants.{SmallTray}
@@ -19,17 +20,13 @@ use Rattle.store.specs.Words.{cell}
 use Rattle.store.specs.Named.{records_of}
 use Rattle.store.specs.Good.{SoundWords}
 use Rattle.store.specs.Boxes.{sides_at, rect_of}
-use Rattle.audit.specs.declared.Verdict.{Verdict}
-use Rattle.audit.specs.declared.Verdict.TheVariants as verdict
 use Rattle.handed.specs.Handed.{handed_of}
 use Rattle.handed.proofs.Handing.{handed_sound}
 use Rattle.paths.specs.Tray.{padded}
-use Rattle.windows.specs.declared.Found.{Found}
-use Rattle.windows.specs.declared.Found.TheVariants.{Records, Refused}
 use Rattle.windows.specs.Window.{box_meets}
 use Rattle.windows.specs.RecordsIn.{is_in, once, passing, all_in, placed, place_if, found, records_by, records_in}
 use Rattle.windows.specs.Needs.{Counted, Listable, Roomy, CountedTo, ListedTo}
-use Rattle.windows.proofs.Passing.{passing_length, passing_few, passing_up}
+use Rattle.windows.proofs.Passing.{once_le, passing_length, passing_few, passing_up}
 
 -- ---- one record
 module _ (w : List ℕ) (window : Rect) (i f : ℕ) (e : f ≡ cell (rc FIRST) w i) where
@@ -51,17 +48,21 @@ counting_long w c = c.long
 pub counting_begun : (w : List ℕ) (window : Rect) → CountedTo w window 0 0
 counting_begun w window = record { low = omega arith; is = refl }
 
+one_for_true : (b : Bool) → bool_byte b ≡ once b
+one_for_true true = refl
+one_for_true false = refl
+
 module _ (w : List ℕ) (window : Rect) (i m n : ℕ) (k : CountedTo w window i m) (e : n ≡ records_of w) where
   pub counting_in : Counted w → i < n → i < limit.RECORDS
   counting_in c l = omega (arith, c.few)
 
-  pub counting_fits : Counted w → i < n → (a : ℕ) → a ≤ 1 → m + a < 2 ^ 64
-  counting_fits c l a h = omega (arith, c.few, k.is, k.low, passing_few (is_in w window) i)
+  pub counting_fits : Counted w → i < n → (b : Bool) (a : ℕ) → b ≡ is_in w window i → a ≡ bool_byte b → m + a < 2 ^ 64
+  counting_fits c l b a g h = omega (arith, c.few, k.is, k.low, h, one_for_true b, once_le (is_in w window) b, passing_few (is_in w window) i)
 
-  pub counting_next : i < n → (b : Bool) (a : ℕ) → b ≡ is_in w window i → a ≡ once b → CountedTo w window (i + 1) (m + a)
+  pub counting_next : i < n → (b : Bool) (a : ℕ) → b ≡ is_in w window i → a ≡ bool_byte b → CountedTo w window (i + 1) (m + a)
   counting_next l b a g h =
       subst (λ (j : ℕ). CountedTo w window j (m + a)) (suc_is i)
-      (record { low = omega (arith, e); is = cc (k.is, passing_length (is_in w window) i, h, ap once g) })
+      (record { low = omega (arith, e); is = cc (k.is, passing_length (is_in w window) i, h, one_for_true b, ap once g) })
     where
       suc_is : (j : ℕ) → suc j ≡ j + 1
       suc_is j = omega arith
@@ -142,7 +143,7 @@ module _ (w : List ℕ) (window : Rect) (i at : ℕ) (l : List ℕ) (b : Bool) (
 
 -- ---- the call
 module _ (w : List ℕ) (window : Rect) (l : List ℕ) (n : ℕ) (e : n ≡ length (all_in w window)) where
-  pub tested_short : length l < n → found (Refused SmallTray) l ≡ records_by verdict.Passed w window l
+  pub tested_short : length l < n → found (Err SmallTray) l ≡ records_by (Ok tt) w window l
   tested_short h = rw (lt-ltb (length l) (length (all_in w window)) (omega (arith, e)))
 
   module _ (h : n ≤ length l) (l₁ : List ℕ) (z : l₁ ≡ replicate (length l) 0) where
@@ -152,17 +153,17 @@ module _ (w : List ℕ) (window : Rect) (l : List ℕ) (n : ℕ) (e : n ≡ leng
     pub tested_listable : SoundWords w → Listable w window l₁
     tested_listable s = record { counted = counted_of w s; room = omega (arith, e, length_kept); zeros = z ∙ ap (λ (k : ℕ). replicate k 0) (sym length_kept) }
 
-    pub tested_listed : (l' : List ℕ) → l' ≡ padded (length l₁) (all_in w window) → found (Records n) l' ≡ records_by verdict.Passed w window l
+    pub tested_listed : (l' : List ℕ) → l' ≡ padded (length l₁) (all_in w window) → found (Ok n) l' ≡ records_by (Ok tt) w window l
     tested_listed l' g = rw (le-ltb (length l) (length (all_in w window)) (omega (arith, e))) (cc (e, g, length_kept))
 
-pub in_sound : (w : List ℕ) (v : Verdict) → v ≡ handed_of w → v ≡ verdict.Passed → SoundWords w
+pub in_sound : (w : List ℕ) (v : Result (Unit {0}) Refusal) → v ≡ handed_of w → v ≡ Ok tt → SoundWords w
 in_sound w v e h = handed_sound w (sym e ∙ h)
 
-module _ (w : List ℕ) (window : Rect) (l : List ℕ) (v : Verdict) (e : v ≡ handed_of w) where
-  pub in_passed : v ≡ verdict.Passed → (r : Found) (l' : List ℕ) → found r l' ≡ records_by verdict.Passed w window l → found r l' ≡ records_in w window l
+module _ (w : List ℕ) (window : Rect) (l : List ℕ) (v : Result (Unit {0}) Refusal) (e : v ≡ handed_of w) where
+  pub in_passed : v ≡ (Ok tt) → (r : Result ℕ Refusal) (l' : List ℕ) → found r l' ≡ records_by (Ok tt) w window l → found r l' ≡ records_in w window l
   unfolding records_in
-  in_passed h r l' g = g ∙ ap (λ (x : Verdict). records_by x w window l) (sym h ∙ e)
+  in_passed h r l' g = g ∙ ap (λ (x : Result (Unit {0}) Refusal). records_by x w window l) (sym h ∙ e)
 
-  pub in_refused : (x : Refusal) → v ≡ verdict.Refused x → found (Refused x) l ≡ records_in w window l
+  pub in_refused : (x : Refusal) → v ≡ Err x → found (Err x) l ≡ records_in w window l
   unfolding records_in
-  in_refused x h = ap (λ (y : Verdict). records_by y w window l) (sym h ∙ e)
+  in_refused x h = ap (λ (y : Result (Unit {0}) Refusal). records_by y w window l) (sym h ∙ e)

@@ -21,7 +21,7 @@ module _ (q : ℕ → Bool) where
       go true = length-append (passing q i) (i ∷ [])
       go false = omega arith
 
-  once_le : (b : Bool) → once b ≤ 1
+  pub once_le : (b : Bool) → once b ≤ 1
   once_le true = omega arith
   once_le false = omega arith
 

@@ -1,23 +1,22 @@
 -- Ask 13's sentence on windows, of every work space that passes the tests.
-use Prim.Native.Nat.{ℕ, ◌≤◌, ◌<◌}
-use mathlib.Core.Path.{◌≡◌, refl, sym, ap, ◌∙◌, subst}
+use Prim.Native.Nat.{ℕ, ◌<◌}
+use mathlib.Core.Path.{◌≡◌, refl, sym, ap, ◌∙◌}
 use mathlib.Core.Logic.{◌↔◌}
-use mathlib.Core.Bool.{Bool, true, false, cond, not, ◌&&◌, false≢true}
-use mathlib.Core.List.{List, [], ◌∷◌, map}
-use mathlib.Core.Option.{Option, none, some}
+use mathlib.Core.Bool.{Bool, true, false, not, ◌&&◌}
+use mathlib.Core.List.{List, [], map}
+use mathlib.Core.Option.{none, some}
 use native.Mathlib.Omega.{arith}
 use native.Mathlib.Decide.{dec_lt}
 use lib.ListN.{length}
 use borrow.Author.Tests.{lt-ltb, le-ltb}
-use Rattle.job.specs.Limits as limit
+use Rattle.std.specs.Prelude.{Result}
+use Rattle.job.specs.declared.refusal.Refusal.{Refusal}
 use Rattle.rings.specs.Count.{occ}
 use Rattle.geometry.specs.declared.Rect.{Rect}
 use Rattle.store.specs.Words.{view}
 use Rattle.store.specs.Sound.{recs, ringless, ring_at}
 use Rattle.store.specs.Value.{point_at}
 use Rattle.store.specs.Boxes.{box_at, ring_box}
-use Rattle.audit.specs.declared.Verdict.{Verdict}
-use Rattle.audit.specs.declared.Verdict.TheVariants as verdict
 use Rattle.handed.specs.Handed.{Usable}
 use Rattle.handed.proofs.Handing.{usable_handed}
 use Rattle.windows.specs.Window.{box_meets, inside_out}
@@ -72,7 +71,7 @@ module _ (w : List ℕ) (u : Usable w) (window : Rect) where
   -- the call, where the tests pass
   called : (l : List ℕ) → records_in w window l ≡ listing (all_in w window) l
   unfolding records_in
-  called l = ap (λ (v : Verdict). records_by v w window l) (usable_handed w u)
+  called l = ap (λ (v : Result (Unit {0}) Refusal). records_by v w window l) (usable_handed w u)
 
   pub windows : Windows w window
   unfolding all_in

@@ -1,17 +1,14 @@
 -- The call `records_in`: what it answers and the list that it leaves, on every work space, window and list.
-use Rattle.std.specs.Prelude.{ℕ, zero, suc, ◌+◌, Bool, cond, not, ◌&&◌, List, [], ◌∷◌, ◌++◌, ltb, length, set}
+use Rattle.std.specs.Prelude.{ℕ, zero, suc, ◌+◌, Bool, cond, not, ◌&&◌, List, [], ◌∷◌, ◌++◌, ltb, length, set, Result, Ok, Err}
+use Rattle.job.specs.declared.refusal.Refusal.{Refusal}
 use Rattle.job.specs.declared.refusal.Refusal.TheVariants.{SmallTray}
 use Rattle.geometry.specs.declared.Rect.{Rect}
 use Rattle.store.specs.Words.{view}
 use Rattle.store.specs.Named.{records_of}
 use Rattle.store.specs.Sound.{ringless}
 use Rattle.store.specs.Boxes.{box_at}
-use Rattle.audit.specs.declared.Verdict.{Verdict}
-use Rattle.audit.specs.declared.Verdict.TheVariants as verdict
 use Rattle.handed.specs.Handed.{handed_of}
 use Rattle.paths.specs.Tray.{padded}
-use Rattle.windows.specs.declared.Found.{Found}
-use Rattle.windows.specs.declared.Found.TheVariants.{Records, Refused}
 use Rattle.windows.specs.Window.{box_meets}
 
 -- record i has a ring, and the box beside it meets the window
@@ -39,20 +36,20 @@ place_if b i at l = cond b (placed (at + 1) (set l at i)) (placed at l)
 
 -- the answer, and the list that is left
 pub record FoundIn : Type 0 where
-  pub answer : Found
+  pub answer : Result ℕ Refusal
   pub list : List ℕ
 
-abbrev pub found : Found → List ℕ → FoundIn
+abbrev pub found : Result ℕ Refusal → List ℕ → FoundIn
 found a l = record { answer = a; list = l }
 
 -- "in a lent list, and their count (11 if that is short, zero past them)"
 abbrev pub listing : List ℕ → List ℕ → FoundIn
-listing records l = cond (ltb (length l) (length records)) (found (Refused SmallTray) l) (found (Records (length records)) (padded (length l) records))
+listing records l = cond (ltb (length l) (length records)) (found (Err SmallTray) l) (found (Ok (length records)) (padded (length l) records))
 
 -- by what was found out about the work space: every refusal leaves the list as found
-abbrev pub records_by : Verdict → List ℕ → Rect → List ℕ → FoundIn
-records_by (verdict.Refused r) w window l = found (Refused r) l
-records_by verdict.Passed w window l = listing (all_in w window) l
+abbrev pub records_by : Result (Unit {0}) Refusal → List ℕ → Rect → List ℕ → FoundIn
+records_by (Err r) w window l = found (Err r) l
+records_by (Ok _) w window l = listing (all_in w window) l
 
 -- `records_in`
 unfoldable pub records_in : List ℕ → Rect → List ℕ → FoundIn

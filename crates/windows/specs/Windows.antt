@@ -1,6 +1,6 @@
 -- Document 02, Ask 13: "Any window, edges counted as inside, yields the records whose boxes meet it, ascending, none missing, in a lent list, and their count (11 if that is short, zero past them) ..
 -- A window turned inside out meets nothing." The statement, of every work space that passes the tests; it is proved in proofs/Theorem.antt.
-use Rattle.std.specs.Prelude.{ℕ, zero, suc, ◌≤◌, ◌<◌, ◌≡◌, ◌↔◌, Bool, true, false, List, [], ◌∷◌, length}
+use Rattle.std.specs.Prelude.{ℕ, suc, ◌≤◌, ◌<◌, ◌≡◌, ◌↔◌, Bool, true, false, List, [], ◌∷◌, length}
 use Rattle.std.proofs.Math.Option.{Option, none, some}
 use Rattle.job.specs.Limits as limit
 use Rattle.job.specs.declared.refusal.Refusal.TheVariants.{SmallTray}
@@ -11,7 +11,7 @@ use Rattle.store.specs.Words.{view}
 use Rattle.store.specs.Sound.{recs}
 use Rattle.store.specs.Boxes.{ring_box}
 use Rattle.boxes.specs.Within.{InRect, BoxHolds}
-use Rattle.windows.specs.declared.Found.TheVariants.{Records, Refused}
+use Rattle.std.specs.Prelude.{Ok, Err}
 use Rattle.windows.specs.Window.{box_meets, inside_out}
 use Rattle.windows.specs.RecordsIn.{passing, all_in, found, records_in}
 use Rattle.paths.specs.Tray.{padded}
@@ -42,7 +42,7 @@ pub record Windows (w : List ℕ) (window : Rect) : Type 0 where
   -- "A window turned inside out meets nothing"
   pub turned_inside_out : inside_out window ≡ true → all_in w window ≡ []
   -- "in a lent list, and their count (11 if that is short, zero past them)"
-  pub fits : (l : List ℕ) → length (all_in w window) ≤ length l → records_in w window l ≡ found (Records (length (all_in w window))) (padded (length l) (all_in w window))
-  pub short : (l : List ℕ) → length l < length (all_in w window) → records_in w window l ≡ found (Refused SmallTray) l
+  pub fits : (l : List ℕ) → length (all_in w window) ≤ length l → records_in w window l ≡ found (Ok (length (all_in w window))) (padded (length l) (all_in w window))
+  pub short : (l : List ℕ) → length l < length (all_in w window) → records_in w window l ≡ found (Err SmallTray) l
   -- a list of this length is always long enough
   pub suffices : length (all_in w window) ≤ limit.RECORDS

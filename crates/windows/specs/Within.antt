@@ -1,9 +1,8 @@
 -- How many records a call finds at most.
-use Rattle.std.specs.Prelude.{◌≤◌}
+use Rattle.std.specs.Prelude.{ℕ, ◌≤◌, Result, Ok, Err}
 use Rattle.job.specs.Limits as limit
-use Rattle.windows.specs.declared.Found.{Found}
-use Rattle.windows.specs.declared.Found.TheVariants.{Records, Refused}
+use Rattle.job.specs.declared.refusal.Refusal.{Refusal}
 
-abbrev pub FoundWithin : Found → Type 0
-FoundWithin (Records n) = n ≤ limit.RECORDS
-FoundWithin (Refused x) = Unit {0}
+abbrev pub FoundWithin : Result ℕ Refusal → Type 0
+FoundWithin (Ok n) = n ≤ limit.RECORDS
+FoundWithin (Err x) = Unit {0}

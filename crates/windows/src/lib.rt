@@ -1,7 +1,7 @@
 // The records in a window: those whose boxes meet it. `records_in` has no `requires`.
 #![tactic(auto)]
 
-ghost use Rattle.std.specs.Prelude.{◌≡◌, ◌<◌, ◌≤◌, length, pos, ◌+ℤ◌};
+ghost use Rattle.std.specs.Prelude.{◌≡◌, ◌<◌, ◌≤◌, length, pos, ◌+ℤ◌, Ok};
 ghost use Rattle.std.specs.Int.Signed.{le_z};
 ghost use Rattle.numbers.specs.Raised.{coordinate};
 ghost use Rattle.job.specs.Limits as limit;
@@ -9,13 +9,11 @@ ghost use Rattle.store.specs.Field.{BLOCK};
 ghost use Rattle.store.specs.Named.{records_of};
 ghost use Rattle.store.specs.Good.{SoundWords};
 ghost use Rattle.store.specs.Boxes.{rect_of};
-ghost use Rattle.audit.specs.declared.Verdict.TheVariants.{Passed};
 ghost use Rattle.paths.specs.Tray.{padded};
 ghost use Rattle.windows.specs.Window.{overlap, box_meets};
-ghost use Rattle.windows.specs.RecordsIn.{is_in, once, all_in, placed, place_if, found, records_by, records_in};
+ghost use Rattle.windows.specs.RecordsIn.{is_in, all_in, placed, place_if, found, records_by, records_in};
 ghost use Rattle.windows.specs.Needs.{Counted, Roomy, Listable};
 
-use audit::Verdict;
 use geometry::Rect;
 use handed::handed;
 use job::Job;
@@ -23,13 +21,6 @@ use job::refusal::Refusal;
 use opening::clear::clear;
 use store::boxed::{Sides, sides_of};
 use store::{Col, NONE, get};
-
-// What asking answers: how many records there are, or a refusal.
-#[derive(Clone, Copy)]
-pub enum Found {
-    Records(usize),
-    Refused(Refusal),
-}
 
 // Words of boxes are raised as coordinates are.
 const RAISE: i64 = Job::COORDINATE as i64;
@@ -90,17 +81,7 @@ fn is_in(w: &[u32], window: Rect, i: usize) -> bool
     if f == NONE {
         return false;
     }
-    let b = sides_of(w, i);
-    box_meets(b, window)
-}
-
-fn once(b: bool) -> usize
-    ensures { (result ≡ once b) × (result ≤ 1) }
-{
-    if b {
-        return 1;
-    }
-    0
+    box_meets(sides_of(w, i), window)
 }
 
 // How many records there are.
@@ -110,12 +91,8 @@ fn count_in(w: &[u32], window: Rect) -> usize
 {
     let n = get(w, Col::Records, 0);
     let mut m: usize = 0;
-    let mut i: usize = 0;
-    while i < n {
-        let b = is_in(w, window, i);
-        let a = once(b);
-        m += a;
-        i += 1;
+    for i in 0..n {
+        m += usize::from(is_in(w, window, i));
     }
     m
 }
@@ -125,8 +102,7 @@ fn list_one(w: &[u32], window: Rect, i: usize, list: &mut [u32], at: usize) -> u
     requires { Counted w.now × (i < records_of w.now) × Roomy w.now window i list.old at }
     ensures { placed result list.new ≡ place_if (is_in w.now window i) i at list.old }
 {
-    let b = is_in(w, window, i);
-    if b {
+    if is_in(w, window, i) {
         list[at] = i as u32;
         return at + 1;
     }
@@ -140,38 +116,29 @@ fn list_in(w: &[u32], window: Rect, list: &mut [u32])
 {
     let n = get(w, Col::Records, 0);
     let mut at: usize = 0;
-    let mut i: usize = 0;
-    while i < n {
+    for i in 0..n {
         at = list_one(w, window, i, list, at);
-        i += 1;
     }
 }
 
 // On a work space that passed the tests.
-fn in_tested(w: &[u32], window: Rect, list: &mut [u32]) -> Found
+fn in_tested(w: &[u32], window: Rect, list: &mut [u32]) -> Result<usize, Refusal>
     requires { SoundWords w.now }
-    ensures { found result list.new ≡ records_by Passed w.now window list.old }
+    ensures { found result list.new ≡ records_by (Ok tt) w.now window list.old }
 {
     let n = count_in(w, window);
     if list.len() < n {
-        return Found::Refused(Refusal::SmallTray);
+        return Err(Refusal::SmallTray);
     }
     clear(list);
     list_in(w, window, list);
-    Found::Records(n)
+    Ok(n)
 }
 
 // The records whose boxes meet a window, ascending, in the list, and how many they are. The work space is only read; a refusal leaves the list.
-pub fn records_in(work: &[u32], window: Rect, list: &mut [u32]) -> Found
+pub fn records_in(work: &[u32], window: Rect, list: &mut [u32]) -> Result<usize, Refusal>
     ensures { found result list.new ≡ records_in work.now window list.old }
 {
-    let verdict = handed(work);
-    match verdict {
-        Verdict::Passed => {
-            return in_tested(work, window, list);
-        }
-        Verdict::Refused(r) => {
-            return Found::Refused(r);
-        }
-    }
+    handed(work)?;
+    in_tested(work, window, list)
 }

@@ -1,13 +1,8 @@
--- any_record meets its contract: the first record that fails ends the loop.
-use borrow.Author.Rules.{rules}
-use Rattle.audit.proofs.Testing.{none, more, hit}
+-- any_record meets its contract: `any` over the records' numbers.
+use Rattle.std.proofs.Common.{rules}
+use Rattle.store.specs.Named.{records_of}
+use Rattle.audit.proofs.Finding.{any_below-by_any}
 use Rattle.audit.proofs.any_record.Goals as goal
 
-pub loop-i-init : goal.loop-i-init
-loop-i-init c = (search rules, none _)
-
-pub returns-then-found : goal.returns-then-found
-returns-then-found c = search hit
-
-pub loop-i-preserved : goal.loop-i-preserved
-loop-i-preserved c = (search rules, search more)
+pub returns : goal.returns
+returns g c = λ q h. any_below-by_any (records_of c.args.w.now) q _ _ _ c.any.ensures.ran (search rules) (λ x b t k. search (rules, h))

@@ -2,5 +2,5 @@
 use Rattle.audit.proofs.Testing.{says_crowded}
 use Rattle.audit.proofs.tests_of.Goals as goal
 
-pub returns-then-many : goal.returns-then-many
-returns-then-many c = search says_crowded
+pub returns-then-crowded : goal.returns-then-crowded
+returns-then-crowded c = search says_crowded

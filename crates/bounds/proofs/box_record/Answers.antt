@@ -2,8 +2,8 @@
 use Rattle.bounds.proofs.Beside.{past_is, here_is}
 use Rattle.bounds.proofs.box_record.Goals as goal
 
-pub returns-then-n-i : goal.returns-then-n-i
-returns-then-n-i c = search past_is
+pub returns-then-get-i : goal.returns-then-get-i
+returns-then-get-i c = search past_is
 
 pub returns : goal.returns
 returns c = search here_is

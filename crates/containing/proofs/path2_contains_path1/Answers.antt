@@ -6,8 +6,8 @@ use Rattle.containing.proofs.path2_contains_path1.Goals as goal
 pub returns-then-n1-eq0 : goal.returns-then-n1-eq0
 returns-then-n1-eq0 c = search (rules, contains_none)
 
-pub loop-left-init : goal.loop-left-init
-loop-left-init c = search (rules, deciding_begins)
+pub loop-i-init : goal.loop-i-init
+loop-i-init c = search (rules, deciding_begins)
 
-pub loop-left-preserved : goal.loop-left-preserved
-loop-left-preserved c = search (rules, deciding_on)
+pub loop-i-preserved : goal.loop-i-preserved
+loop-i-preserved c = search (rules, deciding_on)

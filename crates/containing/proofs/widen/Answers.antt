@@ -12,7 +12,7 @@ returns c = widen_is c.args.b c.args.p _ _ _ _
       x = record { sfits = c.struct_told-2-1.given.0.1 };
       y = record { sfits = c.struct_told-2-1.given.1.0.1 };
     })
-    c.lesser-left.ensures
-    c.lesser-top.ensures
-    c.greater-right.ensures
-    c.greater-bottom.ensures
+    c.min.ensures.value
+    c.min-2.ensures.value
+    c.max.ensures.value
+    c.max-2.ensures.value

@@ -1,6 +1,5 @@
 -- `containment::put_by_boxes` meets its contract.
 use borrow.Author.Rules.{rules}
-use Prim.Native.Nat.{◌-◌}
 use Rattle.containment.proofs.Rows.{pairing_begins, pairing_field, pairing_on}
 use Rattle.containment.proofs.put_by_boxes.Goals as goal
 

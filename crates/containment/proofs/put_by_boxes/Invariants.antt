@@ -1,10 +1,6 @@
 -- `containment::put_by_boxes` meets its contract.
 use Rattle.containment.specs.Needs.{AllPairs}
-use Prim.Native.Nat.{◌-◌}
 use Rattle.containment.proofs.put_by_boxes.Given as goal
 
 abbrev pub invariant-loop-i : goal.invariant-loop-i
 invariant-loop-i l = AllPairs l.t l.c l.initial.out l.out l.k l.f l.i
-
-abbrev pub decreases-loop-i : goal.decreases-loop-i
-decreases-loop-i l = l.c - l.i

@@ -5,8 +5,8 @@ use Rattle.crosses.proofs.edges_cross.Goals as goal
 pub returns-then-cp-eq0 : goal.returns-then-cp-eq0
 returns-then-cp-eq0 c = search parallel_of
 
-pub returns-then-not-first : goal.returns-then-not-first
-returns-then-not-first c = search apart_of
+pub returns-else-is_between : goal.returns-else-is_between
+returns-else-is_between c = search apart_of
 
-pub returns : goal.returns
-returns c = search crossed_of
+pub returns-then-is_between : goal.returns-then-is_between
+returns-then-is_between c = search crossed_of

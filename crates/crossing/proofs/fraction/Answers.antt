@@ -16,4 +16,4 @@ returns-then-first-2 c = rw (c.if-det.false, c.if-first.false, c.if-first-2.true
 
 pub returns : goal.returns
 unfolding fraction_f
-returns c = rw (c.if-det.false, c.if-first.false, c.if-first-2.false, c.quotient-second.ensures)
+returns c = rw (c.if-det.false, c.if-first.false, c.if-first-2.false, c.quotient.ensures)

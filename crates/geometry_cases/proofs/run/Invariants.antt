@@ -1,6 +1,6 @@
--- `run` ends.
-use Rattle.std.proofs.Common.{◌-◌}
+-- `run`: no more differ than there are.
+use Rattle.std.proofs.Common.{◌≤◌}
 use Rattle.geometry_cases.proofs.run.Given as goal
 
-abbrev pub decreases-loop-cases : goal.decreases-loop-cases
-decreases-loop-cases l = 10000 - l.cases
+abbrev pub invariant-loop-cases : goal.invariant-loop-cases
+invariant-loop-cases l = l.differ ≤ l.cases

@@ -5,8 +5,8 @@ use Rattle.job_reasons.proofs.put_record.Goals as goal
 pub overflow_cast-i : goal.overflow_cast-i
 overflow_cast-i c = search number_fits
 
-pub returns-in-Because : goal.returns-in-Because
-returns-in-Because c = search record_told
+pub returns-in-Ok : goal.returns-in-Ok
+returns-in-Ok c = search record_told
 
-pub returns-in-Refused : goal.returns-in-Refused
-returns-in-Refused c = search never_refused
+pub returns-in-Err : goal.returns-in-Err
+returns-in-Err c = search never_refused

@@ -1,6 +1,5 @@
 -- `put_records` meets its contract: the lines of the records passed are poured.
 use borrow.Author.Rules.{rules}
-use Prim.Native.Nat.{◌-◌}
 use Rattle.job_reasons.proofs.Lines.{going_begins, going_on, going_ends}
 use Rattle.job_reasons.proofs.Telling.{long_enough}
 use Rattle.job_reasons.proofs.put_records.Goals as goal

@@ -5,8 +5,8 @@ use Rattle.job_reasons.proofs.tell_job.Goals as goal
 pub tell_records-requires : goal.tell_records-requires
 tell_records-requires c = search may_tell
 
-pub returns-in-Paths : goal.returns-in-Paths
-returns-in-Paths c = search job_told
+pub returns-in-Ok : goal.returns-in-Ok
+returns-in-Ok c = search job_told
 
-pub returns-in-Refused : goal.returns-in-Refused
-returns-in-Refused c = search job_refused
+pub returns-in-Err : goal.returns-in-Err
+returns-in-Err c = search job_refused

@@ -2,8 +2,8 @@
 use Rattle.listing.proofs.Runs.{showing_begins, showing_on}
 use Rattle.listing.proofs.put_points.Goals as goal
 
-pub loop-left-init : goal.loop-left-init
-loop-left-init c = showing_begins _ _ _ _ _ c.requires
+pub loop-i-init : goal.loop-i-init
+loop-i-init c = showing_begins _ _ _ _ _ c.requires
 
-pub loop-left-preserved : goal.loop-left-preserved
-loop-left-preserved c = showing_on _ _ _ _ _ _ _ _ _ c.loop-left.invariant _ _ c.loop-left-test.true c.put_point-k.ensures
+pub loop-i-preserved : goal.loop-i-preserved
+loop-i-preserved c = showing_on _ _ _ _ _ _ _ _ _ _ c.loop-i.invariant _ _ c.loop-i-test.true c.put_point-k.ensures

@@ -3,4 +3,4 @@ use Rattle.listing.proofs.Signs.{minus_poured}
 use Rattle.listing.proofs.put_signed.Goals as goal
 
 pub returns-then-z-lt0 : goal.returns-then-z-lt0
-returns-then-z-lt0 c = minus_poured _ c.requires _ _ _ c.magnitude-n.ensures _ _ _ _ c.if-z-lt0.true c.put-k.ensures c.put_decimal.ensures
+returns-then-z-lt0 c = minus_poured _ c.requires _ _ _ c.unsigned_abs-n.ensures.value _ _ _ _ c.if-z-lt0.true c.put-k.ensures c.put_decimal.ensures

@@ -1,14 +1,9 @@
--- `mending::any_spoilt` meets its contract: the first spoilt point ends the loop.
-use Prim.Native.Nat.{◌-◌}
-use borrow.Author.Rules.{rules}
-use Rattle.audit.proofs.Testing.{none, more, hit}
+-- `mending::any_spoilt` meets its contract: `any` over the points' numbers.
+use Rattle.std.proofs.Common.{rules}
+use Rattle.store.specs.Named.{points_of}
+use Rattle.mending.specs.Needs.{spoilt}
+use Rattle.audit.proofs.Finding.{any_below-by_any}
 use Rattle.mending.proofs.any_spoilt.Goals as goal
 
-pub loop-k-init : goal.loop-k-init
-loop-k-init c = (search rules, none _)
-
-pub returns-then-found : goal.returns-then-found
-returns-then-found c = search hit
-
-pub loop-k-preserved : goal.loop-k-preserved
-loop-k-preserved c = (search rules, search more)
+pub returns : goal.returns
+returns c = any_below-by_any (points_of c.args.w.now) (spoilt c.args.w.now c.args.t.now) _ _ _ c.any.ensures.ran (search rules) (λ x b t k. search rules)

@@ -1,6 +1,6 @@
 -- `mending::tabulate` meets its contract: the table after k points.
 use mathlib.Core.Path.{◌≡◌}
-use Prim.Native.Nat.{◌-◌, ◌≤◌}
+use Prim.Native.Nat.{◌≤◌}
 use lib.ListN.{length}
 use Rattle.store.specs.Named.{points_of, next_of}
 use Rattle.mending.specs.Needs.{table_of}
@@ -8,6 +8,3 @@ use Rattle.mending.proofs.tabulate.Given as goal
 
 abbrev pub invariant-loop-k : goal.invariant-loop-k
 invariant-loop-k l = (l.k ≤ points_of l.w) × (l.t ≡ table_of (next_of l.w) l.k l.initial.t) × (length l.t ≡ length l.initial.t)
-
-abbrev pub decreases-loop-k : goal.decreases-loop-k
-decreases-loop-k l = points_of l.w - l.k

@@ -1,13 +1,9 @@
--- `owners::any_chained` meets its contract: the first such record ends the loop.
-use borrow.Author.Rules.{rules}
-use Rattle.audit.proofs.Testing.{none, more, hit}
+-- any_chained meets its contract: `any` over the records' numbers.
+use Rattle.std.proofs.Common.{rules}
+use Rattle.store.specs.Named.{records_of}
+use Rattle.owners.specs.Owners.{chained}
+use Rattle.audit.proofs.Finding.{any_below-by_any}
 use Rattle.owners.proofs.any_chained.Goals as goal
 
-pub loop-i-init : goal.loop-i-init
-loop-i-init c = (search rules, none _)
-
-pub returns-then-found : goal.returns-then-found
-returns-then-found c = search hit
-
-pub loop-i-preserved : goal.loop-i-preserved
-loop-i-preserved c = (search rules, search more)
+pub returns : goal.returns
+returns c = any_below-by_any (records_of c.args.w.now) (chained c.args.w.now) _ _ _ c.any.ensures.ran (search rules) (λ x b t k. search rules)

@@ -1,6 +1,5 @@
 -- `paths::paths_below` meets its contract: the paths of the records below j are counted.
 use borrow.Author.Rules.{rules}
-use Prim.Native.Nat.{◌-◌}
 use Rattle.paths.proofs.Counts.{paths_by}
 use Rattle.paths.proofs.paths_below.Goals as goal
 

@@ -1,6 +1,5 @@
 -- `paths::write_paths` meets its contract: the fields of the records below i are written, and their paths counted.
 use mathlib.Core.Path.{ap}
-use Prim.Native.Nat.{◌-◌}
 use Rattle.paths.specs.Walking.{Laid}
 use Rattle.paths.proofs.Counts.{no_paths, paths_on, paths_all}
 use Rattle.paths.proofs.Filling.{filled_begins, filled_ends, field_fits, filled_on}
@@ -13,7 +12,7 @@ pub write_path-size-requires : goal.write_path-size-requires
 write_path-size-requires c = field_fits _ _ _ _ _ _ c.loop-i.invariant.0 _ c.requires.directed _ c.get-n.ensures.0 c.loop-i-test.true
 
 pub loop-i-preserved : goal.loop-i-preserved
-loop-i-preserved c = (filled_on _ _ _ _ _ _ c.loop-i.invariant.0 _ c.requires.directed _ c.get-n.ensures.0 c.loop-i-test.true _ _ c.write_path-size.ensures, paths_on _ _ _ _ _ _ c.loop-i.invariant.1 (ap (λ (x : Laid). x.at) c.write_path-size.ensures) c.path_count-one.ensures)
+loop-i-preserved c = (filled_on _ _ _ _ _ _ c.loop-i.invariant.0 _ c.requires.directed _ c.get-n.ensures.0 c.loop-i-test.true _ _ c.write_path-size.ensures, paths_on _ _ _ _ _ _ c.loop-i.invariant.1 (ap (λ (x : Laid). x.at) c.write_path-size.ensures) c.path_count-paths.ensures)
 
 pub returns : goal.returns
 returns c = (filled_ends _ _ _ _ _ _ c.loop-i.invariant.0 _ c.get-n.ensures.0 c.loop-i-test.false, paths_all _ _ _ _ _ c.loop-i.invariant.1 c.loop-i.invariant.0.within c.get-n.ensures.0 c.loop-i-test.false)

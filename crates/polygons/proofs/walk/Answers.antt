@@ -6,8 +6,8 @@ use Rattle.polygons.proofs.walk.Goals as goal
 pub returns-then-tour : goal.returns-then-tour
 returns-then-tour c = search (rules, walking_met)
 
-pub loop-left-preserved : goal.loop-left-preserved
-loop-left-preserved c = search (rules, walking_on)
+pub loop-i-preserved : goal.loop-i-preserved
+loop-i-preserved c = search (rules, walking_on)
 
 pub returns : goal.returns
 returns c = search (rules, walking_ends)

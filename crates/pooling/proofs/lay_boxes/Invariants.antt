@@ -1,12 +1,7 @@
 -- `pooling::lay_boxes` meets its contract: the loop follows the definition.
-use Prim.Native.Nat.{◌-◌, ◌≤◌}
 use mathlib.Core.Path.{◌≡◌}
-use lib.ListN.{length}
 use Rattle.pooling.specs.Words.{lay_sides}
 use Rattle.pooling.proofs.lay_boxes.Given as goal
 
 abbrev pub invariant-loop-i : goal.invariant-loop-i
-invariant-loop-i l = (l.first ≡ lay_sides l.m l.i l.second l.initial.first) × (l.i ≤ l.n) × (length l.first ≡ length l.initial.first)
-
-abbrev pub decreases-loop-i : goal.decreases-loop-i
-decreases-loop-i l = l.n - l.i
+invariant-loop-i l = (l.first ≡ lay_sides l.m l.i l.second l.initial.first)

@@ -7,4 +7,4 @@ pub returns-then-work-lt-LENGTH : goal.returns-then-work-lt-LENGTH
 returns-then-work-lt-LENGTH c = too_short _ _ _ _ _ c.clear.ensures c.clear-2.ensures c.if-work-lt-LENGTH.true
 
 pub returns : goal.returns
-returns c = all_written _ _ _ _ _ c.clear.ensures c.clear-2.ensures _ _ _ _ _ _ c.if-work-lt-LENGTH.false c.stages-a.ensures (search rules) c.clear-3.ensures c.settle.ensures
+returns c = all_written _ _ _ _ _ c.clear.ensures c.clear-2.ensures _ _ _ _ _ c.if-work-lt-LENGTH.false c.stages-a.ensures (search rules) c.clear-3.ensures c.settle.ensures

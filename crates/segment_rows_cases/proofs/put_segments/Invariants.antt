@@ -1,11 +1,7 @@
 -- The first segments are read, and each slice keeps its length.
-use Prim.Native.Nat.{◌-◌}
 use mathlib.Core.Path.{◌≡◌}
 use lib.ListN.{length}
 use Rattle.segment_rows_cases.proofs.put_segments.Given as goal
 
 abbrev pub invariant-loop-k : goal.invariant-loop-k
 invariant-loop-k l = (length l.keys ≡ length l.initial.keys) × (length l.lefts ≡ length l.initial.lefts) × (length l.rights ≡ length l.initial.rights) × (length l.forwards ≡ length l.initial.forwards)
-
-abbrev pub decreases-loop-k : goal.decreases-loop-k
-decreases-loop-k l = l.n - l.k

@@ -3,5 +3,5 @@ use borrow.Author.Rules.{rules}
 use Rattle.visits.proofs.Rounds.{own_here}
 use Rattle.visits.proofs.elsewhere.Goals as goal
 
-pub returns-then-own : goal.returns-then-own
-returns-then-own c = search (rules, own_here)
+pub returns-then-is_own : goal.returns-then-is_own
+returns-then-is_own c = search (rules, own_here)

@@ -18,5 +18,5 @@ loop-op2-smaller c = search sum_falls
 pub loop-op2-preserved : goal.loop-op2-preserved
 loop-op2-preserved c = search add_on
 
-pub returns : goal.returns
-returns c = search add_end
+pub returns-then-op2-op_start : goal.returns-then-op2-op_start
+returns-then-op2-op_start c = search add_end

@@ -1,5 +1,4 @@
 -- count_in meets its contract.
-use Prim.Native.Nat.{◌-◌}
 use Rattle.windows.proofs.Listing.{counting_fits, counting_ends}
 use Rattle.windows.proofs.count_in.Goals as goal
 

@@ -1,6 +1,5 @@
 -- list_in meets its contract.
 use borrow.Author.Rules.{rules}
-use Prim.Native.Nat.{◌-◌}
 use Rattle.windows.proofs.Listing.{listing_here, listing_room, listing_next, listing_ends}
 use Rattle.windows.proofs.list_in.Goals as goal
 

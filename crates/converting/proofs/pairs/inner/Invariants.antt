@@ -8,6 +8,3 @@ use Rattle.converting.proofs.pairs.inner.Given as goal
 
 abbrev pub invariant-loop-j : goal.invariant-loop-j
 invariant-loop-j l = Inner (inner_from (256 - (l.i + 1)) l.rights l.forwards l.i (l.i + 1) l.initial.w l.initial.lefts l.initial.joins l.before) l.w l.lefts l.rights l.forwards l.joins l.m l.i l.j × (length l.w ≡ length l.initial.w) × (length l.lefts ≡ length l.initial.lefts) × (length l.joins ≡ length l.initial.joins)
-
-abbrev pub decreases-loop-j : goal.decreases-loop-j
-decreases-loop-j l = 256 - l.j

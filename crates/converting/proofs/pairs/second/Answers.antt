@@ -5,8 +5,8 @@ use Rattle.converting.proofs.Doubling.{beside}
 use Rattle.converting.proofs.Making.{doubled_low}
 use Rattle.converting.proofs.pairs.second.Goals as goal
 
-pub duplicate_op-d-requires : goal.duplicate_op-d-requires
-duplicate_op-d-requires c = beside _ _ c.requires.0
+pub duplicate_op-requires : goal.duplicate_op-requires
+duplicate_op-requires c = beside _ _ c.requires.0
 
-pub put_point-requires-in-At : goal.put_point-requires-in-At
-put_point-requires-in-At c = (search rules, omega (arith, doubled_low _ _ _ c.requires.0 _ _ _ c.duplicate_op-d.ensures c.in-At.is))
+pub put_point-requires-2 : goal.put_point-requires-2
+put_point-requires-2 c = (search rules, omega (arith, doubled_low _ _ _ c.requires.0 _ _ _ c.duplicate_op.ensures c.in_ok-j.was))

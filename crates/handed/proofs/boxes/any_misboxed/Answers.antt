@@ -1,21 +1,15 @@
--- any_misboxed meets its contract: the first record whose box is another ends the loop.
-use borrow.Author.Rules.{rules}
+-- any_misboxed meets its contract: `any` over the records' numbers.
+use Rattle.std.proofs.Common.{rules}
+use Rattle.std.proofs.lemmas.Iterator.{serves_from_Range}
+use Rattle.store.specs.Named.{records_of}
+use Rattle.store.specs.Boxes.{misboxed}
 use Rattle.handed.specs.Handed.{any_misboxed}
-use Rattle.audit.proofs.Testing.{none, more, hit, whole}
+use Rattle.audit.proofs.Finding.{any_below-by_any}
 use Rattle.handed.proofs.boxes.any_misboxed.Goals as goal
 
-pub loop-i-init : goal.loop-i-init
-unfolding any_misboxed
-loop-i-init c = (search rules, none _)
-
-pub returns-then-found : goal.returns-then-found
-unfolding any_misboxed
-returns-then-found c = search hit
-
-pub loop-i-preserved : goal.loop-i-preserved
-unfolding any_misboxed
-loop-i-preserved c = (search rules, search more)
+pub any-requires : goal.any-requires
+any-requires c = record { can = tt; finite = tt; callable = serves_from_Range (λ x q k. search rules) (λ x low high. search rules) }
 
 pub returns : goal.returns
 unfolding any_misboxed
-returns c = search whole
+returns c = any_below-by_any (records_of c.args.w.now) (misboxed c.args.w.now) _ _ _ c.any.ensures.ran (search rules) (λ x b t k. search rules)

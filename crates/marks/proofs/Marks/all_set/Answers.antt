@@ -1,19 +1,23 @@
--- `marks::Marks::all_set` meets its contract: before word i all points are marked.
-use borrow.Author.Rules.{rules}
-use Rattle.marks.proofs.Marking.{past_count, none_yet, word_more, word_bare, rest_is}
+-- `Marks::all_set` meets its contract: `all` over the whole words, and then the last one's low bits.
+use Rattle.std.proofs.Common.{◌/◌, arith, rules}
+use Rattle.marks.specs.Marks.{BITS}
+use Rattle.marks.proofs.Marking.{past_count, words_by_all, words_bare, no_rest, rest_is}
 use Rattle.marks.proofs.Marks.all_set.Goals as goal
 
 pub returns-then-count-gt-POINTS : goal.returns-then-count-gt-POINTS
 returns-then-count-gt-POINTS c = search (rules, past_count)
 
-pub loop-i-init : goal.loop-i-init
-loop-i-init c = (search rules, search none_yet)
+pub returns-then-not-all : goal.returns-then-not-all
+returns-then-not-all c = words_bare c.args.self.words c.args.count c.all.result
+    (words_by_all c.args.self.words (c.args.count / BITS) _ _ c.all.result (omega arith) c.all.ensures.ran c.iter.ensures.rest (λ x b t k. search rules))
+    c.if-not-all.true
 
-pub returns-then-not-full : goal.returns-then-not-full
-returns-then-not-full c = search (rules, word_bare)
+pub returns-then-rest-eq0 : goal.returns-then-rest-eq0
+returns-then-rest-eq0 c = rw c.if-rest-eq0.true (no_rest c.args.self.words c.args.count c.all.result
+    (words_by_all c.args.self.words (c.args.count / BITS) _ _ c.all.result (omega arith) c.all.ensures.ran c.iter.ensures.rest (λ x b t k. search rules))
+    c.if-not-all.false c.if-rest-eq0.true)
 
-pub loop-i-preserved : goal.loop-i-preserved
-loop-i-preserved c = (search rules, search (rules, word_more))
-
-pub returns : goal.returns
-returns c = search (rules, rest_is)
+pub returns-else-rest-eq0 : goal.returns-else-rest-eq0
+returns-else-rest-eq0 c = rest_is c.args.self.words c.args.count c.all.result
+    (words_by_all c.args.self.words (c.args.count / BITS) _ _ c.all.result (omega arith) c.all.ensures.ran c.iter.ensures.rest (λ x b t k. search rules))
+    c.if-not-all.false c.low_set.result c.low_set.ensures

@@ -1,6 +1,6 @@
 -- `paths::is_long` meets its contract: a path of four points or more is neither short nor small.
-use mathlib.Core.Bool.{true, not}
-use mathlib.Core.Path.{ap}
+use mathlib.Core.Bool.{true}
+use mathlib.Core.Path.{refl}
 use borrow.Author.Rules.{rules}
 use Rattle.paths.proofs.Walks.{round_here}
 use Rattle.paths.proofs.Sizes.{first_round, along_round, long_some}
@@ -13,4 +13,4 @@ pub has_four-requires : goal.has_four-requires
 has_four-requires c = along_round _ _ true _ c.requires.of _ c.get-f.ensures.0 c.if-f-eq-NONE.false _ c.start_from-start.ensures
 
 pub returns : goal.returns
-returns c = long_some _ _ _ _ c.requires _ c.is_open-o.ensures _ c.same-fits.ensures (ap not c.if-not-fits.false) _ c.get-f.ensures.0 c.if-f-eq-NONE.false _ c.start_from-start.ensures _ c.has_four.ensures
+returns c = long_some _ _ _ _ c.requires _ c.is_open.ensures _ refl c.if-is_open-opened.false _ c.get-f.ensures.0 c.if-f-eq-NONE.false _ c.start_from-start.ensures _ c.has_four.ensures

@@ -1,5 +1,4 @@
 -- `rewriting::writing::put_joins` meets its contract: the joins below i are written.
-use Prim.Native.Nat.{◌-◌}
 use Rattle.rewriting.proofs.Laying.{laid_begun, pair_on}
 use Rattle.rewriting.proofs.writing.put_joins.Goals as goal
 

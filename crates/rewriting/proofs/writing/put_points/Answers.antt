@@ -1,5 +1,4 @@
 -- `rewriting::writing::put_points` meets its contract: the rings of the records below i are written.
-use Prim.Native.Nat.{◌-◌}
 use borrow.Author.Rules.{rules}
 use Rattle.rewriting.proofs.Laying.{rings_begun, rings_on}
 use Rattle.rewriting.proofs.writing.put_points.Goals as goal

@@ -1,5 +1,4 @@
 -- `rewriting::writing::put_records` meets its contract: the records below i are written.
-use Prim.Native.Nat.{◌-◌}
 use borrow.Author.Rules.{rules}
 use Rattle.rewriting.proofs.Laying.{laid_begun, laid_on}
 use Rattle.rewriting.proofs.writing.put_records.Goals as goal

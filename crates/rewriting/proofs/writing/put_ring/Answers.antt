@@ -1,16 +1,16 @@
--- `rewriting::writing::put_ring` meets its contract: the loop follows the ring, with `left` points to go.
-use borrow.Author.Rules.{rules}
-use Rattle.rewriting.proofs.Laying.{ring_begun, ring_back, ring_on, ring_over}
+-- `rewriting::writing::put_ring` meets its contract: the loop follows the ring.
+use native.Mathlib.Omega.{arith}
+use Rattle.rewriting.proofs.Laying.{ring_begun, ring_back, ring_next, ring_over}
 use Rattle.rewriting.proofs.writing.put_ring.Goals as goal
 
-pub loop-left-init : goal.loop-left-init
-loop-left-init c = ring_begun _ _ _ _ _
+pub loop-init : goal.loop-init
+loop-init c = ring_begun _ _ _ _ _
 
 pub returns-then-p-a : goal.returns-then-p-a
-returns-then-p-a c = search (rules, ring_back)
+returns-then-p-a c = ring_back c.loop.invariant (omega arith) _ _ _ c.put_corner-k.ensures c.read-p.ensures.0 c.if-p-a.true
 
-pub loop-left-preserved : goal.loop-left-preserved
-loop-left-preserved c = search (rules, ring_on)
+pub loop-preserved : goal.loop-preserved
+loop-preserved c = ring_next c.loop.invariant c.loop-test.true _ _ _ c.put_corner-k.ensures c.read-p.ensures.0 c.if-p-a.false
 
 pub returns : goal.returns
-returns c = search (rules, ring_over)
+returns c = ring_over c.loop.invariant (omega arith)

@@ -1,5 +1,4 @@
 -- `rewriting::writing::put_segments` meets its contract: the segments below i are written.
-use Prim.Native.Nat.{◌-◌}
 use borrow.Author.Rules.{rules}
 use Rattle.rewriting.proofs.Laying.{laid_begun, level_on}
 use Rattle.rewriting.proofs.writing.put_segments.Goals as goal

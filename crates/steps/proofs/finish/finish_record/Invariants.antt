@@ -5,8 +5,8 @@ use Rattle.turns.specs.Form.{raised, geometry_of}
 use Rattle.steps.proofs.Looping.{Running}
 use Rattle.steps.proofs.finish.finish_record.Given as goal
 
-abbrev pub invariant-loop-a : goal.invariant-loop-a
-invariant-loop-a l = Running l.initial.w l.i l.w
+abbrev pub invariant-loop-e : goal.invariant-loop-e
+invariant-loop-e l = Running l.initial.w l.i l.w
 
-abbrev pub decreases-loop-a : goal.decreases-loop-a
-decreases-loop-a l = words_left (geometry_of (view l.initial.w)) raised l.w l.i
+abbrev pub decreases-loop-e : goal.decreases-loop-e
+decreases-loop-e l = words_left (geometry_of (view l.initial.w)) raised l.w l.i

@@ -1,10 +1,6 @@
 -- `finish_records` meets its contract: what is left to finish is said of the records from i on.
-use Prim.Native.Nat.{◌-◌}
 use Rattle.steps.proofs.Looping.{Remaining}
 use Rattle.steps.proofs.finish.finish_records.Given as goal
 
 abbrev pub invariant-loop-i : goal.invariant-loop-i
 invariant-loop-i l = Remaining l.initial.w l.i l.w
-
-abbrev pub decreases-loop-i : goal.decreases-loop-i
-decreases-loop-i l = 512 - l.i

@@ -4,6 +4,3 @@ use Rattle.steps.proofs.glide.glide_ring.Goals as goal
 
 pub returns-in-Validity : goal.returns-in-Validity
 returns-in-Validity c = search stays
-
-pub returns-in-Triangle : goal.returns-in-Triangle
-returns-in-Triangle c = search stays

@@ -3,8 +3,5 @@ use Rattle.rings.specs.Progress.{removal}
 use Rattle.steps.proofs.Gliding.{GlidingAt}
 use Rattle.steps.proofs.glide.removal_walk.Given as goal
 
-abbrev pub invariant-loop-left : goal.invariant-loop-left
-invariant-loop-left l = GlidingAt removal l.w l.i l.p l.x
-
-abbrev pub decreases-loop-left : goal.decreases-loop-left
-decreases-loop-left l = l.left
+abbrev pub invariant-loop : goal.invariant-loop
+invariant-loop l = GlidingAt removal l.w l.i l.p l.x

@@ -1,22 +1,12 @@
--- `any_live` meets its contract: the first closed ring that isn't done ends the loop.
-use Prim.Native.Nat.{◌-◌}
-use borrow.Author.Rules.{rules}
-use Rattle.audit.proofs.Testing.{none, more, hit, whole}
+-- `any_live` meets its contract: `any` over the records' numbers.
+use Rattle.std.proofs.Common.{rules}
+use Rattle.store.specs.Words.{view}
+use Rattle.store.specs.Sound.{recs}
+use Rattle.acts.specs.Step.{live}
 use Rattle.steps.specs.Live.{any_live}
+use Rattle.audit.proofs.Finding.{any_below-by_any}
 use Rattle.steps.proofs.step.any_live.Goals as goal
-
-pub loop-i-init : goal.loop-i-init
-unfolding any_live
-loop-i-init c = (search rules, none _)
-
-pub returns-then-found : goal.returns-then-found
-unfolding any_live
-returns-then-found c = search hit
-
-pub loop-i-preserved : goal.loop-i-preserved
-unfolding any_live
-loop-i-preserved c = (search rules, search more)
 
 pub returns : goal.returns
 unfolding any_live
-returns c = search whole
+returns c = any_below-by_any (recs (view c.args.w.now)) (live (view c.args.w.now)) _ _ _ c.any.ensures.ran (search rules) (λ x b t k. search rules)

@@ -2,8 +2,8 @@
 use Rattle.turns.proofs.Decisions.{crosses, moves}
 use Rattle.turns.proofs.decide.split_turn.Goals as goal
 
-pub returns-then-hit : goal.returns-then-hit
-returns-then-hit c = search (crosses)
+pub returns-then-segments_intersect : goal.returns-then-segments_intersect
+returns-then-segments_intersect c = search (crosses)
 
 pub returns : goal.returns
 returns c = search (moves)

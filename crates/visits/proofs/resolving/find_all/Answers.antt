@@ -5,7 +5,7 @@ use Rattle.visits.proofs.Reaching.{none_found, no_circle}
 use Rattle.visits.proofs.resolving.find_all.Goals as goal
 
 pub loop-i-init : goal.loop-i-init
-loop-i-init c = (search rules, search (rules, none_found), refl)
+loop-i-init c = (search (rules, none_found), refl)
 
 pub reach-h-requires : goal.reach-h-requires
 reach-h-requires c = search (rules, no_circle)

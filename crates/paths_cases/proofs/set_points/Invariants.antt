@@ -1,9 +1,0 @@
--- `set_points` ends.
-use Rattle.std.proofs.Common.{◌-◌, ◌≤◌}
-use Rattle.paths_cases.proofs.set_points.Given as goal
-
-abbrev pub invariant-loop-k : goal.invariant-loop-k
-invariant-loop-k l = l.k ≤ l.n
-
-abbrev pub decreases-loop-k : goal.decreases-loop-k
-decreases-loop-k l = l.n - l.k

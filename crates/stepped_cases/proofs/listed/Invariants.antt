@@ -1,5 +1,0 @@
--- `listed` ends.
-use Rattle.stepped_cases.proofs.listed.Given as goal
-
-abbrev pub decreases-loop-left : goal.decreases-loop-left
-decreases-loop-left g l = l.left
