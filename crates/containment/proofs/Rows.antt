@@ -98,22 +98,18 @@ module _ (t : List ℕ) (boxes : List Rect) (p : List Point) (at : ℕ) (out₀ 
               ∙ s.all;
         }
 
--- of count fields i are passed
+-- boxes first to last are those of the fields, and that of number j is next
 pub rowing_starts : (t : List ℕ) (boxes : List Rect) (p : List Point) (first from count at : ℕ) (out : List ℕ) → FieldsIn t count from → BoxesFrom t boxes first from count
-    → Rowing t boxes p at out (row p (paths_in t count from)) out at (first + 0) from (count - 0)
+    → Rowing t boxes p at out (row p (paths_in t count from)) out at first from (first + count - first)
 rowing_starts t boxes p first from count at out r b =
-    let y : first ≡ first + 0 = omega arith in
-    let z : count ≡ count - 0 = omega arith in
-    subst (λ (j : ℕ). Rowing t boxes p at out (row p (paths_in t count from)) out at j from (count - 0)) y
-    (subst (λ (n : ℕ). Rowing t boxes p at out (row p (paths_in t count from)) out at first from n) z (rowing_begins t boxes p first from count at out r b))
+    let z : count ≡ first + count - first = omega arith in
+    subst (λ (n : ℕ). Rowing t boxes p at out (row p (paths_in t count from)) out at first from n) z (rowing_begins t boxes p first from count at out r b)
 
-pub rowing_next : (t : List ℕ) (boxes : List Rect) (p : List Point) (at : ℕ) (out₀ total out : List ℕ) (k first i g count : ℕ) → Rowing t boxes p at out₀ total out k (first + i) g (count - i) → i < count → (k' v : ℕ) (out' : List ℕ)
-    → poured k' out' ≡ pour (row p (paths_in t 1 g)) k out → (v ≡ value_length t g) × (v < 65536) → Rowing t boxes p at out₀ total out' k' (first + (i + 1)) (g + 3 + v) (count - (i + 1))
-rowing_next t boxes p at out₀ total out k first i g count s h k' v out' e f =
-    let y : first + i + 1 ≡ first + (i + 1) = omega arith in
-    let z : count - i - 1 ≡ count - (i + 1) = omega arith in
-    subst (λ (j : ℕ). Rowing t boxes p at out₀ total out' k' j (g + 3 + v) (count - (i + 1))) y
-    (subst (λ (n : ℕ). Rowing t boxes p at out₀ total out' k' (first + i + 1) (g + 3 + v) n) z (rowing_on t boxes p at out₀ total out k (first + i) g (count - i) s (omega arith) k' v out' e f))
+pub rowing_next : (t : List ℕ) (boxes : List Rect) (p : List Point) (at : ℕ) (out₀ total out : List ℕ) (k j g last : ℕ) → Rowing t boxes p at out₀ total out k j g (last - j) → j < last → (k' v : ℕ) (out' : List ℕ)
+    → poured k' out' ≡ pour (row p (paths_in t 1 g)) k out → (v ≡ value_length t g) × (v < 65536) → Rowing t boxes p at out₀ total out' k' (j + 1) (g + 3 + v) (last - (j + 1))
+rowing_next t boxes p at out₀ total out k j g last s h k' v out' e f =
+    let z : last - j - 1 ≡ last - (j + 1) = omega arith in
+    subst (λ (n : ℕ). Rowing t boxes p at out₀ total out' k' (j + 1) (g + 3 + v) n) z (rowing_on t boxes p at out₀ total out k j g (last - j) s (omega arith) k' v out' e f)
 
 -- ---- a path against all others
 row_append : (p : List Point) (a b : List (List Point)) → row p (a ++ b) ≡ row p a ++ row p b

@@ -78,8 +78,8 @@ fn put_row(
 {
     let mut k = at;
     let mut g = from;
-    for i in 0..count {
-        k = put_one(t, boxes, first + i, f, g, out, k);
+    for j in first..first + count {
+        k = put_one(t, boxes, j, f, g, out, k);
         let length = value_length(t, g);
         g = g + 3 + length;
     }
